@@ -1,0 +1,149 @@
+-- 01, "Shelf cases": the cases marked P, as one table that antt computes through the whole translator. Assumes nothing.
+use Prim.Native.Nat.{ℕ, zero, suc, _+_, _*_, _/_, _%_, _^_}
+use mathlib.Core.Path.{_≡_, refl}
+use mathlib.Core.Bool.{Bool, true, _&&_}
+use mathlib.Core.List.{List, [], _∷_, _++_, map}
+use lib.Dec.{eqb}
+use lib.ListN.{length}
+use Rattle.model.specs.Base.{all, sameList, numbers, joined}
+use Rattle.model.specs.Records.{recordAt}
+use Rattle.model.specs.Translate.{Refusal, Tables, Outcome, check, listing, translate}
+
+-- the n bytes of a number, high byte first
+abbrev bytesOf : ℕ → ℕ → List ℕ
+bytesOf zero x = []
+bytesOf (suc n) x = x / 256 ^ n % 256 ∷ bytesOf n x
+
+-- a record as 01 prints it: the digits x "and z zeros"
+abbrev line : ℕ → ℕ → List ℕ
+line x z = bytesOf 32 (x * 16 ^ z)
+
+-- the records in use, each L and then each E, as the program `translate` prints them
+abbrev printed : Tables → List (List ℕ)
+printed t = map (recordAt (t .locBytes)) (numbers 0 (t .locCount)) ++ map (recordAt (t .edgeBytes)) (numbers 0 (t .edgeCount))
+
+record Case : Type 0 where
+  input : List (List ℕ)
+  output : List (List ℕ)
+
+-- accepted with tables of 32 places, which then hold the output
+abbrev holdsFor : Case → Bool
+holdsFor c =
+    let o = translate (joined (c .input)) 1024 1024 in
+    eqb (o .refused .number) 0 && sameList (sameList eqb) (printed (o .tables)) (c .output)
+
+abbrev cases : List Case
+cases =
+    -- P1: statement 0 frees pointer 0; pointer 0 at node 0
+    record {
+      input = line 0x5307000001 54 ∷ line 0x53 62 ∷ line 0x4800000100fefefefefefe 42 ∷ [];
+      output =
+          line 0x4c00000100fefefefefefe 42
+          ∷ line 0x4c010000fffefefefefe 44
+          ∷ line 0x4c0003 58
+          ∷ line 0x45000000010001 50
+          ∷ line 0x45000000020002 50
+          ∷ [];
+    }
+    -- P2: pointers 0 and 1 at node 0; p0 := p0.next
+    ∷ record {
+      input = line 0x5303000001 54 ∷ line 0x53 62 ∷ line 0x480000010000fefefefefe 42 ∷ [];
+      output =
+          line 0x4c0000010000fefefefefe 42
+          ∷ line 0x4c010001fe00fefefefefe 42
+          ∷ line 0x4c0100020001fefefefefe 42
+          ∷ line 0x45000000010001000110 44
+          ∷ line 0x450000000200020001000020 40
+          ∷ [];
+    }
+    -- P3: pointer 0 on a ring of one node; p0 := p0.next
+    ∷ record {
+      input = line 0x5303000001 54 ∷ line 0x53 62 ∷ line 0x4800000100fefefefefe 44 ∷ [];
+      output =
+          line 0x4c00000100fefefefefe 44
+          ∷ line 0x4c01000100fefefefefe 44
+          ∷ line 0x45000000010001000110 44
+          ∷ line 0x45000000010002000110 44
+          ∷ [];
+    }
+    -- P4: only pointer 0 at a list; p0 := p0.next: both edges leak
+    ∷ record {
+      input = line 0x5303000001 54 ∷ line 0x53 62 ∷ line 0x4800000100fefefefefefe 42 ∷ [];
+      output =
+          line 0x4c00000100fefefefefefe 42
+          ∷ line 0x4c0003 58
+          ∷ line 0x45000000010001 50
+          ∷ line 0x45000000010002 50
+          ∷ [];
+    }
+    -- P5: p0 at 0, successor of 0 is 1, of 1 is 1; p0.next := null: both leak
+    ∷ record {
+      input = line 0x5304000001 54 ∷ line 0x53 62 ∷ line 0x4800000200fefefefefe0101 40 ∷ [];
+      output =
+          line 0x4c00000200fefefefefe0101 40
+          ∷ line 0x4c0003 58
+          ∷ line 0x45000000010001 50
+          ∷ line 0x45000000010002 50
+          ∷ [];
+    }
+    -- P6: p0 at 0, p1 at 2, 0 and 2 lead to 1; p0.next := null
+    ∷ record {
+      input = line 0x5304000001 54 ∷ line 0x53 62 ∷ line 0x480000030002fefefefe01fe01 38 ∷ [];
+      output =
+          line 0x4c0000030002fefefefe01fe01 38
+          ∷ line 0x4c0100020001fefefefefefe 40
+          ∷ line 0x4c0003 58
+          ∷ line 0x450000000100010001100610 40
+          ∷ line 0x45000000020002 50
+          ∷ [];
+    }
+    -- P7: p0 := new, all null
+    ∷ record {
+      input = line 0x5306000001 54 ∷ line 0x53 62 ∷ line 0x48000000fefefefefefe 44 ∷ [];
+      output =
+          line 0x4c000000fefefefefefe 44
+          ∷ line 0x4c01000100fefefefefeff 42
+          ∷ line 0x45000000010000000020 44
+          ∷ [];
+    }
+    -- P8: p0 at 0, then 1, p1 at 1; p1 := null
+    ∷ record {
+      input = line 0x5301010001 54 ∷ line 0x53 62 ∷ line 0x480000020001fefefefe01fe 40 ∷ [];
+      output =
+          line 0x4c0000020001fefefefe01fe 40
+          ∷ line 0x4c01000100fefefefefefe 42
+          ∷ line 0x45000000010000000310 44
+          ∷ [];
+    }
+    -- P9: free of null: same shape
+    ∷ record {
+      input = line 0x5307000001 54 ∷ line 0x53 62 ∷ line 0x48000001fe00fefefefefe 42 ∷ [];
+      output =
+          line 0x4c000001fe00fefefefefe 42
+          ∷ line 0x4c010001fe00fefefefefe 42
+          ∷ line 0x45000000010000000110 44
+          ∷ [];
+    }
+    -- P10: p0.next := null, p0 undefined: fault 2
+    ∷ record {
+      input = line 0x5304000001 54 ∷ line 0x53 62 ∷ line 0x48000000fffefefefefe 44 ∷ [];
+      output =
+          line 0x4c000000fffefefefefe 44
+          ∷ line 0x4c0002 58
+          ∷ line 0x4500000001 54
+          ∷ [];
+    }
+    -- P11: test p0 = p1, both undefined: branch 0
+    ∷ record {
+      input = line 0x5309000101 54 ∷ line 0x53 62 ∷ line 0x48000000fffffefefefe 44 ∷ [];
+      output =
+          line 0x4c000000fffffefefefe 44
+          ∷ line 0x4c010000fffffefefefe 44
+          ∷ line 0x4500000001 54
+          ∷ [];
+    }
+    ∷ []
+
+pub shelf : all holdsFor cases ≡ true
+unfolding check listing translate
+shelf = refl

@@ -1,0 +1,11 @@
+pub mod Base
+pub mod Heap
+pub mod Shape
+pub mod Machine
+pub mod Edges
+pub mod Records
+pub mod Translate
+pub mod Image
+pub mod Answers
+pub mod Runs
+pub mod Cases

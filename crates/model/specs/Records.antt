@@ -1,0 +1,162 @@
+-- 01, "Records": 32 bytes each. How locations and edges are written, and how statements, shapes, locations and edges are read.
+-- Assumes nothing.
+use Prim.Native.Nat.{ℕ, zero, suc, _-_, _+_, _*_, _/_, _%_}
+use mathlib.Core.Bool.{Bool, true, false, _&&_, _||_, cond, not}
+use mathlib.Core.List.{List, [], _∷_, _++_, map}
+use lib.Dec.{eqb, leb, ltb}
+use lib.ListN.{length, getD, take, drop, replicate}
+use Rattle.model.specs.Base.{all, any, mem, joined, sameList}
+use Rattle.model.specs.Heap.{Val, cell, null, undef, Slot, unused, holds, Heap}
+use Rattle.model.specs.Shape.{canonical}
+use Rattle.model.specs.Machine.{Op, stop, setNull, copy, load, clear, store, new, free, isNull, same, choose, skip, Stmt, faultNumber}
+use Rattle.model.specs.Edges.{Loc, at, failed, Guard, always, isOne, isMore, Update, Edge}
+
+-- ---- writing
+
+-- "A value is a node below k, 0xfe null or 0xff undefined." In a heap image a cell not in use is 0xfd.
+abbrev pub valByte : Val → ℕ
+valByte (cell n) = n
+valByte null = 0xfe
+valByte undef = 0xff
+
+abbrev pub slotByte : Slot → ℕ
+slotByte unused = 0xfd
+slotByte (holds v) = valByte v
+
+-- a list made n long by zeros
+abbrev pub filled : ℕ → List ℕ → List ℕ
+filled n xs = xs ++ replicate (n - length xs) 0
+
+-- bytes 3 to 31 of an H or L record: the node count, the pointers, the successors
+abbrev pub shapeBytes : Heap → List ℕ
+shapeBytes h = length (h .slots) ∷ filled 28 (map valByte (h .ptrs) ++ map slotByte (h .slots))
+
+abbrev pub shapeRecord : Heap → List ℕ
+shapeRecord h = 0x48 ∷ 0 ∷ 0 ∷ shapeBytes h
+
+abbrev pub locRecord : Loc → List ℕ
+locRecord (at s h) = 0x4c ∷ s ∷ 0 ∷ shapeBytes h
+locRecord (failed s f) = 0x4c ∷ s ∷ faultNumber f ∷ replicate 29 0
+
+-- "two-byte numbers have the low byte first"
+abbrev pub twoBytes : ℕ → List ℕ
+twoBytes n = n % 256 ∷ n / 256 ∷ []
+
+abbrev pub guardBytes : Guard → List ℕ
+guardBytes always = 0 ∷ 0 ∷ []
+guardBytes (isOne n) = 1 ∷ n ∷ []
+guardBytes (isMore n) = 2 ∷ n ∷ []
+
+-- the number whose bits, lowest first, are given
+abbrev pub bits : List Bool → ℕ
+bits [] = 0
+bits (b ∷ bs) = cond b 1 0 + 2 * bits bs
+
+-- "bits 0 to 11 are the old counters added, bits 12 and 13 the constant (−1, 0 or 1) plus one"
+abbrev pub updateCode : Update → ℕ
+updateCode u = bits (u .adds) + 4096 * u .plus
+
+abbrev pub edgeRecord : ℕ → ℕ → Edge → List ℕ
+edgeRecord from to e =
+    0x45 ∷ e .branchNo
+    ∷ (twoBytes from ++ twoBytes to ++ guardBytes (e .guard) ++ filled 24 (joined (map (λ u. twoBytes (updateCode u)) (e .updates))))
+
+-- ---- reading
+
+abbrev pub byte : List ℕ → ℕ → ℕ
+byte r i = getD r i 0
+
+abbrev pub word : List ℕ → ℕ → ℕ
+word r i = byte r i + 256 * byte r (suc i)
+
+-- record n of a table
+abbrev pub recordAt : List ℕ → ℕ → List ℕ
+recordAt t n = take 32 (drop (32 * n) t)
+
+abbrev pub isZero : ℕ → Bool
+isZero b = eqb b 0
+
+abbrev pub isS : List ℕ → Bool
+isS r = eqb (byte r 0) 0x53
+
+abbrev pub isH : List ℕ → Bool
+isH r = eqb (byte r 0) 0x48
+
+-- S: 1 op, 2 u, 3 w, 4 first target, 5 second target
+abbrev pub opOf : ℕ → ℕ → ℕ → Op
+opOf op u w =
+    getD (stop ∷ setNull u ∷ copy u w ∷ load u w ∷ clear u ∷ store u w ∷ new u ∷ free u ∷ isNull u ∷ same u w ∷ choose ∷ skip ∷ []) op stop
+
+abbrev pub stmtOf : List ℕ → Stmt
+stmtOf r = record { op = opOf (byte r 1) (byte r 2) (byte r 3); first = byte r 4; second = byte r 5 }
+
+-- H and L: 1 statement, 2 fault, 3 node count, 4 to 9 the pointers, 10 to 21 the successors
+abbrev pub valOf : ℕ → Val
+valOf b = cond (eqb b 0xfe) null (cond (eqb b 0xff) undef (cell b))
+
+abbrev pub shapeOf : List ℕ → Heap
+shapeOf r = record {
+  ptrs = map valOf (take 6 (drop 4 r));
+  slots = map (λ b. holds (valOf b)) (take (byte r 3) (drop 10 r));
+}
+
+-- ---- the refusals of a record, 0 for none
+
+-- which fields an op uses
+abbrev pub usesU : ℕ → Bool
+usesU op = leb 1 op && leb op 9
+
+abbrev pub usesW : ℕ → Bool
+usesW op = mem op (2 ∷ 3 ∷ 5 ∷ 9 ∷ [])
+
+abbrev pub usesFirst : ℕ → Bool
+usesFirst op = leb 1 op
+
+abbrev pub usesSecond : ℕ → Bool
+usesSecond op = leb 8 op && leb op 10
+
+-- a used pointer is below 6, and "a field that the op doesn't use is zero"
+abbrev pub pointerField : Bool → ℕ → Bool
+pointerField used b = cond used (ltb b 6) (isZero b)
+
+abbrev pub targetField : Bool → ℕ → Bool
+targetField used b = used || isZero b
+
+-- a used target is one of n statements
+abbrev pub targetBelow : ℕ → Bool → ℕ → Bool
+targetBelow n used b = not used || ltb b n
+
+-- "6: a used pointer above 5, or an unused byte not zero"
+abbrev pub fieldsS : List ℕ → Bool
+fieldsS r =
+    let op = byte r 1 in
+    pointerField (usesU op) (byte r 2) && pointerField (usesW op) (byte r 3)
+    && targetField (usesFirst op) (byte r 4) && targetField (usesSecond op) (byte r 5) && all isZero (drop 6 r)
+
+-- "7: a used target not a statement"
+abbrev pub targetsS : ℕ → List ℕ → Bool
+targetsS n r =
+    let op = byte r 1 in
+    targetBelow n (usesFirst op) (byte r 4) && targetBelow n (usesSecond op) (byte r 5)
+
+abbrev pub refusalS : ℕ → List ℕ → ℕ
+refusalS n r = cond (ltb 11 (byte r 1)) 5 (cond (fieldsS r) (cond (targetsS n r) 0 7) 6)
+
+-- a byte that is a value in a shape of k nodes
+abbrev pub valueByte : ℕ → ℕ → Bool
+valueByte k b = ltb b k || leb 0xfe b
+
+-- "8: breaks the layout"
+abbrev pub layoutH : List ℕ → Bool
+layoutH r =
+    let k = byte r 3 in
+    isH r && isZero (byte r 1) && isZero (byte r 2) && leb k 12
+    && all (valueByte k) (take (6 + k) (drop 4 r)) && all isZero (drop (10 + k) r)
+
+-- 8, 9 and 10, after earlier records
+abbrev pub refusalH : List (List ℕ) → List ℕ → ℕ
+refusalH earlier r =
+    elim (layoutH r) [
+      | false ↦ 8
+      | true ↦ elim (canonical (shapeOf r)) [ false ↦ 9 | true ↦ cond (any (sameList eqb r) earlier) 10 0 ]
+    ]

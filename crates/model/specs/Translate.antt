@@ -1,0 +1,188 @@
+-- 01, "Records" and "Refusals by place of check": the whole translator, from the input's bytes and the lengths of the two tables to
+-- the answer and every byte of both tables. Assumes nothing.
+use Prim.Native.Nat.{ℕ, zero, suc, _-_, _+_, _*_, _/_, _%_, min}
+use mathlib.Core.Bool.{Bool, true, false, _&&_, _||_, cond, not}
+use mathlib.Core.Option.{Option, none, some}
+use mathlib.Core.List.{List, [], _∷_, _++_, map}
+use lib.Dec.{eqb, leb, ltb}
+use lib.ListN.{length, take, drop, replicate, getElem?}
+use Rattle.model.specs.Base.{count, placeOf, joined}
+use Rattle.model.specs.Heap.{Heap}
+use Rattle.model.specs.Machine.{Stmt}
+use Rattle.model.specs.Edges.{Loc, at, Edge, sameLoc, edgesOf}
+use Rattle.model.specs.Records.{isS, isH, refusalS, refusalH, stmtOf, shapeOf, locRecord, edgeRecord}
+
+-- ---- the input
+
+-- the records of n times 32 bytes
+abbrev pub chunks : ℕ → List ℕ → List (List ℕ)
+chunks zero s = []
+chunks (suc n) s = take 32 s ∷ chunks n (drop 32 s)
+
+-- 4: the first record, counted from i, that is neither S nor H, or is an S after an H
+abbrev pub badKind : Bool → ℕ → List (List ℕ) → Option ℕ
+badKind afterH i [] = none
+badKind afterH i (r ∷ rs) =
+    elim (isH r) [
+      | true ↦ badKind true (suc i) rs
+      | false ↦ elim (isS r && not afterH) [ true ↦ badKind false (suc i) rs | false ↦ some i ]
+    ]
+
+pub record Refusal : Type 0 where
+  pub number : ℕ
+  pub place : ℕ
+
+abbrev pub refusal : ℕ → ℕ → Refusal
+refusal n p = record { number = n; place = p }
+
+-- 5 to 10: the first record, counted from i, that is refused after the earlier ones, where there are n statements
+abbrev pub badRecord : ℕ → ℕ → List (List ℕ) → List (List ℕ) → Option Refusal
+badRecord n i earlier [] = none
+badRecord n i earlier (r ∷ rs) =
+    elim (cond (isS r) (refusalS n r) (refusalH earlier r)) [
+      | zero ↦ badRecord n (suc i) (r ∷ earlier) rs
+      | suc m ↦ some (refusal (suc m) i)
+    ]
+
+-- a checked input: the statements and the starting shapes
+pub record Routine : Type 0 where
+  pub stmts : List Stmt
+  pub starts : List Heap
+
+pub data Checked : Type 0 where
+  bad : Refusal → Checked
+  good : Routine → Checked
+
+abbrev pub between : ℕ → ℕ → ℕ → Bool
+between a b n = leb a n && leb n b
+
+abbrev pub checkRecords : ℕ → List (List ℕ) → Checked
+checkRecords n rs =
+    elim (badRecord n 0 [] rs) [
+      | some x ↦ bad x
+      | none ↦ good (record { stmts = map stmtOf (take n rs); starts = map shapeOf (drop n rs) })
+    ]
+
+abbrev pub checkCounts : List (List ℕ) → Checked
+checkCounts rs =
+    elim (between 1 64 (count isS rs)) [
+      | false ↦ bad (refusal 2 0)
+      | true ↦ elim (between 1 16 (count isH rs)) [ false ↦ bad (refusal 3 0) | true ↦ checkRecords (count isS rs) rs ]
+    ]
+
+abbrev pub checkKinds : List (List ℕ) → Checked
+checkKinds rs = elim (badKind false 0 rs) [ some i ↦ bad (refusal 4 i) | none ↦ checkCounts rs ]
+
+unfoldable pub check : List ℕ → Checked
+check s =
+    let n = length s in
+    elim (eqb n 0 || not (eqb (n % 32) 0)) [
+      | true ↦ bad (refusal 1 0)
+      | false ↦ checkKinds (chunks (n / 32) s)
+    ]
+
+-- ---- the exploration
+
+-- an edge with the numbers of its ends
+pub record Link : Type 0 where
+  pub from : ℕ
+  pub dest : ℕ
+  pub edge : Edge
+
+pub record Listing : Type 0 where
+  pub locs : List Loc
+  pub links : List Link
+
+pub data Explored : Type 0 where
+  full : Refusal → Explored
+  listed : Listing → Explored
+
+-- the listing with one more edge, from location i to location j; a new target has taken the next number
+abbrev pub grown : ℕ → ℕ → Edge → Listing → Listing
+grown i j e t = record {
+  locs = cond (ltb j (length (t .locs))) (t .locs) (t .locs ++ e .to ∷ []);
+  links = t .links ++ record { from = i; dest = j; edge = e } ∷ [];
+}
+
+-- The edges of location i are added in order. A known target has its number; a new one has the next, so that one test gives 11.
+abbrev pub addEdges : ℕ → ℕ → ℕ → List Edge → Listing → Explored
+addEdges cl ce i [] t = listed t
+addEdges cl ce i (e ∷ es) t =
+    let j = placeOf (sameLoc (e .to)) (t .locs) in
+    elim (ltb j cl) [
+      | false ↦ full (refusal 11 i)
+      | true ↦ elim (ltb (length (t .links)) ce) [
+        | false ↦ full (refusal 12 i)
+        | true ↦ addEdges cl ce i es (grown i j e t)
+      ]
+    ]
+
+-- locations are explored by number, from i on; the fuel f is the number of places from i on
+abbrev pub explore : List Stmt → ℕ → ℕ → ℕ → ℕ → Listing → Explored
+explore sts cl ce zero i t = listed t
+explore sts cl ce (suc f) i t =
+    elim (getElem? (t .locs) i) [
+      | none ↦ listed t
+      | some l ↦ elim (addEdges cl ce i (edgesOf sts l) t) [
+        | full x ↦ full x
+        | listed t′ ↦ explore sts cl ce f (suc i) t′
+      ]
+    ]
+
+-- "The starting shapes are locations 0 on, in input order."
+unfoldable pub listing : Routine → ℕ → ℕ → Explored
+listing r cl ce =
+    elim (ltb cl (length (r .starts))) [
+      | true ↦ full (refusal 11 cl)
+      | false ↦ explore (r .stmts) cl ce cl 0 (record { locs = map (at 0) (r .starts); links = [] })
+    ]
+
+-- ---- the outcome
+
+-- the two tables with the counts reported, as a reader has them
+pub record Tables : Type 0 where
+  pub locBytes : List ℕ
+  pub edgeBytes : List ℕ
+  pub locCount : ℕ
+  pub edgeCount : ℕ
+
+pub record Outcome : Type 0 where
+  pub refused : Refusal  -- number 0, place 0 where nothing is refused
+  pub tables : Tables
+
+abbrev pub linkRecord : Link → List ℕ
+linkRecord l = edgeRecord (l .from) (l .dest) (l .edge)
+
+-- "Each record is written into its lent table from its own offset onward; bytes after the last are zero."
+abbrev pub tableOf : ℕ → List (List ℕ) → List ℕ
+tableOf n rs = joined rs ++ replicate (n - 32 * length rs) 0
+
+abbrev pub tablesOf : ℕ → ℕ → Listing → Tables
+tablesOf a b t = record {
+  locBytes = tableOf a (map locRecord (t .locs));
+  edgeBytes = tableOf b (map linkRecord (t .links));
+  locCount = length (t .locs);
+  edgeCount = length (t .links);
+}
+
+-- a refusal leaves both tables all zero, and both counts 0
+abbrev pub refusedWith : ℕ → ℕ → Refusal → Outcome
+refusedWith a b x = record { refused = x; tables = tablesOf a b (record { locs = []; links = [] }) }
+
+abbrev pub listedWith : ℕ → ℕ → Listing → Outcome
+listedWith a b t = record { refused = refusal 0 0; tables = tablesOf a b t }
+
+-- "at most 1,024 locations and 2,048 edges, and no more than length ÷ 32 rounded down"
+abbrev pub places : ℕ → ℕ → ℕ
+places most n = min most (n / 32)
+
+-- the outcome for input s and lent tables of a and b bytes
+unfoldable pub translate : List ℕ → ℕ → ℕ → Outcome
+translate s a b =
+    elim (check s) [
+      | bad x ↦ refusedWith a b x
+      | good r ↦ elim (listing r (places 1024 a) (places 2048 b)) [
+        | full x ↦ refusedWith a b x
+        | listed t ↦ listedWith a b t
+      ]
+    ]

@@ -1,0 +1,38 @@
+// The types that the code shares, and the definitions that every contract cites (specs/).
+// Numbers of three kinds that must not be mixed up, each a type of its own.
+
+// A pointer's number, 0 to 5.
+pub struct Pointer(pub u8);
+
+// A node's number, 0 to 11.
+pub struct Node(pub u8);
+
+// A statement's number, 0 to 63.
+pub struct Statement(pub u8);
+
+// What `translate` answers: the two record counts, or a refusal's number and place.
+pub enum Translated {
+    Listed { locations: usize, edges: usize },
+    Refused { number: u8, place: usize },
+}
+
+// What `fold` answers: the refusal's number (0 for none), the H record and the counters.
+pub struct Folded {
+    pub refusal: u8,
+    pub shape: [u8; 32],
+    pub counters: [u32; 12],
+}
+
+// What `unfold` answers.
+pub enum Unfolded {
+    Done,
+    Refused { number: u8 },
+}
+
+// What a plain step answers.
+pub enum Stepped {
+    Went { branch: u8, next: Statement },
+    Faulted { fault: u8 },
+    Stopped,
+    Refused { number: u8 },
+}
