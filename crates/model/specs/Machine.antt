@@ -2,10 +2,9 @@
 use Prim.Native.Nat.{ℕ, zero, suc}
 use mathlib.Core.Bool.{Bool, true, false, cond, not}
 use mathlib.Core.List.{List, [], _∷_, map}
-use lib.Dec.{leb}
+use lib.Dec.{eqb, leb}
 use lib.ListN.{getD, set}
 use Rattle.model.specs.Heap.{Val, cell, null, undef, Slot, unused, holds, Heap, ptr, next, inUse, sameVal, kept}
-use Rattle.model.specs.Shape.{isCell}
 
 -- the ops of 01's table, with the pointers u and w
 pub data Op : Type 0 where
@@ -59,7 +58,9 @@ putSlot c s h = record { ptrs = h .ptrs; slots = put (h .slots) c s }
 
 -- "the cell goes; all that held it becomes undefined"
 abbrev pub wipe : ℕ → Val → Val
-wipe c v = cond (isCell c v) undef v
+wipe c (cell d) = cond (eqb d c) undef (cell d)
+wipe c null = null
+wipe c undef = undef
 
 abbrev pub wipeSlot : ℕ → Slot → Slot
 wipeSlot c unused = unused

@@ -1,0 +1,12 @@
+pub mod Logic
+pub mod Walks
+pub mod Order
+pub mod Expand
+pub mod Cores
+pub mod Folds
+pub mod Start
+pub mod Changes
+pub mod Effects
+pub mod Bound
+pub mod Canon
+pub mod Unfold
