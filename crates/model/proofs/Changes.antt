@@ -1,6 +1,6 @@
 -- How an expansion changes with a split, a write, a new cell, a free.
 use Prim.Native.Nat.{ℕ}
-use mathlib.Core.Path.{_≡_, ap, refl, subst, sym, _∙_, _≡_}
+use mathlib.Core.Path.{_∙_, _≡_, ap, refl, subst, sym}
 use mathlib.Core.Bool.{cond, false, true}
 use mathlib.Core.List.{List, [], _∷_}
 use native.Mathlib.Omega.{arith}
@@ -15,7 +15,7 @@ use Rattle.model.proofs.Cores.{first-inj}
 use Rattle.model.proofs.Expand.{Chain, Expands, img}
 use Rattle.model.proofs.Folds.{chain-used}
 use Rattle.model.proofs.Logic.{NoDup, bool-case, clash, eq-case, mem-cases, mem-here, mem-one, mem-there}
-use Rattle.model.proofs.Walks.{Closed, Used, seg, tour-more}
+use Rattle.model.proofs.Walks.{Closed, Used, seg}
 
 abbrev pub upd {ℓ} : {A : Type ℓ} → (ℕ → A) → ℕ → A → ℕ → A
 upd f c x i = cond (eqb i c) x (f i)
@@ -177,7 +177,7 @@ module _ (nw : ℕ → Slot) (sg : ℕ → Seg) (nh : ℕ → Slot) (E : Expands
           (r .0, f-fwd (r .0) (ne-eqb (r .0) n (λ w. clash (eq-eqb c h (mem-one c h (subst (λ s. mem c (cells s) ≡ true) (ap sg w ∙ one) (r .2)))) p)) (r .1), r .2)
 
 -- a node of two cells or more, split into its head and the rest
-module _ (nw : ℕ → Slot) (sg : ℕ → Seg) (nh : ℕ → Slot) (E : Expands nw sg nh) (n k h t : ℕ) (ts : List ℕ) (tour-more : sg n ≡ seg h (t ∷ ts)) (u : Used nw n) (fw : nw k ≡ unused) where
+module _ (nw : ℕ → Slot) (sg : ℕ → Seg) (nh : ℕ → Slot) (E : Expands nw sg nh) (n k h t : ℕ) (ts : List ℕ) (longer : sg n ≡ seg h (t ∷ ts)) (u : Used nw n) (fw : nw k ≡ unused) where
   abbrev pub split-next : ℕ → Slot
   split-next = upd (upd nw k (nw n)) n (holds (cell k))
 
@@ -227,16 +227,16 @@ module _ (nw : ℕ → Slot) (sg : ℕ → Seg) (nh : ℕ → Slot) (E : Expands
   pub s-img : (x : Val) → Closed nw x → img split-sg x ≡ img sg x
   s-img null q = refl
   s-img undef q = refl
-  s-img (cell m) q = cases m (λ p. ap cell (ap first′ (sg-n m p) ∙ sym (ap first′ (ap sg p ∙ tour-more)))) (λ p. clash (eq-eqb m k p) (not-k m q)) (λ p r. ap (λ s. cell (s .first)) (sg-off m p r))
+  s-img (cell m) q = cases m (λ p. ap cell (ap first′ (sg-n m p) ∙ sym (ap first′ (ap sg p ∙ longer)))) (λ p. clash (eq-eqb m k p) (not-k m q)) (λ p r. ap (λ s. cell (s .first)) (sg-off m p r))
     where
       first′ : Seg → ℕ
       first′ s = s .first
 
   nd : NoDup (h ∷ t ∷ ts)
-  nd = subst (λ s. NoDup (cells s)) tour-more (E .nodup n u)
+  nd = subst (λ s. NoDup (cells s)) longer (E .nodup n u)
 
   ch : Chain nh h (t ∷ ts) (img sg (u .0))
-  ch = subst (λ (s : Seg). Chain nh (s .first) (s .rest) (img sg (u .0))) tour-more (E .chain n (u .0) (u .1))
+  ch = subst (λ (s : Seg). Chain nh (s .first) (s .rest) (img sg (u .0))) longer (E .chain n (u .0) (u .1))
 
   -- a cell of a new node is a cell of the old node that the new one is part of
   own-used : (i : ℕ) → Used split-next i → Used nw (own i)
@@ -244,8 +244,8 @@ module _ (nw : ℕ → Slot) (sg : ℕ → Seg) (nh : ℕ → Slot) (E : Expands
 
   own-mem : (i c : ℕ) → mem c (cells (split-sg i)) ≡ true → mem c (cells (sg (own i))) ≡ true
   own-mem i c m = cases i
-      (λ p. rw (ap (λ x. eqb x k) p ∙ not-k n u, p, tour-more) (subst (λ x. mem x (h ∷ t ∷ ts) ≡ true) (sym (mem-one c h (subst (λ s. mem c (cells s) ≡ true) (sg-n i p) m))) (mem-here h (t ∷ ts))))
-      (λ p. rw (eq-eqb i k p, tour-more) (mem-there c h (t ∷ ts) (subst (λ s. mem c (cells s) ≡ true) (sg-k i p) m)))
+      (λ p. rw (ap (λ x. eqb x k) p ∙ not-k n u, p, longer) (subst (λ x. mem x (h ∷ t ∷ ts) ≡ true) (sym (mem-one c h (subst (λ s. mem c (cells s) ≡ true) (sg-n i p) m))) (mem-here h (t ∷ ts))))
+      (λ p. rw (eq-eqb i k p, longer) (mem-there c h (t ∷ ts) (subst (λ s. mem c (cells s) ≡ true) (sg-k i p) m)))
       (λ p q. rw q (subst (λ s. mem c (cells s) ≡ true) (sg-off i p q) m))
 
   -- the head is not in the rest
@@ -274,7 +274,7 @@ module _ (nw : ℕ → Slot) (sg : ℕ → Seg) (nh : ℕ → Slot) (E : Expands
         subst (λ (s : Seg). Chain nh (s .first) (s .rest) (img split-sg x)) (sym (sg-off i p q)) (rw (s-img x (E .closed i x r)) (E .chain i x r)));
     cover = λ c x e. let r = E .cover c x e in
         eq-case (r .0) n
-        (λ p. mem-cases c h (t ∷ ts) (subst (λ s. mem c (cells s) ≡ true) (ap sg p ∙ tour-more) (r .2))
+        (λ p. mem-cases c h (t ∷ ts) (subst (λ s. mem c (cells s) ≡ true) (ap sg p ∙ longer) (r .2))
         (λ q. (n, (cell k, at-n n refl), rw (sg-n n refl, q) (mem-here h [])))
         (λ q. (k, (u .0, at-k k refl ∙ u .1), rw (sg-k k refl) q)))
         (λ p. (r .0, s-fwd (r .0) (r .1), rw (sg-off (r .0) p (not-k (r .0) (r .1))) (r .2)));

@@ -1,4 +1,5 @@
 pub mod Logic
+pub mod Lists
 pub mod Walks
 pub mod Order
 pub mod Expand

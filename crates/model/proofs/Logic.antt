@@ -1,8 +1,8 @@
 -- Booleans, membership of a number in a list, lists without repetition
 use Prim.Native.Nat.{_+_, suc, zero, ℕ}
-use mathlib.Core.Path.{refl, sym, _∙_, _≡_}
-use mathlib.Core.Bool.{Bool, false, true, true≢false, _||_}
-use mathlib.Core.List.{_++_, List, [], _∷_}
+use mathlib.Core.Path.{_∙_, _≡_, refl, sym}
+use mathlib.Core.Bool.{Bool, _&&_, _||_, false, true, true≢false}
+use mathlib.Core.List.{List, [], _++_, _∷_}
 use lib.Dec.{eqb}
 use borrow.Author.Tests.{eq-eqb, eqb-false, eqb-true, ne-eqb}
 use Rattle.model.specs.Base.{mem}
@@ -92,3 +92,14 @@ mem-one c d h = eqb-true c d (sym (or-nil (eqb c d)) ∙ h)
 abbrev pub tsum : ℕ → (ℕ → ℕ) → ℕ
 tsum zero t = 0
 tsum (suc b) t = t b + tsum b t
+
+pub and-l : (a b : Bool) → a && b ≡ true → a ≡ true
+and-l true b h = refl
+and-l false b h = h
+
+pub and-r : (a b : Bool) → a && b ≡ true → b ≡ true
+and-r true b h = h
+and-r false b h = clash h refl
+
+pub and-both : (a b : Bool) → a ≡ true → b ≡ true → a && b ≡ true
+and-both a b p q = rw (p, q)
