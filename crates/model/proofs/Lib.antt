@@ -7,6 +7,7 @@ pub mod Cores
 pub mod Folds
 pub mod Start
 pub mod Changes
+pub mod Facts
 pub mod Effects
 pub mod Bound
 pub mod Canon
