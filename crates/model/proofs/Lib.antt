@@ -12,3 +12,7 @@ pub mod Effects
 pub mod Bound
 pub mod Canon
 pub mod Unfold
+pub mod Weights
+pub mod Sizes
+pub mod Step
+pub mod Ways

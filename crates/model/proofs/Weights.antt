@@ -1,0 +1,118 @@
+-- What an update says is what the cells of its segment stand for, added up.
+
+-- how many cells a cell of the shape stands for, with these counters
+use Prim.Native.Nat.{_+_, _-_, _<_, _≤_, suc, zero, ℕ}
+use mathlib.Core.Path.{_≡_, ap, ap₂, refl, subst, sym}
+use mathlib.Core.Bool.{Bool, _||_, cond, false, true}
+use mathlib.Core.List.{List, [], _∷_, map}
+use native.Mathlib.Nat.{zero-add}
+use native.Mathlib.Omega.{arith}
+use lib.Dec.{eqb}
+use lib.ListN.{getD, length}
+use borrow.Author.Tests.{eq-eqb, ne-eqb}
+use Rattle.model.specs.Base.{any, count, mem, numbers, sum}
+use Rattle.model.specs.Edges.{Weight, addsCounter, counter, isOneCell, isRest, one, rest, updateOf}
+use Rattle.model.specs.Shape.{Seg, cells}
+use Rattle.model.proofs.Logic.{NoDup, bool-case, clash, eqb-same, mem-here, mem-there, not-true, or-cases}
+
+abbrev pub weigh : List ℕ → Weight → ℕ
+weigh cs (counter n) = getD cs n 1
+weigh cs one = 1
+weigh cs (rest n) = getD cs n 1 - 1
+
+-- the sum of the counters whose flag is set
+abbrev pub flagged : List Bool → List ℕ → ℕ
+flagged [] cs = 0
+flagged (b ∷ fs) [] = 0
+flagged (b ∷ fs) (c ∷ cs) = cond b c 0 + flagged fs cs
+
+-- sums of flagged counters, the flags given by a test of the numbers from j on
+flags-none : (f : ℕ → Bool) (j : ℕ) (cs : List ℕ) → ((i : ℕ) → f i ≡ false) → flagged (map f (numbers j (length cs))) cs ≡ 0
+flags-none f j [] h = refl
+flags-none f j (c ∷ cs) h = rw (h j) (omega (arith, flags-none f (suc j) cs h))
+
+flags-same : (f g : ℕ → Bool) (j : ℕ) (cs : List ℕ) → ((i : ℕ) → f i ≡ g i)
+    → flagged (map f (numbers j (length cs))) cs ≡ flagged (map g (numbers j (length cs))) cs
+flags-same f g j [] h = refl
+flags-same f g j (c ∷ cs) h = ap₂ (λ b x. cond b c 0 + x) (h j) (flags-same f g (suc j) cs h)
+
+flags-past : (n j : ℕ) (cs : List ℕ) → n < j → flagged (map (λ i. eqb i n) (numbers j (length cs))) cs ≡ 0
+flags-past n j [] h = refl
+flags-past n j (c ∷ cs) h = rw (ne-eqb j n (λ e. omega arith)) (omega (arith, flags-past n (suc j) cs (omega arith)))
+
+flags-one : (n j : ℕ) (cs : List ℕ) → n < length cs → flagged (map (λ i. eqb i (j + n)) (numbers j (length cs))) cs ≡ getD cs n 1
+flags-one n j [] h = absurd (omega arith)
+flags-one zero j (c ∷ cs) h = rw (eq-eqb j (j + 0) (omega arith)) (omega (arith, flags-past (j + 0) (suc j) cs (omega arith)))
+flags-one (suc n) j (c ∷ cs) h =
+    rw (ne-eqb j (j + suc n) (λ e. omega arith))
+    (let r = flags-one n (suc j) cs (omega arith) in
+    let s = ap (λ m. flagged (map (λ i. eqb i m) (numbers (suc j) (length cs))) cs) (let e : suc j + n ≡ j + suc n = omega arith in e) in omega arith)
+
+flags-or : (f g : ℕ → Bool) (j : ℕ) (cs : List ℕ) → ((i : ℕ) → f i ≡ true → g i ≡ true → ⊥)
+    → flagged (map (λ i. f i || g i) (numbers j (length cs))) cs ≡ flagged (map f (numbers j (length cs))) cs + flagged (map g (numbers j (length cs))) cs
+flags-or f g j [] h = refl
+flags-or f g j (c ∷ cs) h =
+    let r = flags-or f g (suc j) cs h in
+    bool-case (f j)
+    (λ p. bool-case (g j) (λ q. absurd (h j p q)) (λ q. rw (p, q) (omega arith)))
+    (λ p. bool-case (g j) (λ q. rw (p, q) (omega arith)) (λ q. rw (p, q) (omega arith)))
+
+-- What is needed of the cells' weights: a counter belongs to one cell, and so does a rest; counters are there, and a rest's is not 0.
+pub record Fair (k : ℕ) (cs : List ℕ) (w : ℕ → Weight) : Type 0 where
+  pub owned : (i c d : ℕ) → addsCounter i (w c) ≡ true → addsCounter i (w d) ≡ true → c ≡ d
+  pub single : (c d : ℕ) → isRest (w c) ≡ true → isRest (w d) ≡ true → c ≡ d
+  pub known : (i c : ℕ) → c < suc k → addsCounter i (w c) ≡ true → i < k
+  pub positive : (c n : ℕ) → w c ≡ rest n → 1 ≤ getD cs n 1
+
+module _ (k : ℕ) (cs : List ℕ) (len : length cs ≡ k) (w : ℕ → Weight) (F : Fair k cs w) where
+  adds-of : List ℕ → ℕ
+  adds-of l = flagged (map (λ i. any (λ c. addsCounter i (w c)) l) (numbers 0 (length cs))) cs
+
+  -- one cell
+  one-cell : (c : ℕ) (x : Weight) → w c ≡ x → c < suc k
+      → weigh cs x + cond (isRest x) 1 0 ≡ flagged (map (λ i. addsCounter i x) (numbers 0 (length cs))) cs + cond (isOneCell x) 1 0
+  one-cell c (counter n) e h =
+      let lt : n < k = F .known n c h (rw (e, eqb-same n)) in
+      let r = flags-one n 0 cs (omega arith) in
+      let s = ap (λ m. flagged (map (λ i. eqb i m) (numbers 0 (length cs))) cs) (zero-add n) in omega arith
+  one-cell c one e h = omega (arith, flags-none (λ i. false) 0 cs (λ i. refl))
+  one-cell c (rest n) e h =
+      let lt : n < k = F .known n c h (rw (e, eqb-same n)) in
+      let r = flags-one n 0 cs (omega arith) in
+      let s = ap (λ m. flagged (map (λ i. eqb i m) (numbers 0 (length cs))) cs) (zero-add n) in
+      let p = F .positive c n e in omega arith
+
+  any-owner : (i : ℕ) (l : List ℕ) → any (λ c. addsCounter i (w c)) l ≡ true → (d : ℕ) × (mem d l ≡ true) × (addsCounter i (w d) ≡ true)
+  any-owner i [] h = clash h refl
+  any-owner i (c ∷ l) h = or-cases (addsCounter i (w c)) (any (λ c. addsCounter i (w c)) l) h
+      (λ e. (c, mem-here c l, e)) (λ e. let r = any-owner i l e in (r .0, mem-there (r .0) c l (r .1), r .2))
+
+  -- the weights of a list of different cells
+  balance : (l : List ℕ) → NoDup l → ((c : ℕ) → mem c l ≡ true → c < suc k)
+      → sum (λ c. weigh cs (w c)) l + count (λ c. isRest (w c)) l ≡ adds-of l + count (λ c. isOneCell (w c)) l
+  unfolding adds-of
+  balance [] nd h = omega (arith, flags-none (λ i. false) 0 cs (λ i. refl))
+  balance (c ∷ l) nd h =
+      let r = balance l (nd .1) (λ d q. h d (mem-there d c l q)) in
+      let o = one-cell c (w c) refl (h c (mem-here c l)) in
+      let s = flags-or (λ i. addsCounter i (w c)) (λ i. any (λ d. addsCounter i (w d)) l) 0 cs
+      (λ i p q. let z = any-owner i l q in clash (subst (λ x. mem x l ≡ true) (sym (F .owned i c (z .0) p (z .2))) (z .1)) (nd .0)) in
+      omega arith
+
+  few-rests : (l : List ℕ) → NoDup l → count (λ c. isRest (w c)) l ≤ 1
+  few-rests [] nd = omega arith
+  few-rests (c ∷ l) nd = bool-case (isRest (w c)) (λ e. rw e (omega (arith, no-rests l (λ d q p. clash (subst (λ x. mem x l ≡ true) (F .single d c p e) q) (nd .0)))))
+      (λ e. rw e (omega (arith, few-rests l (nd .1))))
+    where
+      no-rests : (m : List ℕ) → ((d : ℕ) → mem d m ≡ true → isRest (w d) ≡ true → ⊥) → count (λ c. isRest (w c)) m ≡ 0
+      no-rests [] z = refl
+      no-rests (d ∷ m) z = rw (not-true (isRest (w d)) (z d (mem-here d m))) (omega (arith, no-rests m (λ x q. z x (mem-there x d m q))))
+
+  -- an update's value is the sum of what the cells stand for
+  pub update-value : (s : Seg) → NoDup (cells s) → ((c : ℕ) → mem c (cells s) ≡ true → c < suc k)
+      → sum (λ c. weigh cs (w c)) (cells s) ≡ (flagged (updateOf k w s .adds) cs + updateOf k w s .plus) - 1
+  unfolding adds-of
+  update-value s nd h =
+      let b = balance (cells s) nd h in
+      let f = few-rests (cells s) nd in
+      rw (← len) (omega arith)

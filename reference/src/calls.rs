@@ -1,0 +1,132 @@
+//! The three calls on heap images: fold, unfold and one plain step.
+
+use crate::fold::fold_heap;
+use crate::image::{lengths_fit, read_image, write_image};
+use crate::machine::{run, Outcome};
+use crate::records::{node_count, Record, NODES, RECORD, STATEMENT, STATEMENTS};
+use crate::statement::{read_statement, Op, Statement};
+use crate::unfold::{check_shape, unfold_shape};
+
+/// The answer of [`fold`]. On a refusal the record and the counters are zero.
+#[derive(Clone, Copy, PartialEq, Eq, Debug)]
+pub struct Folded {
+    /// 0 for none, otherwise 13 or 14.
+    pub refusal: u8,
+    /// The H record of the shape.
+    pub record: Record,
+    /// The cells of each node, 0 past the last node.
+    pub counters: [u32; NODES],
+}
+
+/// Folds a heap image into a shape and counters.
+pub fn fold(pointers: &[u8], cells: &[u8]) -> Folded {
+    match read_image(pointers, cells) {
+        Ok(heap) => {
+            let (record, counters) = fold_heap(&heap);
+            Folded {
+                refusal: 0,
+                record,
+                counters: counters.map(|counter| counter as u32),
+            }
+        }
+        Err(refusal) => Folded {
+            refusal,
+            record: [0; RECORD],
+            counters: [0; NODES],
+        },
+    }
+}
+
+/// Unfolds a shape with counters into a lent heap image, whose contents do
+/// not matter. Answers 0, or the refusal 13, 8, 9 or 15; then nothing is
+/// written.
+pub fn unfold(
+    record: &[u8],
+    counters: &[u32; NODES],
+    pointers: &mut [u8],
+    cells: &mut [u8],
+) -> u8 {
+    if !lengths_fit(pointers, cells) {
+        return 13;
+    }
+    let Ok(record) = Record::try_from(record) else {
+        return 8;
+    };
+    if let Err(refusal) = check_shape(&record) {
+        return refusal;
+    }
+    if !counters_fit(counters, node_count(&record), cells.len()) {
+        return 15;
+    }
+    let heap = unfold_shape(&record, &counters.map(u64::from));
+    write_image(&heap, pointers, cells);
+    0
+}
+
+/// Whether each node, and nothing past the nodes, has a counter, and the
+/// cells suffice for all of them.
+fn counters_fit(counters: &[u32; NODES], nodes: usize, cells: usize) -> bool {
+    let (present, past) = counters.split_at(nodes);
+    let sum: u64 = present.iter().map(|&counter| u64::from(counter)).sum();
+    present.iter().all(|&counter| counter != 0)
+        && past.iter().all(|&counter| counter == 0)
+        && sum <= cells as u64
+}
+
+/// The answer of [`step`].
+#[derive(Clone, Copy, PartialEq, Eq, Debug)]
+pub enum Stepped {
+    /// 13, 14, 4, 5, 6, 7 or 16; the heap stays.
+    Refused(u8),
+    /// The statement is a stop; the heap stays.
+    Stop,
+    /// 1, 2 or 3; the heap stays.
+    Fault(u8),
+    /// The branch taken and the next statement.
+    Moved { branch: u8, next: u8 },
+}
+
+/// Carries out one statement on a heap image. `pick` is read by choose only
+/// and `cell` by new only.
+pub fn step(
+    pointers: &mut [u8],
+    cells: &mut [u8],
+    statement: &[u8],
+    pick: u64,
+    cell: u64,
+) -> Stepped {
+    let mut heap = match read_image(pointers, cells) {
+        Ok(heap) => heap,
+        Err(refusal) => return Stepped::Refused(refusal),
+    };
+    let statement = match read_single(statement) {
+        Ok(statement) => statement,
+        Err(refusal) => return Stepped::Refused(refusal),
+    };
+    let unused = |number: u64| number < cells.len() as u64 && !heap.in_use(number as usize);
+    let refused = match statement.op {
+        Op::Choose => pick > 1,
+        Op::New => !unused(cell),
+        _ => false,
+    };
+    if refused {
+        return Stepped::Refused(16);
+    }
+    match run(&mut heap, &statement, pick, cell as usize) {
+        Outcome::Stop => Stepped::Stop,
+        Outcome::Fault(fault) => Stepped::Fault(fault),
+        Outcome::Moved { branch, next } => {
+            write_image(&heap, pointers, cells);
+            Stepped::Moved { branch, next }
+        }
+    }
+}
+
+/// Reads the statement of a plain step, or refuses it with 4, 5, 6 or 7.
+fn read_single(record: &[u8]) -> Result<Statement, u8> {
+    let record = Record::try_from(record).map_err(|_| 4u8)?;
+    if record[0] != STATEMENT {
+        return Err(4);
+    }
+    read_statement(&record, STATEMENTS)
+}

@@ -1,0 +1,89 @@
+//! The help texts of the command line.
+
+pub const GENERAL: &str = "\
+reference - a second translator from list routines to counter automata
+
+usage: reference COMMAND [OPTIONS]
+
+commands:
+  translate   a routine in records to its locations and edges
+  fold        a heap to its shape and counters
+  unfold      a shape and counters to a heap
+  step        one statement of the plain machine on a heap
+  selftest    random tests of all of the above
+
+reference COMMAND --help tells more of a command.
+
+The first four read standard input. Exit status: 0 for a result, 1 for a
+refusal (or a selftest that fails), 2 for wrong usage or bad text.
+";
+
+pub const TRANSLATE: &str = "\
+usage: reference translate < FILE
+
+Reads records of 32 bytes (at most 4,096 bytes are read): 1 to 64 S, then 1 to
+16 H. Prints each L, then each E, as 64 hex digits a line, or one line
+'refused NUMBER PLACE'.
+";
+
+pub const FOLD: &str = "\
+usage: reference fold < FILE
+
+Reads a heap as text:
+  pointers VALUE...   six values (another count is refused with 13)
+  cells VALUE...      one value for each cell, or nothing
+Prints the shape and the counters:
+  record HEX
+  counters NUMBER...
+or one line 'refused NUMBER PLACE'.
+";
+
+pub const UNFOLD: &str = "\
+usage: reference unfold < FILE
+
+Reads a shape, its counters and how many cells are lent:
+  record HEX          an H record, 64 hex digits (another length is refused)
+  counters NUMBER...  at most twelve numbers below 2^32; the rest are 0
+  length NUMBER       so many cells, at most 65,536
+In place of 'length' the lent heap may be given, whose values do not matter:
+  pointers VALUE...
+  cells VALUE...
+Prints the heap:
+  pointers VALUE...
+  cells VALUE...
+or one line 'refused NUMBER PLACE'.
+";
+
+pub const STEP: &str = "\
+usage: reference step < FILE
+
+Reads a heap, a statement, and what the statement may ask for:
+  pointers VALUE...   six values (another count is refused with 13)
+  cells VALUE...      one value for each cell, or nothing
+  statement HEX       an S record, 64 hex digits (another length is refused)
+  pick NUMBER         for choose: 0 or 1; 0 if the line is left out
+  cell NUMBER         for new: an unused cell; 0 if the line is left out
+Prints one of
+  moved BRANCH NEXT
+  fault NUMBER
+  stop
+and then the heap afterwards:
+  pointers VALUE...
+  cells VALUE...
+or one line 'refused NUMBER PLACE'.
+";
+
+/// What the text commands have in common.
+pub const TEXT: &str = "
+Text: one line for each name, in any order. A VALUE is a number from 0 to 252,
+'null', 'undef' or 'unused'. Blank lines, and what follows a '#', are skipped.
+";
+
+pub const SELFTEST: &str = "\
+usage: reference selftest [--seed NUMBER] [--routines NUMBER]
+
+Tests random routines, heaps and runs, from a fixed seed unless another one is
+given. Prints what was counted. Fails, with exit status 1, if anything differs
+or if some refusal from 1 to 16 or fault from 1 to 3 was never met; a few
+hundred routines are enough to meet them all. The default is 12,000 routines.
+";

@@ -1,0 +1,30 @@
+//! A second translator from list routines to counter automata, written to be
+//! compared with another one.
+//!
+//! It never works on shapes by rule. For each location it unfolds the shape
+//! with small counters into a heap, runs the plain machine on that heap,
+//! folds the result, and infers the edges from several such probes.
+//!
+//! The calls are [`translate`], [`fold`], [`unfold`] and [`step`]. None of
+//! them panics, whatever the bytes and lengths are; each refuses by number.
+
+mod automaton;
+mod calls;
+pub mod command;
+mod fold;
+mod heap;
+mod help;
+mod image;
+mod input;
+mod machine;
+mod probe;
+mod random;
+mod records;
+pub mod selftest;
+mod statement;
+mod text;
+mod translate;
+mod unfold;
+
+pub use calls::{fold, step, unfold, Folded, Stepped};
+pub use translate::{translate, Translated};

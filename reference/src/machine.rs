@@ -1,0 +1,186 @@
+//! The plain machine: one statement carried out on a heap.
+
+use crate::heap::{Heap, Value};
+use crate::statement::{Op, Statement};
+
+/// Reading or writing through null.
+pub const THROUGH_NULL: u8 = 1;
+/// Reading or writing through undefined, or freeing it.
+pub const THROUGH_UNDEFINED: u8 = 2;
+/// The finished effect leaves a cell unreachable.
+pub const LEAK: u8 = 3;
+
+/// What came of one statement.
+#[derive(Clone, Copy, PartialEq, Eq, Debug)]
+pub enum Outcome {
+    Stop,
+    Fault(u8),
+    Moved { branch: u8, next: u8 },
+}
+
+/// Carries out a statement. `fresh` is a cell not in use, read by new only.
+/// At a stop or a fault the heap stays as it was.
+pub fn run(heap: &mut Heap, statement: &Statement, pick: u64, fresh: usize) -> Outcome {
+    if statement.op == Op::Stop {
+        return Outcome::Stop;
+    }
+    let branch = branch(heap, statement, pick);
+    let mut changed = heap.clone();
+    if let Err(fault) = effect(&mut changed, statement, fresh) {
+        return Outcome::Fault(fault);
+    }
+    if changed.leaks() {
+        return Outcome::Fault(LEAK);
+    }
+    *heap = changed;
+    let next = if branch == 0 {
+        statement.first
+    } else {
+        statement.second
+    };
+    Outcome::Moved { branch, next }
+}
+
+/// A true test and a first choice take branch 0, the others branch 1.
+fn branch(heap: &Heap, statement: &Statement, pick: u64) -> u8 {
+    let first = match statement.op {
+        Op::TestNull => heap.pointers[statement.u] == Value::Null,
+        // Two undefined pointers are equal, as the values are.
+        Op::TestEqual => heap.pointers[statement.u] == heap.pointers[statement.w],
+        Op::Choose => pick == 0,
+        _ => true,
+    };
+    u8::from(!first)
+}
+
+fn effect(heap: &mut Heap, statement: &Statement, fresh: usize) -> Result<(), u8> {
+    let Statement { op, u, w, .. } = *statement;
+    match op {
+        Op::Stop | Op::TestNull | Op::TestEqual | Op::Choose | Op::Skip => {}
+        Op::SetNull => heap.pointers[u] = Value::Null,
+        Op::Copy => heap.pointers[u] = heap.pointers[w],
+        Op::LoadNext => heap.pointers[u] = heap.next(cell_of(heap, w)?),
+        Op::CutNext => {
+            let cell = cell_of(heap, u)?;
+            heap.cells[cell] = Some(Value::Null);
+        }
+        Op::StoreNext => {
+            let cell = cell_of(heap, u)?;
+            heap.cells[cell] = Some(heap.pointers[w]);
+        }
+        Op::New => {
+            heap.bring(fresh);
+            heap.pointers[u] = Value::Cell(fresh);
+        }
+        Op::Free => match heap.pointers[u] {
+            Value::Cell(cell) => heap.release(cell),
+            Value::Null => {}
+            Value::Undefined => return Err(THROUGH_UNDEFINED),
+        },
+    }
+    Ok(())
+}
+
+/// The cell that a pointer holds, or the fault of going through it.
+fn cell_of(heap: &Heap, pointer: usize) -> Result<usize, u8> {
+    match heap.pointers[pointer] {
+        Value::Cell(cell) => Ok(cell),
+        Value::Null => Err(THROUGH_NULL),
+        Value::Undefined => Err(THROUGH_UNDEFINED),
+    }
+}
+
+#[cfg(test)]
+mod tests {
+    use super::*;
+
+    fn statement(op: Op, u: usize, w: usize) -> Statement {
+        let (first, second) = (4, 5);
+        Statement {
+            op,
+            u,
+            w,
+            first,
+            second,
+        }
+    }
+
+    /// Pointer 0 at cell 0, pointer 1 at cell 1, pointer 2 undefined; 0 leads to 1.
+    fn two_cells() -> Heap {
+        let mut heap = Heap::empty();
+        heap.pointers[0] = Value::Cell(0);
+        heap.pointers[1] = Value::Cell(1);
+        heap.pointers[2] = Value::Undefined;
+        heap.cells = vec![Some(Value::Cell(1)), Some(Value::Null)];
+        heap
+    }
+
+    #[test]
+    fn faults_leave_the_heap() {
+        let cases = [
+            (Op::LoadNext, 0, 3, THROUGH_NULL),
+            (Op::LoadNext, 0, 2, THROUGH_UNDEFINED),
+            (Op::CutNext, 3, 0, THROUGH_NULL),
+            (Op::CutNext, 2, 0, THROUGH_UNDEFINED),
+            (Op::StoreNext, 3, 0, THROUGH_NULL),
+            (Op::StoreNext, 2, 0, THROUGH_UNDEFINED),
+            (Op::Free, 2, 0, THROUGH_UNDEFINED),
+            (Op::SetNull, 0, 0, LEAK),
+            (Op::Copy, 0, 1, LEAK),
+            (Op::New, 0, 0, LEAK),
+            (Op::LoadNext, 0, 0, LEAK),
+        ];
+        for (op, u, w, fault) in cases {
+            let mut heap = two_cells();
+            let outcome = run(&mut heap, &statement(op, u, w), 0, 2);
+            assert_eq!(outcome, Outcome::Fault(fault), "{op:?} {u} {w}");
+            assert_eq!(heap, two_cells());
+        }
+    }
+
+    #[test]
+    fn branches() {
+        let cases = [
+            (Op::TestNull, 3, 0, 0, 0),
+            (Op::TestNull, 2, 0, 0, 1),
+            (Op::TestNull, 0, 0, 0, 1),
+            (Op::TestEqual, 2, 2, 0, 0),
+            (Op::TestEqual, 0, 1, 0, 1),
+            (Op::TestEqual, 3, 4, 0, 0),
+            (Op::TestEqual, 2, 3, 0, 1),
+            (Op::Choose, 0, 0, 0, 0),
+            (Op::Choose, 0, 0, 1, 1),
+            (Op::Skip, 0, 0, 1, 0),
+            (Op::Free, 3, 0, 1, 0),
+        ];
+        for (op, u, w, pick, branch) in cases {
+            let mut heap = two_cells();
+            let outcome = run(&mut heap, &statement(op, u, w), pick, 2);
+            let next = 4 + branch;
+            assert_eq!(outcome, Outcome::Moved { branch, next }, "{op:?} {u} {w}");
+            assert_eq!(heap, two_cells());
+        }
+    }
+
+    #[test]
+    fn effects() {
+        let mut heap = two_cells();
+        let fresh = run(&mut heap, &statement(Op::New, 5, 0), 0, 7);
+        assert_eq!(fresh, Outcome::Moved { branch: 0, next: 4 });
+        assert_eq!(heap.pointers[5], Value::Cell(7));
+        assert_eq!(heap.next(7), Value::Undefined);
+        run(&mut heap, &statement(Op::StoreNext, 5, 5), 0, 0);
+        assert_eq!(heap.next(7), Value::Cell(7));
+        run(&mut heap, &statement(Op::Free, 5, 0), 0, 0);
+        assert!(!heap.in_use(7));
+        assert_eq!(heap.pointers[5], Value::Undefined);
+        run(&mut heap, &statement(Op::Free, 1, 0), 0, 0);
+        assert_eq!(heap.next(0), Value::Undefined);
+        run(&mut heap, &statement(Op::LoadNext, 4, 0), 0, 0);
+        assert_eq!(heap.pointers[4], Value::Undefined);
+        run(&mut heap, &statement(Op::CutNext, 0, 0), 0, 0);
+        assert_eq!(heap.next(0), Value::Null);
+        let stop = run(&mut heap, &statement(Op::Stop, 0, 0), 0, 0);
+        assert_eq!(stop, Outcome::Stop);
+    }
+}

@@ -1,0 +1,81 @@
+//! What the selftest counts and prints.
+
+use std::fmt;
+
+/// Index 0 of the arrays is not used: refusals and faults count from 1.
+#[derive(Clone, Debug, Default, PartialEq, Eq)]
+pub struct Counts {
+    pub routines: u64,
+    pub accepted: u64,
+    pub locations: u64,
+    pub edges: u64,
+    /// Routines with at least 200 locations, and the most of one routine.
+    pub large: u64,
+    pub largest: u64,
+    pub runs: u64,
+    pub steps: u64,
+    pub stops: u64,
+    pub refused_entries: u64,
+    pub refused_edges: u64,
+    pub heaps: u64,
+    /// The most nodes of one heap.
+    pub nodes: u64,
+    pub faults: [u64; 4],
+    pub refusals: [u64; 17],
+}
+
+impl Counts {
+    /// Counts a refusal; 0 is none.
+    pub fn refused(&mut self, number: u8) {
+        if let Some(count) = self.refusals.get_mut(usize::from(number)) {
+            *count += u64::from(number != 0);
+        }
+    }
+
+    pub fn faulted(&mut self, number: u8) {
+        self.faults[usize::from(number)] += 1;
+    }
+
+    /// The refusals and faults that were never met, if there are any.
+    pub fn never_met(&self) -> Option<String> {
+        let missing = |name: &str, counts: &[u64]| -> Vec<String> {
+            (1..counts.len())
+                .filter(|&number| counts[number] == 0)
+                .map(|number| format!("{name} {number}"))
+                .collect()
+        };
+        let mut all = missing("fault", &self.faults);
+        all.extend(missing("refusal", &self.refusals));
+        (!all.is_empty()).then(|| all.join(", "))
+    }
+}
+
+impl fmt::Display for Counts {
+    fn fmt(&self, out: &mut fmt::Formatter) -> fmt::Result {
+        let lines = [
+            ("routines", self.routines),
+            ("accepted", self.accepted),
+            ("locations", self.locations),
+            ("edges", self.edges),
+            ("listings of 200 locations or more", self.large),
+            ("most locations of a listing", self.largest),
+            ("runs", self.runs),
+            ("steps", self.steps),
+            ("runs that met a stop", self.stops),
+            ("refused entries", self.refused_entries),
+            ("refused edge numbers", self.refused_edges),
+            ("heaps folded", self.heaps),
+            ("most nodes of a heap", self.nodes),
+        ];
+        for (name, count) in lines {
+            writeln!(out, "{name}: {count}")?;
+        }
+        for (number, count) in self.faults.iter().enumerate().skip(1) {
+            writeln!(out, "fault {number}: {count}")?;
+        }
+        for (number, count) in self.refusals.iter().enumerate().skip(1) {
+            writeln!(out, "refusal {number}: {count}")?;
+        }
+        Ok(())
+    }
+}

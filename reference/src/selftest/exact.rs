@@ -1,0 +1,147 @@
+//! Exactness of a listing: each location once and reachable, and the edges
+//! of each in their place and order.
+
+use crate::automaton::{Automaton, Edge};
+use crate::input::Routine;
+use crate::records::{
+    location, pointer_byte, shape_of, Record, NODES, NO_GUARD, ONE, TWO_OR_MORE,
+};
+use crate::statement::{Op, Statement};
+use crate::unfold::check_shape;
+use std::collections::HashSet;
+
+pub fn test(automaton: &Automaton, routine: &Routine) -> Result<(), String> {
+    starting_shapes_come_first(automaton, routine)?;
+    locations_are_distinct_and_sound(automaton, routine)?;
+    locations_are_numbered_as_found(automaton, routine)?;
+    for number in 0..automaton.locations.len() {
+        edges_of(automaton, routine, number)?;
+    }
+    Ok(())
+}
+
+fn starting_shapes_come_first(automaton: &Automaton, routine: &Routine) -> Result<(), String> {
+    for (number, shape) in routine.shapes.iter().enumerate() {
+        if automaton.locations.get(number) != Some(&location(0, shape)) {
+            return Err(format!("location {number} is not its starting shape"));
+        }
+    }
+    Ok(())
+}
+
+fn locations_are_distinct_and_sound(
+    automaton: &Automaton,
+    routine: &Routine,
+) -> Result<(), String> {
+    let mut met = HashSet::new();
+    for (number, record) in automaton.locations.iter().enumerate() {
+        let sound = match record[2] {
+            0 => check_shape(&shape_of(record)).is_ok(),
+            1..=3 => record[3..].iter().all(|&byte| byte == 0),
+            _ => false,
+        };
+        if !sound || usize::from(record[1]) >= routine.statements.len() {
+            return Err(format!("location {number} is unsound"));
+        }
+        if !met.insert(record) {
+            return Err(format!("location {number} stands twice"));
+        }
+    }
+    Ok(())
+}
+
+/// Every location past the starting shapes takes its number from the first
+/// edge that leads to it, so all are reachable; and edges stand in the order
+/// in which the locations are explored.
+fn locations_are_numbered_as_found(
+    automaton: &Automaton,
+    routine: &Routine,
+) -> Result<(), String> {
+    let mut found = routine.shapes.len();
+    let mut exploring = 0;
+    for (number, edge) in automaton.edges.iter().enumerate() {
+        if edge.from < exploring || edge.from >= found {
+            return Err(format!("edge {number} stands out of order"));
+        }
+        exploring = edge.from;
+        if edge.to > found {
+            return Err(format!("edge {number} skips a location"));
+        }
+        if edge.to == found {
+            found += 1;
+        }
+    }
+    if found == automaton.locations.len() {
+        Ok(())
+    } else {
+        Err("some location is never found".to_string())
+    }
+}
+
+/// The branches, guards and nodes that the op asks for, in order.
+fn edges_of(automaton: &Automaton, routine: &Routine, number: usize) -> Result<(), String> {
+    let record = &automaton.locations[number];
+    let edges: Vec<&Edge> = automaton
+        .leaving(number)
+        .iter()
+        .map(|&edge| &automaton.edges[edge])
+        .collect();
+    let guards: Vec<(u8, usize)> = edges.iter().map(|edge| (edge.guard, edge.node)).collect();
+    let statement = &routine.statements[usize::from(record[1])];
+    if guards != expected_guards(record, statement) {
+        return Err(format!("location {number} has the guards {guards:?}"));
+    }
+    let branches: Vec<u8> = edges.iter().map(|edge| edge.branch).collect();
+    let fits = match statement.op {
+        Op::Choose => branches == [0, 1] || record[2] != 0,
+        Op::TestNull | Op::TestEqual => true,
+        _ => branches.iter().all(|&branch| branch == 0),
+    };
+    if !fits {
+        return Err(format!("location {number} has the branches {branches:?}"));
+    }
+    for edge in edges {
+        updates_fit(automaton, edge)?;
+    }
+    Ok(())
+}
+
+fn expected_guards(record: &Record, statement: &Statement) -> Vec<(u8, usize)> {
+    if record[2] != 0 {
+        return Vec::new();
+    }
+    let none = (NO_GUARD, 0);
+    let pointer = match statement.op {
+        Op::Stop => return Vec::new(),
+        Op::Choose => return vec![none, none],
+        Op::LoadNext => statement.w,
+        Op::CutNext | Op::StoreNext | Op::Free => statement.u,
+        _ => return vec![none],
+    };
+    let byte = pointer_byte(record, pointer);
+    if byte < record[3] {
+        vec![(ONE, usize::from(byte)), (TWO_OR_MORE, usize::from(byte))]
+    } else {
+        vec![none]
+    }
+}
+
+/// Entries past the nodes are zero, the others are not, no old counter is
+/// added twice, and an old counter past the nodes is never added.
+fn updates_fit(automaton: &Automaton, edge: &Edge) -> Result<(), String> {
+    let old_nodes = automaton.locations[edge.from][3];
+    let target = &automaton.locations[edge.to];
+    let mut seen = 0u16;
+    for new in 0..NODES {
+        let update = edge.updates[new];
+        let added = update & 0xfff;
+        if (new < usize::from(target[3])) != (update != 0) || added & seen != 0 {
+            return Err(format!("the updates of {edge:?} do not fit"));
+        }
+        seen |= added;
+    }
+    if seen >> old_nodes != 0 {
+        return Err(format!("{edge:?} adds counters that are not there"));
+    }
+    Ok(())
+}

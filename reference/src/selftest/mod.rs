@@ -1,0 +1,72 @@
+//! Random tests: the tables against the plain machine, folding against
+//! unfolding, and every refusal.
+
+mod counts;
+mod describes;
+mod exact;
+mod images;
+mod mutate;
+mod runs;
+mod tables;
+
+use crate::automaton::Automaton;
+use crate::input::read_routine;
+use crate::random::{random_routine, Random};
+use crate::records::hex;
+
+pub use counts::Counts;
+
+/// The seed and the number of routines if none are given.
+pub const SEED: u64 = 1;
+pub const ROUTINES: u64 = 12_000;
+
+/// Tests so many routines. Answers what was counted, or what differs, or
+/// which refusal or fault was never met.
+pub fn run(seed: u64, routines: u64) -> Result<Counts, String> {
+    let mut random = Random::new(seed);
+    let mut counts = Counts::default();
+    for number in 0..routines {
+        let drawn = random_routine(&mut random);
+        let input = drawn.input();
+        let told = |difference: String| {
+            let input = hex(&input);
+            format!("seed {seed}, routine {number}: {difference}\nits records: {input}")
+        };
+        test_routine(&mut random, &mut counts, &input).map_err(told)?;
+        mutate::test(&mut random, &mut counts, &drawn, number).map_err(told)?;
+        images::test(&mut random, &mut counts, number)
+            .map_err(|difference| format!("seed {seed}, heap {number}: {difference}"))?;
+    }
+    match counts.never_met() {
+        None => Ok(counts),
+        Some(missing) => Err(format!("{counts}never met: {missing}")),
+    }
+}
+
+/// Everything about one input that passes the checks.
+fn test_routine(random: &mut Random, counts: &mut Counts, input: &[u8]) -> Result<(), String> {
+    counts.routines += 1;
+    let routine = read_routine(input)
+        .map_err(|refusal| format!("a sound routine is refused: {refusal:?}"))?;
+    let Some(full) = tables::translate_full(random, counts, input)? else {
+        return Ok(());
+    };
+    let automaton = Automaton::read(
+        &full.locations,
+        full.answer.locations,
+        &full.edges,
+        full.answer.edges,
+    )?;
+    counts.accepted += 1;
+    counts.locations += automaton.locations.len() as u64;
+    counts.edges += automaton.edges.len() as u64;
+    counts.large += u64::from(automaton.locations.len() >= 200);
+    counts.largest = counts.largest.max(automaton.locations.len() as u64);
+    exact::test(&automaton, &routine)?;
+    tables::test_short_tables(random, counts, input, &full, routine.shapes.len(), &automaton)?;
+    for _ in 0..3 {
+        runs::follow_the_routine(random, counts, &routine, &automaton)?;
+        runs::follow_the_edges(random, counts, &routine, &automaton)?;
+    }
+    Ok(())
+}

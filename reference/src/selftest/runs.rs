@@ -1,0 +1,237 @@
+//! Runs: the routine on a heap against the automaton of the two tables.
+
+use super::counts::Counts;
+use super::describes::describes;
+use crate::automaton::{Automaton, Configuration};
+use crate::fold::{fold_heap, Counters};
+use crate::heap::Heap;
+use crate::input::Routine;
+use crate::machine::{run, Outcome};
+use crate::random::{rename, Random};
+use crate::records::{location, node_count, shape_of, NODES};
+use crate::statement::{Op, Statement};
+use crate::unfold::unfold_shape;
+
+/// How many entries or edge numbers are fed in one run.
+const ENTRIES: usize = 30;
+
+/// A run of the routine.
+#[derive(Clone, PartialEq, Eq, Debug)]
+struct Running {
+    heap: Heap,
+    statement: u8,
+    fault: u8,
+}
+
+/// What an entry did.
+#[derive(Clone, Copy, PartialEq, Eq, Debug)]
+enum Fed {
+    NoStep,
+    Step { branch: u8 },
+}
+
+impl Running {
+    fn at<'a>(&self, routine: &'a Routine) -> &'a Statement {
+        &routine.statements[usize::from(self.statement)]
+    }
+
+    fn ended(&self, routine: &Routine) -> bool {
+        self.fault != 0 || self.at(routine).op == Op::Stop
+    }
+
+    fn feed(&mut self, routine: &Routine, pick: u64, cell: usize) -> Fed {
+        let statement = self.at(routine);
+        let refused = match statement.op {
+            Op::Choose => pick > 1,
+            Op::New => self.heap.in_use(cell),
+            _ => false,
+        };
+        if self.fault != 0 || refused {
+            return Fed::NoStep;
+        }
+        match run(&mut self.heap, statement, pick, cell) {
+            Outcome::Stop => Fed::NoStep,
+            Outcome::Fault(fault) => {
+                self.fault = fault;
+                Fed::Step { branch: 0 }
+            }
+            Outcome::Moved { branch, next } => {
+                self.statement = next;
+                Fed::Step { branch }
+            }
+        }
+    }
+}
+
+/// A starting shape with counters, and a heap with its cells anywhere.
+fn start(
+    random: &mut Random,
+    counts: &mut Counts,
+    routine: &Routine,
+) -> (Running, Configuration) {
+    let number = random.below(routine.shapes.len());
+    let shape = &routine.shapes[number];
+    let mut counters: Counters = [0; NODES];
+    for counter in counters.iter_mut().take(node_count(shape)) {
+        *counter = [1, 1, 2, 3, random.from_to(1, 9) as u64][random.below(5)];
+    }
+    let straight = unfold_shape(shape, &counters);
+    let room = straight.cells.len() + random.below(4);
+    counts.runs += 1;
+    let running = Running {
+        heap: rename(random, &straight, room),
+        statement: 0,
+        fault: 0,
+    };
+    let at = Configuration {
+        location: number,
+        counters,
+    };
+    (running, at)
+}
+
+/// Feeds entries to the routine; each step made has exactly one edge enabled
+/// of its branch, and that one is taken.
+pub fn follow_the_routine(
+    random: &mut Random,
+    counts: &mut Counts,
+    routine: &Routine,
+    automaton: &Automaton,
+) -> Result<(), String> {
+    let (mut running, mut at) = start(random, counts, routine);
+    check_match(routine, automaton, &running, &at)?;
+    let mut past_the_end = 0;
+    while past_the_end < ENTRIES {
+        past_the_end += 1;
+        let pick = if random.chance(10) { random.next() | 2 } else { random.next() & 1 };
+        let cell = random.below(running.heap.cells.len() + 3);
+        let before = running.clone();
+        match running.feed(routine, pick, cell) {
+            Fed::NoStep => {
+                counts.refused_entries += 1;
+                if running != before {
+                    return Err("an entry that makes no step changes something".to_string());
+                }
+                if running.ended(routine) {
+                    // A few more are fed past the end, then the run is over.
+                    past_the_end += ENTRIES / 3;
+                }
+            }
+            Fed::Step { branch } => {
+                take_the_only_edge(automaton, &mut at, branch)?;
+                count_step(counts, routine, &running);
+                check_match(routine, automaton, &running, &at)?;
+            }
+        }
+    }
+    Ok(())
+}
+
+fn take_the_only_edge(
+    automaton: &Automaton,
+    at: &mut Configuration,
+    branch: u8,
+) -> Result<(), String> {
+    let enabled: Vec<u64> = (0..automaton.leaving(at.location).len())
+        .map(|index| automaton.leaving(at.location)[index] as u64)
+        .filter(|&number| automaton.enabled(at, number))
+        .filter(|&number| automaton.edges[number as usize].branch == branch)
+        .collect();
+    let [number] = enabled[..] else {
+        return Err(format!("a step of branch {branch} has the edges {enabled:?}"));
+    };
+    if automaton.feed(at, number) {
+        Ok(())
+    } else {
+        Err(format!("edge {number} is enabled and refused"))
+    }
+}
+
+/// Feeds edge numbers to the automaton; the routine, fed the branch of each
+/// edge taken and any unused cell, makes exactly those steps.
+pub fn follow_the_edges(
+    random: &mut Random,
+    counts: &mut Counts,
+    routine: &Routine,
+    automaton: &Automaton,
+) -> Result<(), String> {
+    let (mut running, mut at) = start(random, counts, routine);
+    for _ in 0..ENTRIES {
+        let number = random_edge_number(random, automaton, &at);
+        let before = at.clone();
+        if !automaton.feed(&mut at, number) {
+            counts.refused_edges += 1;
+            if at != before {
+                return Err(format!("refused edge number {number} changes something"));
+            }
+            continue;
+        }
+        let edge = &automaton.edges[number as usize];
+        let cell = any_unused_cell(random, &running.heap);
+        let fed = running.feed(routine, u64::from(edge.branch), cell);
+        if fed != (Fed::Step { branch: edge.branch }) {
+            return Err(format!("edge {number} is taken but the routine gives {fed:?}"));
+        }
+        count_step(counts, routine, &running);
+        check_match(routine, automaton, &running, &at)?;
+    }
+    Ok(())
+}
+
+fn random_edge_number(random: &mut Random, automaton: &Automaton, at: &Configuration) -> u64 {
+    let leaving = automaton.leaving(at.location);
+    match random.below(20) {
+        0 => random.next(),
+        1 => random.below(automaton.edges.len() + 2) as u64,
+        2 => automaton.edges.len() as u64,
+        _ if leaving.is_empty() => random.below(automaton.edges.len() + 1) as u64,
+        _ => leaving[random.below(leaving.len())] as u64,
+    }
+}
+
+fn any_unused_cell(random: &mut Random, heap: &Heap) -> usize {
+    loop {
+        let cell = random.below(heap.cells.len() + 3);
+        if !heap.in_use(cell) {
+            return cell;
+        }
+    }
+}
+
+fn count_step(counts: &mut Counts, routine: &Routine, running: &Running) {
+    counts.steps += 1;
+    if running.fault != 0 {
+        counts.faulted(running.fault);
+    } else if running.ended(routine) {
+        counts.stops += 1;
+    }
+}
+
+/// Whether routine and automaton match, by the definition and by folding.
+fn check_match(
+    routine: &Routine,
+    automaton: &Automaton,
+    running: &Running,
+    at: &Configuration,
+) -> Result<(), String> {
+    let record = &automaton.locations[at.location];
+    if record[1..3] != [running.statement, running.fault] {
+        return Err(format!(
+            "location {} is not statement {} with fault {}",
+            at.location, running.statement, running.fault
+        ));
+    }
+    if automaton.leaving(at.location).is_empty() != running.ended(routine) {
+        return Err(format!("location {} and the routine's end differ", at.location));
+    }
+    if running.fault != 0 {
+        return Ok(());
+    }
+    describes(&shape_of(record), &at.counters, &running.heap)
+        .map_err(|difference| format!("location {}: {difference}", at.location))?;
+    let (shape, counters) = fold_heap(&running.heap);
+    if location(running.statement, &shape) != *record || counters != at.counters {
+        return Err(format!("location {} is not what folding gives", at.location));
+    }
+    Ok(())
+}

@@ -1,0 +1,210 @@
+//! The program: commands, text, exit status, and how it reads.
+
+mod common;
+
+use common::*;
+use std::io::Write;
+use std::process::{Command, Stdio};
+use std::thread::sleep;
+use std::time::Duration;
+
+struct Ran {
+    status: i32,
+    output: String,
+    errors: String,
+}
+
+/// Runs the program, writing the input in pieces of this size.
+fn run_in_pieces(words: &[&str], input: &[u8], piece: usize) -> Ran {
+    let mut child = Command::new(env!("CARGO_BIN_EXE_reference"))
+        .args(words)
+        .stdin(Stdio::piped())
+        .stdout(Stdio::piped())
+        .stderr(Stdio::piped())
+        .spawn()
+        .expect("the program runs");
+    let mut pipe = child.stdin.take().expect("a pipe");
+    for bytes in input.chunks(piece.max(1)) {
+        // The program may have read all that it wants.
+        if pipe.write_all(bytes).and_then(|_| pipe.flush()).is_err() {
+            break;
+        }
+        if piece == 1 {
+            sleep(Duration::from_micros(200));
+        }
+    }
+    drop(pipe);
+    let output = child.wait_with_output().expect("the program ends");
+    Ran {
+        status: output.status.code().expect("an exit status"),
+        output: String::from_utf8(output.stdout).expect("plain text"),
+        errors: String::from_utf8(output.stderr).expect("plain text"),
+    }
+}
+
+fn run(words: &[&str], input: &[u8]) -> Ran {
+    run_in_pieces(words, input, 1 << 16)
+}
+
+#[track_caller]
+fn check(words: &[&str], input: &[u8], status: i32, output: &str) {
+    let ran = run(words, input);
+    assert_eq!(ran.output, output);
+    assert_eq!((ran.status, &ran.errors[..]), (status, ""));
+}
+
+#[track_caller]
+fn check_wrong(words: &[&str], input: &[u8], message: &str) {
+    let ran = run(words, input);
+    assert_eq!((ran.status, &ran.output[..]), (2, ""));
+    assert!(ran.errors.contains(message), "{}", ran.errors);
+}
+
+fn p1() -> Vec<u8> {
+    input(&[s(7, 0, 0, 1, 0), stop(), h(pointers(&[0]), &[NULL])])
+}
+
+fn p1_output() -> String {
+    let zeros = |count| "0".repeat(count);
+    [
+        format!("4c00000100fefefefefefe{}\n", zeros(42)),
+        format!("4c010000fffefefefefe{}\n", zeros(44)),
+        format!("4c000300{}\n", zeros(56)),
+        format!("4500000001000100{}\n", zeros(48)),
+        format!("4500000002000200{}\n", zeros(48)),
+    ]
+    .concat()
+}
+
+#[test]
+fn translate_prints_the_tables() {
+    check(&["translate"], &p1(), 0, &p1_output());
+}
+
+#[test]
+fn translate_reads_one_byte_at_a_time() {
+    let ran = run_in_pieces(&["translate"], &p1(), 1);
+    assert_eq!((ran.status, ran.output), (0, p1_output()));
+    let ran = run_in_pieces(&["translate"], &p1()[..95], 1);
+    assert_eq!((ran.status, &ran.output[..]), (1, "refused 1 0\n"));
+}
+
+#[test]
+fn translate_refuses() {
+    check(&["translate"], &[], 1, "refused 1 0\n");
+    let twice = [p1(), h(pointers(&[0]), &[NULL]).to_vec()].concat();
+    check(&["translate"], &twice, 1, "refused 10 3\n");
+}
+
+#[test]
+fn translate_reads_at_most_4096_bytes() {
+    // 64 statements and 64 shapes fill them: too many shapes, in whole
+    // records. What follows would make it another refusal.
+    let mut long = input(&[stop(); 64]);
+    long.extend(input(&[h(NULLS, &[]); 64]));
+    assert_eq!(long.len(), 4096);
+    check(&["translate"], &long, 1, "refused 3 0\n");
+    long.push(0);
+    check(&["translate"], &long, 1, "refused 3 0\n");
+    long.resize(200_000, 0);
+    assert_eq!(run(&["translate"], &long).output, "refused 3 0\n");
+    assert_eq!(run_in_pieces(&["translate"], &long[..4300], 1).output, "refused 3 0\n");
+}
+
+#[test]
+fn fold_and_unfold() {
+    let heap = b"# a heap\npointers 2 null null null undef null\n\ncells null unused 0\n";
+    let record = hex(&h([0, NULL, NULL, NULL, UNDEF, NULL], &[NULL]));
+    let folded = format!("record {record}\ncounters 2 0 0 0 0 0 0 0 0 0 0 0\n");
+    check(&["fold"], heap, 0, &folded);
+    let unfolded = "pointers 0 null null null undef null\ncells 1 null unused\n";
+    check(&["unfold"], (folded.clone() + "length 3\n").as_bytes(), 0, unfolded);
+    let lent = "pointers 9 9 9 9 9 9\ncells 7 undef null # any\n";
+    check(&["unfold"], (folded.clone() + lent).as_bytes(), 0, unfolded);
+    let few = format!("record {record}\ncounters 2\nlength 1\n");
+    check(&["unfold"], few.as_bytes(), 1, "refused 15 0\n");
+    let many = format!("record {record}\ncounters 2\nlength 241\n");
+    check(&["unfold"], many.as_bytes(), 1, "refused 13 0\n");
+    check(&["unfold"], b"record 48\ncounters\nlength 0", 1, "refused 8 0\n");
+    check(&["fold"], b"pointers\ncells\n", 1, "refused 13 0\n");
+    let lost = b"pointers null null null null null null\r\ncells 0\r\n";
+    check(&["fold"], lost, 1, "refused 14 0\n");
+    let ran = run_in_pieces(&["fold"], heap, 1);
+    assert_eq!((ran.status, ran.output), (0, folded));
+}
+
+#[test]
+fn step_in_text() {
+    let with = |statement: Record, rest: &str| {
+        let heap = "pointers 0 null null null undef null\ncells 1 null unused\n";
+        format!("{heap}statement {}\n{rest}", hex(&statement)).into_bytes()
+    };
+    let stays = "pointers 0 null null null undef null\ncells 1 null unused\n";
+    let new = with(s(6, 1, 0, 7, 0), "cell 2\n");
+    let after = "pointers 0 2 null null undef null\ncells 1 null undef\n";
+    check(&["step"], &new, 0, &format!("moved 0 7\n{after}"));
+    let choose = with(s(10, 0, 0, 7, 9), "pick 1\n");
+    check(&["step"], &choose, 0, &format!("moved 1 9\n{stays}"));
+    let choose = with(s(10, 0, 0, 7, 9), "pick 2\n");
+    check(&["step"], &choose, 1, "refused 16 0\n");
+    check(&["step"], &with(stop(), ""), 0, &format!("stop\n{stays}"));
+    let leak = with(s(1, 0, 0, 0, 0), "");
+    check(&["step"], &leak, 0, &format!("fault 3\n{stays}"));
+    check(&["step"], &with([0; 32], ""), 1, "refused 4 0\n");
+}
+
+#[test]
+fn bad_text_is_named_by_its_line() {
+    check_wrong(&["fold"], b"pointers 0\n\ncells x\n", "line 3: 'x'");
+    check_wrong(&["fold"], b"pointers 253\ncells\n", "line 1: '253'");
+    check_wrong(&["fold"], b"pointers 0\n", "no line 'cells'");
+    check_wrong(&["fold"], b"cells\nrecord 00\n", "line 2: 'record'");
+    check_wrong(&["fold"], b"cells\ncells\n", "line 2: 'cells' stands in line 1");
+    check_wrong(&["fold"], b"cells\n\xff\n", "line 2: not plain text");
+    check_wrong(&["unfold"], b"record 0\n", "line 1: '0' is not made of pairs");
+    check_wrong(&["unfold"], b"record zz\n", "line 1: 'zz'");
+    let both = b"record 00\ncounters\nlength 1\ncells\n";
+    check_wrong(&["unfold"], both, "'length' stands beside");
+    let large = b"record 00\ncounters\nlength 65537\n";
+    check_wrong(&["unfold"], large, "line 3: 65537");
+    let pick = b"pointers\ncells\nstatement 00\npick -1\n";
+    check_wrong(&["step"], pick, "line 4: '-1'");
+}
+
+#[test]
+fn wrong_usage() {
+    check_wrong(&[], b"", "no command");
+    check_wrong(&["fly"], b"", "no command 'fly'");
+    check_wrong(&["help", "fly"], b"", "no command 'fly'");
+    check_wrong(&["translate", "x"], b"", "'x' is not expected");
+    check_wrong(&["fold", "x"], b"", "reference fold --help");
+    check_wrong(&["selftest", "--seed"], b"", "--seed asks for a number");
+    check_wrong(&["selftest", "--seed", "x"], b"", "--seed asks for a number");
+    check_wrong(&["selftest", "--speed", "1"], b"", "no option '--speed'");
+}
+
+#[test]
+fn help_tells_of_every_command() {
+    let general = run(&["--help"], b"");
+    assert_eq!(general.status, 0);
+    for command in ["translate", "fold", "unfold", "step", "selftest"] {
+        assert!(general.output.contains(&format!("  {command} ")));
+        let own = run(&[command, "--help"], b"");
+        assert_eq!(own.status, 0);
+        assert!(own.output.contains(&format!("usage: reference {command}")));
+        assert_eq!(own.output, run(&["help", command], b"").output);
+        assert!(own.output.lines().all(|line| line.len() <= 80));
+    }
+    assert_eq!(run(&["help"], b"").output, general.output);
+}
+
+#[test]
+fn selftest_from_the_command_line() {
+    let ran = run(&["selftest", "--seed", "5", "--routines", "300"], b"");
+    assert_eq!(ran.status, 0, "{}", ran.output);
+    assert!(ran.output.starts_with("routines: 300\n"));
+    assert!(ran.output.ends_with("all agree\n"));
+    let few = run(&["selftest", "--routines", "1"], b"");
+    assert_eq!(few.status, 1);
+    assert!(few.output.contains("never met"));
+}

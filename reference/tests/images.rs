@@ -1,0 +1,171 @@
+//! Fold, unfold and step on heap images.
+
+mod common;
+
+use common::*;
+use reference::{fold, step, unfold, Stepped};
+
+/// Pointers 0 and 3 lead over cells 4 and 1 into the ring 2, 0; cell 3 is
+/// not in use.
+const POINTERS: [u8; 6] = [4, NULL, UNDEF, 1, NULL, 4];
+const CELLS: [u8; 5] = [2, 2, 0, UNUSED, 2];
+
+#[test]
+fn fold_of_a_heap() {
+    let folded = fold(&POINTERS, &CELLS);
+    assert_eq!(folded.refusal, 0);
+    assert_eq!(folded.record, h([0, NULL, UNDEF, 2, NULL, 0], &[1, 1, 1]));
+    assert_eq!(folded.counters, [1, 2, 1, 0, 0, 0, 0, 0, 0, 0, 0, 0]);
+}
+
+#[test]
+fn unfold_of_a_shape() {
+    let folded = fold(&POINTERS, &CELLS);
+    let (mut pointers, mut cells) = ([9; 6], [9; 7]);
+    let refusal = unfold(&folded.record, &folded.counters, &mut pointers, &mut cells);
+    assert_eq!(refusal, 0);
+    assert_eq!(pointers, [0, NULL, UNDEF, 3, NULL, 0]);
+    assert_eq!(cells, [1, 2, 1, 1, UNUSED, UNUSED, UNUSED]);
+}
+
+#[test]
+fn refused_folds_are_zero() {
+    let cases: [(&[u8], &[u8], u8); 7] = [
+        (&[], &[], 13),
+        (&[NULL; 5], &[], 13),
+        (&[NULL; 7], &[], 13),
+        (&NULLS, &[5], 13),
+        (&NULLS, &[NULL], 14),
+        (&NULLS, &[0], 14),
+        (&[UNUSED, NULL, NULL, NULL, NULL, NULL], &[], 13),
+    ];
+    for (pointers, cells, refusal) in cases {
+        let folded = fold(pointers, cells);
+        assert_eq!(folded.refusal, refusal, "{pointers:?} {cells:?}");
+        assert_eq!((folded.record, folded.counters), ([0; 32], [0; 12]));
+    }
+}
+
+fn refusal_of_unfold(record: &[u8], counters: [u32; 12], lengths: (usize, usize)) -> u8 {
+    let mut pointers = vec![0x33; lengths.0];
+    let mut cells = vec![0x44; lengths.1];
+    let refusal = unfold(record, &counters, &mut pointers, &mut cells);
+    assert_ne!(refusal, 0);
+    assert_eq!(pointers, vec![0x33; lengths.0]);
+    assert_eq!(cells, vec![0x44; lengths.1]);
+    refusal
+}
+
+#[test]
+fn order_of_the_refusals_of_unfold() {
+    let none = [0; 12];
+    let good = h(pointers(&[0]), &[NULL]);
+    let lost = h(NULLS, &[NULL]);
+    assert_eq!(refusal_of_unfold(&[], none, (5, 240)), 13);
+    assert_eq!(refusal_of_unfold(&[], none, (7, 240)), 13);
+    assert_eq!(refusal_of_unfold(&[], none, (6, 241)), 13);
+    for length in [0, 1, 31, 33, 64] {
+        assert_eq!(refusal_of_unfold(&vec![0x48; length], none, (6, 240)), 8);
+    }
+    assert_eq!(refusal_of_unfold(&[0; 32], none, (6, 0)), 8);
+    // A location is no H record.
+    let place = l(0, pointers(&[0]), &[NULL]);
+    assert_eq!(refusal_of_unfold(&place, none, (6, 240)), 8);
+    assert_eq!(refusal_of_unfold(&lost, none, (6, 240)), 9);
+    assert_eq!(refusal_of_unfold(&good, none, (6, 240)), 15);
+    let mut counters = none;
+    counters[0] = 3;
+    assert_eq!(refusal_of_unfold(&good, counters, (6, 2)), 15);
+    counters[11] = 1;
+    assert_eq!(refusal_of_unfold(&good, counters, (6, 240)), 15);
+    assert_eq!(refusal_of_unfold(&good, [u32::MAX; 12], (6, 240)), 15);
+}
+
+#[test]
+fn unfold_without_cells() {
+    let (mut pointers, mut cells) = ([1; 6], []);
+    let shape = h(common::pointers(&[UNDEF]), &[]);
+    assert_eq!(unfold(&shape, &[0; 12], &mut pointers, &mut cells), 0);
+    assert_eq!(pointers, [UNDEF, NULL, NULL, NULL, NULL, NULL]);
+}
+
+/// Steps on a copy of the heap above.
+fn step_on(statement: &[u8], pick: u64, cell: u64) -> (Stepped, [u8; 6], [u8; 5]) {
+    let (mut pointers, mut cells) = (POINTERS, CELLS);
+    let stepped = step(&mut pointers, &mut cells, statement, pick, cell);
+    if !matches!(stepped, Stepped::Moved { .. }) {
+        assert_eq!((pointers, cells), (POINTERS, CELLS));
+    }
+    (stepped, pointers, cells)
+}
+
+#[test]
+fn steps_that_move() {
+    let moved = Stepped::Moved { branch: 0, next: 63 };
+    let (stepped, pointers, cells) = step_on(&s(6, 1, 0, 63, 0), 77, 3);
+    assert_eq!(stepped, moved);
+    assert_eq!(pointers, [4, 3, UNDEF, 1, NULL, 4]);
+    assert_eq!(cells, [2, 2, 0, UNDEF, 2]);
+    let (stepped, pointers, cells) = step_on(&s(7, 3, 0, 63, 0), 77, 999);
+    assert_eq!(stepped, moved);
+    assert_eq!(pointers, [4, NULL, UNDEF, UNDEF, NULL, 4]);
+    assert_eq!(cells, [2, UNUSED, 0, UNUSED, 2]);
+    let (stepped, pointers, cells) = step_on(&s(5, 0, 2, 63, 0), 0, 0);
+    assert_eq!(stepped, moved);
+    assert_eq!((pointers, cells), (POINTERS, [2, 2, 0, UNUSED, UNDEF]));
+    let (stepped, pointers, cells) = step_on(&s(3, 1, 0, 63, 0), 0, 0);
+    assert_eq!(stepped, moved);
+    assert_eq!((pointers, cells), ([4, 2, UNDEF, 1, NULL, 4], CELLS));
+    let second = Stepped::Moved { branch: 1, next: 5 };
+    assert_eq!(step_on(&s(10, 0, 0, 63, 5), 1, 0).0, second);
+    assert_eq!(step_on(&s(8, 2, 0, 63, 5), 0, 0).0, second);
+    assert_eq!(step_on(&s(9, 0, 5, 63, 5), 0, 0).0, moved);
+    assert_eq!(step_on(&s(9, 0, 3, 63, 5), 0, 0).0, second);
+}
+
+#[test]
+fn steps_that_stay() {
+    assert_eq!(step_on(&stop(), 9, 9).0, Stepped::Stop);
+    assert_eq!(step_on(&s(3, 0, 1, 0, 0), 0, 0).0, Stepped::Fault(1));
+    assert_eq!(step_on(&s(4, 2, 0, 0, 0), 0, 0).0, Stepped::Fault(2));
+    assert_eq!(step_on(&s(7, 2, 0, 0, 0), 0, 0).0, Stepped::Fault(2));
+    assert_eq!(step_on(&s(1, 3, 0, 0, 0), 0, 0).0, Stepped::Fault(3));
+    assert_eq!(step_on(&s(6, 3, 0, 0, 0), 0, 3).0, Stepped::Fault(3));
+}
+
+#[test]
+fn refusals_of_a_step() {
+    let refused = |statement: &[u8], pick, cell| match step_on(statement, pick, cell).0 {
+        Stepped::Refused(refusal) => refusal,
+        other => panic!("{other:?} is no refusal"),
+    };
+    assert_eq!(refused(&[], 0, 0), 4);
+    assert_eq!(refused(&[0x53; 31], 0, 0), 4);
+    assert_eq!(refused(&[0x53; 33], 0, 0), 4);
+    assert_eq!(refused(&h(NULLS, &[]), 0, 0), 4);
+    assert_eq!(refused(&s(12, 9, 9, 99, 99), 9, 9), 5);
+    assert_eq!(refused(&s(6, 6, 0, 99, 0), 9, 9), 6);
+    assert_eq!(refused(&s(6, 0, 1, 99, 0), 9, 9), 6);
+    assert_eq!(refused(&s(6, 0, 0, 64, 0), 9, 9), 7);
+    assert_eq!(refused(&s(10, 0, 0, 0, 64), 9, 9), 7);
+    assert_eq!(refused(&s(10, 0, 0, 63, 63), 2, 0), 16);
+    assert_eq!(refused(&s(10, 0, 0, 63, 63), u64::MAX, 0), 16);
+    // In use, just past the end, and far past it; before the leak.
+    assert_eq!(refused(&s(6, 3, 0, 0, 0), 0, 2), 16);
+    assert_eq!(refused(&s(6, 3, 0, 0, 0), 0, 5), 16);
+    assert_eq!(refused(&s(6, 3, 0, 0, 0), 0, u64::MAX), 16);
+}
+
+#[test]
+fn the_image_of_a_step_is_looked_at_first() {
+    let refused = |pointers: &[u8], cells: &[u8]| {
+        let (mut to_pointers, mut to_cells) = (pointers.to_vec(), cells.to_vec());
+        let stepped = step(&mut to_pointers, &mut to_cells, &[], 9, 9);
+        assert_eq!((&to_pointers[..], &to_cells[..]), (pointers, cells));
+        stepped
+    };
+    assert_eq!(refused(&[], &[]), Stepped::Refused(13));
+    assert_eq!(refused(&NULLS, &[UNUSED; 241]), Stepped::Refused(13));
+    assert_eq!(refused(&NULLS, &[NULL]), Stepped::Refused(14));
+    assert_eq!(refused(&NULLS, &[]), Stepped::Refused(4));
+}

@@ -1,0 +1,88 @@
+//! What is a shape, by the words of the definition, for all small records.
+
+mod common;
+
+use common::*;
+use reference::unfold;
+
+/// Whether every node is reachable, core, and numbered at its first visit.
+fn is_shape(pointers: &[u8], successors: &[u8]) -> bool {
+    let nodes = successors.len();
+    let mut visits: Vec<u8> = Vec::new();
+    for &pointer in pointers {
+        let mut at = pointer;
+        while usize::from(at) < nodes && !visits.contains(&at) {
+            visits.push(at);
+            at = successors[usize::from(at)];
+        }
+    }
+    let in_order = visits.iter().copied().eq(0..nodes as u8);
+    let core = |node: u8| {
+        let holders = successors.iter().filter(|&&next| next == node).count();
+        pointers.contains(&node) || holders >= 2
+    };
+    in_order && (0..nodes as u8).all(core)
+}
+
+/// All lists of this length over the values of so many nodes.
+fn all_lists(length: usize, nodes: usize) -> Vec<Vec<u8>> {
+    let mut values: Vec<u8> = (0..nodes as u8).collect();
+    values.extend([NULL, UNDEF]);
+    let mut lists = vec![Vec::new()];
+    for _ in 0..length {
+        lists = lists
+            .iter()
+            .flat_map(|list| values.iter().map(|&value| [&list[..], &[value]].concat()))
+            .collect();
+    }
+    lists
+}
+
+#[test]
+fn refusal_9_for_all_small_records() {
+    let mut passed = 0;
+    for nodes in 0..=4 {
+        let successor_lists = all_lists(nodes, nodes);
+        for first in all_lists(3, nodes) {
+            for successors in &successor_lists {
+                let held = pointers(&first);
+                let mut counters = [0; 12];
+                counters[..nodes].fill(2);
+                let (mut to_pointers, mut to_cells) = ([0; 6], [0; 8]);
+                let record = h(held, successors);
+                let refusal = unfold(&record, &counters, &mut to_pointers, &mut to_cells);
+                let due = if is_shape(&held, successors) { 0 } else { 9 };
+                assert_eq!(refusal, due, "{held:?} {successors:?}");
+                passed += u32::from(refusal == 0);
+            }
+        }
+    }
+    assert!(passed > 500, "only {passed} shapes were met");
+}
+
+#[test]
+fn twelve_nodes() {
+    // Six lists that meet in pairs, in a ring of six.
+    let mut held = NULLS;
+    let mut successors = [0; 12];
+    held[0] = 0;
+    successors[0] = 1;
+    for ring in 0..6 {
+        successors[1 + ring] = if ring == 5 { 1 } else { 2 + ring as u8 };
+    }
+    for pointer in 1..6 {
+        held[pointer] = 6 + pointer as u8;
+        successors[6 + pointer] = 1 + pointer as u8;
+    }
+    assert!(is_shape(&held, &successors));
+    let (mut to_pointers, mut to_cells) = ([0; 6], [0; 240]);
+    let refusal = unfold(
+        &h(held, &successors),
+        &[20; 12],
+        &mut to_pointers,
+        &mut to_cells,
+    );
+    assert_eq!(refusal, 0);
+    let folded = reference::fold(&to_pointers, &to_cells);
+    assert_eq!((folded.record, folded.counters), (h(held, &successors), [20; 12]));
+}
