@@ -11,8 +11,13 @@ pub mod Facts
 pub mod Effects
 pub mod Bound
 pub mod Canon
+pub mod Canonical
 pub mod Unfold
+pub mod Iso
+pub mod SameShape
 pub mod Weights
 pub mod Sizes
 pub mod Step
 pub mod Ways
+pub mod Leave
+pub mod Location

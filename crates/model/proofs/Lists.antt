@@ -1,8 +1,11 @@
 -- Elements of lists: membership as a type, through map, append and join, and what `all` says of each element.
+use Prim.Native.Nat.{ℕ}
 use mathlib.Core.Path.{_∙_, _≡_, ap, refl, subst}
 use mathlib.Core.Logic.{_⊎_, inl, inr}
+use mathlib.Core.Option.{Option, none, some}
 use mathlib.Core.Bool.{Bool, true}
 use mathlib.Core.List.{List, [], _++_, _∷_, map}
+use native.Mathlib.Omega.{arith}
 use Rattle.model.specs.Base.{all, joined}
 use Rattle.model.proofs.Logic.{and-both, and-l, and-r}
 
@@ -51,3 +54,9 @@ all-in p (y ∷ l) x h (inr i) = all-in p l x (and-r (p y) (all p l) h) i
 pub all-of : {A : Type 0} (p : A → Bool) (l : List A) → ((x : A) → In x l → p x ≡ true) → all p l ≡ true
 all-of p [] h = refl
 all-of p (y ∷ l) h = and-both (p y) (all p l) (h y (inl refl)) (all-of p l (λ x i. h x (inr i)))
+
+pub some-none {ℓ} : {C : Type ℓ} {A : Type 0} {x : A} → _≡_ {A = Option A} none (some x) → C
+some-none {x} e = absurd (let z : _≡_ {A = ℕ} 0 1 = cc in omega arith)
+
+pub some-inj : {A : Type 0} {x y : A} → _≡_ {A = Option A} (some x) (some y) → x ≡ y
+some-inj {x} {y} e = cc
