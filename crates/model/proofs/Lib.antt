@@ -20,4 +20,5 @@ pub mod Sizes
 pub mod Step
 pub mod Ways
 pub mod Leave
+pub mod Picks
 pub mod Location

@@ -4,98 +4,71 @@
 use Prim.Native.Nat.{_<_, _≤_, suc, zero, ℕ}
 use mathlib.Core.Path.{_∙_, _≡_, ap, refl, subst, sym}
 use mathlib.Core.Logic.{inl, inr}
-use mathlib.Core.Option.{none, some}
-use mathlib.Core.Bool.{false, true}
+use mathlib.Core.Option.{some}
+use mathlib.Core.Bool.{cond, false, true}
 use mathlib.Core.List.{List, [], _∷_, map}
 use native.Mathlib.Omega.{arith}
 use lib.Dec.{T, eqb}
 use lib.ListN.{getD, length}
 use borrow.Author.Tests.{eqb-false, eqb-true, le-leb, leb-true}
-use Rattle.model.specs.Edges.{Edge, Way, access, always, at, edgeBy, edgesAt, isOne, picksOf, split, splitHeap, stepBy, ways, whole}
-use Rattle.model.specs.Heap.{Heap, Val, cell, null, undef}
-use Rattle.model.specs.Machine.{Answer, Entry, Kind, Op, Stmt, accepts, allocates, answerOf, branch, choose, clear, copy, free, isNull, kind, load, new, other, picks, run, same, setNull, skip, step, stop, stops, store, unlessStop}
+use Rattle.model.specs.Edges.{Edge, Way, access, always, at, edgeBy, edgesAt, isOne, picksOf, split, splitHeap, stepBy, ways, waysAt, whole}
+use Rattle.model.specs.Heap.{Heap, Val, cell, inUse, kept, next, null, undef}
+use Rattle.model.specs.Machine.{Answer, Entry, Kind, Op, Stmt, accepts, allocates, answerOf, branch, choose, faulted, kind, other, picks, refused, run, step, stopped, stops, unlessStop, went}
 use Rattle.model.specs.Runs.{State, Step, isStop, made}
 use Rattle.model.specs.Shape.{counters, segments, shape}
-use Rattle.model.proofs.Folds.{Kept}
+use Rattle.model.proofs.Facts.{kept-test}
+use Rattle.model.proofs.Folds.{Kept, kept-down}
 use Rattle.model.proofs.Leave.{Fit, begin, guardOn, way-lands, worth}
-use Rattle.model.proofs.Lists.{In, joined-in, map-in, some-none}
+use Rattle.model.proofs.Lists.{In, in-joined, in-map, joined-in, map-in}
 use Rattle.model.proofs.Logic.{bool-case, clash}
 use Rattle.model.proofs.Order.{used-below}
+use Rattle.model.proofs.Picks.{branch-pick, choose-is, kind-case, made-goes, pick-in, pick-low}
 use Rattle.model.proofs.Start.{segAt, start}
 use Rattle.model.proofs.Step.{branch-same}
 use Rattle.model.proofs.Walks.{ClosedHeap}
 use Rattle.model.proofs.Ways.{Fits, access-facts, access-node, count-length, no-access, one-fits, size-at, two-fits, whole-fits}
 
-pub branch-pick : (op : Op) (p q : ℕ) (h : Heap) → (kind op ≡ picks → ⊥) → branch op p h ≡ branch op q h
-branch-pick stop p q h n = refl
-branch-pick (setNull u) p q h n = refl
-branch-pick (copy u w) p q h n = refl
-branch-pick (load u w) p q h n = refl
-branch-pick (clear u) p q h n = refl
-branch-pick (store u w) p q h n = refl
-branch-pick (new u) p q h n = refl
-branch-pick (free u) p q h n = refl
-branch-pick (isNull u) p q h n = refl
-branch-pick (same u w) p q h n = refl
-branch-pick choose p q h n = absurd (n refl)
-branch-pick skip p q h n = refl
+in-single : {A : Type 0} (x y : A) → In x (y ∷ []) → x ≡ y
+in-single x y (inl e) = e
+in-single x y (inr z) = absurd z
 
-pub choose-is : (op : Op) → kind op ≡ picks → op ≡ choose
-choose-is stop e = absurd (let z : _≡_ {A = ℕ} 0 1 = cc in omega arith)
-choose-is (setNull u) e = absurd (let z : _≡_ {A = ℕ} 0 1 = cc in omega arith)
-choose-is (copy u w) e = absurd (let z : _≡_ {A = ℕ} 0 1 = cc in omega arith)
-choose-is (load u w) e = absurd (let z : _≡_ {A = ℕ} 0 1 = cc in omega arith)
-choose-is (clear u) e = absurd (let z : _≡_ {A = ℕ} 0 1 = cc in omega arith)
-choose-is (store u w) e = absurd (let z : _≡_ {A = ℕ} 0 1 = cc in omega arith)
-choose-is (new u) e = absurd (let z : _≡_ {A = ℕ} 0 1 = cc in omega arith)
-choose-is (free u) e = absurd (let z : _≡_ {A = ℕ} 0 1 = cc in omega arith)
-choose-is (isNull u) e = absurd (let z : _≡_ {A = ℕ} 0 1 = cc in omega arith)
-choose-is (same u w) e = absurd (let z : _≡_ {A = ℕ} 0 1 = cc in omega arith)
-choose-is choose e = refl
-choose-is skip e = absurd (let z : _≡_ {A = ℕ} 0 1 = cc in omega arith)
+-- an entry whose cell is not in use, and whose pick is at most 1 at choose
+accept-unused : (kd : Kind) (e : Entry) (h : Heap) → inUse (next h (e .cellNo)) ≡ false → (p : ℕ) → (kd ≡ picks → e .pick ≡ p) → p ≤ 1 → accepts kd e h ≡ true
+accept-unused stops e h u p q l = refl
+accept-unused picks e h u p q l = le-leb (e .pick) 1 (let z = q refl in omega arith)
+accept-unused allocates e h u p q l = rw u
+accept-unused other e h u p q l = refl
 
-kind-case {ℓ} : {C : Type ℓ} (kd : Kind) → (kd ≡ picks → C) → ((kd ≡ picks → ⊥) → C) → C
-kind-case stops f g = g (λ e. let z : _≡_ {A = ℕ} 0 1 = cc in omega arith)
-kind-case picks f g = f refl
-kind-case allocates f g = g (λ e. let z : _≡_ {A = ℕ} 0 1 = cc in omega arith)
-kind-case other f g = g (λ e. let z : _≡_ {A = ℕ} 0 1 = cc in omega arith)
+-- what is known of an edge by its way
+edge-guard : (s k : ℕ) (y : Way) (a : Answer) (E : Edge) → In E (edgeBy s k y a) → E .guard ≡ y .guard
+edge-guard s k y refused E i = absurd i
+edge-guard s k y stopped E i = absurd i
+edge-guard s k y (faulted f) E i = ap (λ (x : Edge). x .guard) (in-single E _ i)
+edge-guard s k y (went b t h) E i = ap (λ (x : Edge). x .guard) (in-single E _ i)
 
-pick-low : (kd : Kind) (p : ℕ) → In p (picksOf kd) → p ≤ 1
-pick-low stops p (inl e) = omega arith
-pick-low stops p (inr x) = absurd x
-pick-low picks p (inl e) = omega arith
-pick-low picks p (inr (inl e)) = omega arith
-pick-low picks p (inr (inr x)) = absurd x
-pick-low allocates p (inl e) = omega arith
-pick-low allocates p (inr x) = absurd x
-pick-low other p (inl e) = omega arith
-pick-low other p (inr x) = absurd x
-
--- a pick of the list that an accepted entry stands for
-pick-in : (op : Op) (kd : Kind) → kind op ≡ kd → (e : Entry) (h : Heap) → accepts kd e h ≡ true
-    → (p : ℕ) × In p (picksOf kd) × ((g : Heap) → branch op (e .pick) g ≡ branch op p g)
-pick-in op stops q e h a = (0, inl refl, λ g. branch-pick op (e .pick) 0 g (λ r. let z : stops ≡ picks = cc in absurd (let y : _≡_ {A = ℕ} 0 1 = cc in omega arith)))
-pick-in op picks q e h a = two (e .pick) (leb-true (e .pick) 1 a)
+edge-goes : (s k : ℕ) (y : Way) (st : Stmt) (E : Edge) → In E (edgeBy s k y (stepBy st k y)) → isStop (kind (st .op)) ≡ false
+edge-goes s k y st E i = bool-case (isStop (kind (st .op))) (λ e. absurd (none-left e)) (λ e. e)
   where
-    two : (n : ℕ) → n ≤ 1 → (p : ℕ) × In p (0 ∷ 1 ∷ []) × ((g : Heap) → branch op n g ≡ branch op p g)
-    two zero le = (0, inl refl, λ g. refl)
-    two (suc zero) le = (1, inr (inl refl), λ g. refl)
-    two (suc (suc n)) le = absurd (omega arith)
-pick-in op allocates q e h a = (0, inl refl, λ g. branch-pick op (e .pick) 0 g (λ r. let z : allocates ≡ picks = cc in absurd (let y : _≡_ {A = ℕ} 0 1 = cc in omega arith)))
-pick-in op other q e h a = (0, inl refl, λ g. branch-pick op (e .pick) 0 g (λ r. let z : other ≡ picks = cc in absurd (let y : _≡_ {A = ℕ} 0 1 = cc in omega arith)))
+    stop-case : (kd : Kind) (d : Entry) (h : Heap) (a : Answer) → isStop kd ≡ true → In E (edgeBy s k y (cond (accepts kd d h) (unlessStop kd a) refused)) → ⊥
+    stop-case stops d h a e j = j
+    stop-case picks d h a e j = clash e refl
+    stop-case allocates d h a e j = clash e refl
+    stop-case other d h a e j = clash e refl
 
--- only an accepted entry at a statement that is no stop makes a step
-pub made-goes : (q : State) (st : Stmt) (e : Entry) (h : Heap) (x : Step State) → made q (step st e h) ≡ some x
-    → (isStop (kind (st .op)) ≡ false) × (accepts (kind (st .op)) e h ≡ true)
-made-goes q st e h x m = bool-case (accepts (kind (st .op)) e h)
-    (λ a. bool-case (isStop (kind (st .op))) (λ s. some-none (sym (stop-none (kind (st .op)) (answerOf st (branch (st .op) (e .pick) h) (run (st .op) (e .cellNo) h)) s) ∙ (rw a at m))) (λ s. (s, a)))
-    (λ a. some-none (rw a at m))
-  where
-    stop-none : (kd : Kind) (a : Answer) → isStop kd ≡ true → made q (unlessStop kd a) ≡ none
-    stop-none stops a s = refl
-    stop-none picks a s = clash s refl
-    stop-none allocates a s = clash s refl
-    stop-none other a s = clash s refl
+    none-left : isStop (kind (st .op)) ≡ true → ⊥
+    none-left e =
+        let d : Entry = record { pick = y .pick; cellNo = k } in
+        stop-case (kind (st .op)) d (y .heap) (answerOf st (branch (st .op) (y .pick) (y .heap)) (run (st .op) k (y .heap))) e i
+
+choose-edge : (s k f t : ℕ) (h : Heap) → kept h ≡ true → (y : Way) (E : Edge) → In y (ways choose h)
+    → In E (edgeBy s k y (stepBy (record { op = choose; first = f; second = t }) k y)) → E .branchNo ≡ y .pick
+choose-edge s k f t h kt y E (inl e) j =
+    let j′ = subst (λ z. In E (edgeBy s k z (stepBy (record { op = choose; first = f; second = t }) k z))) e j in
+    ap (λ (x : Edge). x .branchNo) (in-single E _ (rw kt at j′)) ∙ ap (λ (z : Way). z .pick) (sym e)
+choose-edge s k f t h kt y E (inr (inl e)) j =
+    let j′ = subst (λ z. In E (edgeBy s k z (stepBy (record { op = choose; first = f; second = t }) k z))) e j in
+    ap (λ (x : Edge). x .branchNo) (in-single E _ (rw kt at j′)) ∙ ap (λ (z : Way). z .pick) (sym e)
+choose-edge s k f t h kt y E (inr (inr x)) j = absurd x
 
 not-undef : {C : Type 0} {n : ℕ} → _≡_ {A = Val} undef (cell n) → C
 not-undef {n = n} e = absurd (let z : _≡_ {A = ℕ} 0 1 = cc in omega arith)
@@ -192,3 +165,71 @@ module _ (s : ℕ) (st : Stmt) (H : Heap) (cl : ClosedHeap H) (kp : Kept H) wher
         ap (λ (y : Step State). y .branchNo) (sym z) ∙ L .branches,
         subst (λ (y : Step State). Fit (y .after) (r .0 .to) (map (worth (counters H)) (r .0 .updates))) z (L .fits),
       )
+
+  plain-branch : (p q : ℕ) → (kind op-of ≡ picks → p ≡ q) → branch op-of p H ≡ branch op-of q (shape H)
+  plain-branch p q h =
+      branch-same (shape H) (segAt (segments H)) H (start H cl kp) op-of p
+      ∙ kind-case (kind op-of) (λ e. ap (λ z. branch op-of z (shape H)) (h e)) (λ n. branch-pick op-of p q (shape H) n)
+
+  -- A way whose guard is on fits, for whichever cell; and its branch is that of each pick, or, at choose, of its own pick.
+  abbrev Ready : Way → ℕ → Type 0
+  Ready y c = Fits op-of nodes c y H (counters H) × (y .pick ≤ 1)
+      × ((p : ℕ) → (kind op-of ≡ picks → p ≡ y .pick) → branch op-of p H ≡ branch op-of (y .pick) (y .heap))
+
+  plain-ready : (v : Val) → access op-of (shape H) ≡ v → ((n : ℕ) → v ≡ cell n → ⊥) → (y : Way)
+      → In y (map (λ p. whole always p (shape H)) (picksOf (kind op-of))) → (c : ℕ) → Ready y c
+  plain-ready v a nv y i c =
+      let r = in-map (λ p. whole always p (shape H)) y (picksOf (kind op-of)) i in
+      subst (λ z. Ready z c) (sym (r .2)) (plain-fits v a nv c (r .0), pick-low (kind op-of) (r .0) (r .1), λ p h. plain-branch p (r .0) h)
+
+  way-ready : (v : Val) → access op-of (shape H) ≡ v → (y : Way) → In y (waysAt v op-of (shape H)) → guardOn (y .guard) (counters H) ≡ true → (c : ℕ) → Ready y c
+  way-ready null a y i on c = plain-ready null a (λ n z. no-access z) y i c
+  way-ready undef a y i on c = plain-ready undef a (λ n z. not-undef z) y i c
+  way-ready (cell n) a y (inl e) on c =
+      let f = access-facts op-of (shape H) n a in
+      subst (λ z. Ready z c) (sym e) (
+        one-fits H cl kp op-of c n a (sym (counter-same n a) ∙ eqb-true (getD (counters H) n 0) 1 (rw e at on)),
+        omega arith,
+        λ p h. f .1 p H ∙ sym (f .1 0 (shape H)),
+      )
+  way-ready (cell n) a y (inr (inl e)) on c =
+      let f = access-facts op-of (shape H) n a in
+      let z = counter-same n a in
+      let two : 2 ≤ getD (counters H) n 0 = leb-true 2 (getD (counters H) n 0) (rw e at on) in
+      subst (λ z. Ready z c) (sym e) (
+        two-fits H cl kp op-of c n a (omega arith),
+        omega arith,
+        λ p h. f .1 p H ∙ sym (f .1 0 (splitHeap n nodes (shape H))),
+      )
+  way-ready (cell n) a y (inr (inr x)) on c = absurd x
+
+  -- the way of an edge
+  edge-way : (E : Edge) → In E (edgesAt s st (shape H)) → (y : Way) × In y (ways op-of (shape H)) × In E (edgeBy s nodes y (stepBy st nodes y))
+  edge-way E i =
+      let r = in-joined E (map (λ z. edgeBy s nodes z (stepBy st nodes z)) (ways op-of (shape H))) i in
+      let q = in-map (λ z. edgeBy s nodes z (stepBy st nodes z)) (r .0) (ways op-of (shape H)) (r .1) in
+      (q .0, q .1, subst (In E) (q .2) (r .2))
+
+  -- at choose the branch of an edge is the pick of its way, since nothing is lost
+  choose-branch : (y : Way) (E : Edge) → kind op-of ≡ picks → In y (ways op-of (shape H)) → In E (edgeBy s nodes y (stepBy st nodes y)) → E .branchNo ≡ y .pick
+  choose-branch y E q i j =
+      let e = choose-is op-of q in
+      let z : st ≡ record { op = choose; first = st .first; second = st .second } = λ x. record { op = e x; first = st .first; second = st .second } in
+      choose-edge s nodes (st .first) (st .second) (shape H) (kept-test (shape H) (kept-down (shape H) (segAt (segments H)) H (start H cl kp) kp)) y E
+      (subst (λ (w : Stmt). In y (ways (w .op) (shape H))) z i) (subst (λ (w : Stmt). In E (edgeBy s nodes y (stepBy w nodes y))) z j)
+
+  -- each enabled edge is a step of the routine, fed the edge's branch and whichever cell that is not in use
+  pub leave-backward : (E : Edge) → In E (edgesAt s st (shape H)) → guardOn (E .guard) (counters H) ≡ true → (e : Entry) → e .pick ≡ E .branchNo
+      → inUse (next H (e .cellNo)) ≡ false
+      → (x : Step State) × (made (begin s H) (step st e H) ≡ some x) × (x .branchNo ≡ E .branchNo) × Fit (x .after) (E .to) (map (worth (counters H)) (E .updates))
+  leave-backward E i on e p u =
+      let w = edge-way E i in
+      let y = w .0 in
+      let R = way-ready (access op-of (shape H)) refl y (w .1) (ap (λ g. guardOn g (counters H)) (sym (edge-guard s nodes y (stepBy st nodes y) E (w .2))) ∙ on) (e .cellNo) in
+      let g : isStop (kind op-of) ≡ false = edge-goes s nodes y st E (w .2) in
+      let pk : kind op-of ≡ picks → e .pick ≡ y .pick = λ q. p ∙ choose-branch y E q (w .1) (w .2) in
+      let ac : accepts (kind op-of) e H ≡ true = accept-unused (kind op-of) e H u (y .pick) pk (R .1) in
+      let r = way-lands s st H cl kp y e g (R .0) (R .1) ac (R .2 (e .pick) pk) in
+      let z : E ≡ r .0 = in-single E (r .0) (subst (In E) (r .1) (w .2)) in
+      let L = r .3 in
+      (L .taken, L .isMade, L .branches ∙ ap (λ (x : Edge). x .branchNo) (sym z), subst (λ (x : Edge). Fit (L .taken .after) (x .to) (map (worth (counters H)) (x .updates))) (sym z) (L .fits))

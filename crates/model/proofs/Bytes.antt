@@ -1,0 +1,127 @@
+-- Bytes and two-byte numbers read back: values, words, updates, and the records of a table.
+use Prim.Native.Nat.{_%_, _*_, _+_, _-_, _/_, _<_, _^_, _≤_, suc, zero, ℕ}
+use mathlib.Core.Path.{_∙_, _≡_, ap, ap₂, refl, subst, sym}
+use mathlib.Core.Logic.{inl, inr}
+use mathlib.Core.Bool.{Bool, cond, false, true}
+use mathlib.Core.List.{List, [], _++_, _∷_, append-assoc, map}
+use native.Mathlib.Nat.{add-mul-mod-self-left, mod-add-div, mod-eq-of-lt, one-mul, pow-suc, zero-mul}
+use native.Mathlib.Omega.{arith}
+use lib.Dec.{eqb}
+use lib.ListN.{drop, getD, length, replicate, take, take-append-drop}
+use lib.Seq.{drop-append-add, take-at}
+use borrow.Author.Tests.{eqb-true, ne-eqb}
+use Rattle.model.specs.Base.{joined}
+use Rattle.model.specs.Edges.{Update}
+use Rattle.model.specs.Heap.{Val, cell, null, undef}
+use Rattle.model.specs.Records.{bits, recordAt, twoBytes, updateCode, valByte, valOf, word}
+use Rattle.model.specs.Runs.{added, applied}
+use Rattle.model.specs.Translate.{tableOf}
+use Rattle.model.proofs.Lists.{In, in-append-l, in-append-r}
+use Rattle.model.proofs.Logic.{bool-case}
+
+-- a value whose cell number, if it has one, is below k
+abbrev pub SmallVal : ℕ → Val → Type 0
+SmallVal k (cell n) = n < k
+SmallVal k null = Unit {0}
+SmallVal k undef = Unit {0}
+
+pub small-up : (j k : ℕ) (v : Val) → j ≤ k → SmallVal j v → SmallVal k v
+small-up j k (cell n) h s = omega arith
+small-up j k null h s = tt
+small-up j k undef h s = tt
+
+-- the byte of a value is read back as that value
+pub val-back : (v : Val) → SmallVal 0xfe v → valOf (valByte v) ≡ v
+val-back (cell n) h = rw (ne-eqb n 0xfe (λ e. omega arith), ne-eqb n 0xff (λ e. omega arith))
+val-back null h = refl
+val-back undef h = refl
+
+-- and a byte's value is written as that byte; this holds of any number
+pub byte-back : (b : ℕ) → valByte (valOf b) ≡ b
+byte-back b =
+    bool-case (eqb b 0xfe) (λ e. rw e (sym (eqb-true b 0xfe e)))
+    (λ e. bool-case (eqb b 0xff) (λ f. rw (e, f) (sym (eqb-true b 0xff f))) (λ f. rw (e, f)))
+
+-- two bytes are read back as their number
+pub word-back : (n : ℕ) → n % 256 + 256 * (n / 256) ≡ n
+word-back n = mod-add-div n 256
+
+pub word-at : (l : List ℕ) (n : ℕ) (m : List ℕ) → word (l ++ (twoBytes n ++ m)) (length l) ≡ n
+word-at [] n m = word-back n
+word-at (x ∷ l) n m = word-at l n m
+
+-- the counters that are flagged, added up
+abbrev pub flagged : List Bool → List ℕ → ℕ
+flagged [] cs = 0
+flagged (b ∷ fs) [] = 0
+flagged (b ∷ fs) (c ∷ cs) = cond b c 0 + flagged fs cs
+
+added-none : (cs : List ℕ) → added 0 cs ≡ 0
+added-none [] = refl
+added-none (c ∷ cs) = rw (zero-mul c, added-none cs)
+
+pub added-bits : (fs : List Bool) (cs : List ℕ) → added (bits fs) cs ≡ flagged fs cs
+added-bits [] cs = added-none cs
+added-bits (b ∷ fs) [] = refl
+added-bits (true ∷ fs) (c ∷ cs) =
+    let e : (1 + 2 * bits fs) / 2 ≡ bits fs = omega arith in
+    rw (add-mul-mod-self-left 1 2 (bits fs), one-mul c, e, added-bits fs cs)
+added-bits (false ∷ fs) (c ∷ cs) =
+    let e : (0 + 2 * bits fs) / 2 ≡ bits fs = omega arith in
+    rw (add-mul-mod-self-left 0 2 (bits fs), zero-mul c, e, added-bits fs cs)
+
+bits-pow : (n : ℕ) (fs : List Bool) → length fs ≤ n → bits fs < 2 ^ n
+bits-pow zero [] h = omega arith
+bits-pow zero (b ∷ fs) h = absurd (omega arith)
+bits-pow (suc n) [] h = rw (pow-suc 2 n) (omega (arith, bits-pow n [] (omega arith)))
+bits-pow (suc n) (true ∷ fs) h = rw (pow-suc 2 n) (omega (arith, bits-pow n fs (omega arith)))
+bits-pow (suc n) (false ∷ fs) h = rw (pow-suc 2 n) (omega (arith, bits-pow n fs (omega arith)))
+
+pub bits-below : (fs : List Bool) → length fs ≤ 12 → bits fs < 4096
+bits-below fs h = bits-pow 12 fs h
+
+-- an update's code, applied to the counters
+pub applied-code : (u : Update) (cs : List ℕ) → length (u .adds) ≤ 12 → u .plus ≤ 3
+    → applied cs (updateCode u) ≡ (flagged (u .adds) cs + u .plus) - 1
+applied-code u cs h k =
+    let b = bits-below (u .adds) h in
+    let m : updateCode u % 4096 ≡ bits (u .adds) = add-mul-mod-self-left (bits (u .adds)) 4096 (u .plus) ∙ mod-eq-of-lt b in
+    let d : updateCode u / 4096 ≡ u .plus = omega arith in
+    let p : u .plus % 4 ≡ u .plus = mod-eq-of-lt (omega arith) in
+    rw (m, d, p, added-bits (u .adds) cs)
+
+joined-record : (rs : List (List ℕ)) (z : List ℕ) (i : ℕ) → ((r : List ℕ) → In r rs → length r ≡ 32) → i < length rs
+    → take 32 (drop (32 * i) (joined rs ++ z)) ≡ getD rs i []
+joined-record [] z i h k = absurd (omega arith)
+joined-record (r ∷ rs) z zero h k = ap (take 32) (append-assoc r (joined rs) z) ∙ take-at r (joined rs ++ z) 32 (h r (inl refl))
+joined-record (r ∷ rs) z (suc i) h k =
+    let l = h r (inl refl) in
+    let e : 32 * suc i ≡ length r + 32 * i = omega arith in
+    ap₂ (λ n s. take 32 (drop n s)) e (append-assoc r (joined rs) z)
+    ∙ ap (take 32) (drop-append-add r (joined rs ++ z) (32 * i)) ∙ joined-record rs z i (λ x q. h x (inr q)) (omega arith)
+
+-- record i of a table is the one that was written at place i
+pub table-record : (n : ℕ) (rs : List (List ℕ)) (i : ℕ) → ((r : List ℕ) → In r rs → length r ≡ 32) → i < length rs
+    → recordAt (tableOf n rs) i ≡ getD rs i []
+table-record n rs i h k = joined-record rs (replicate (n - 32 * length rs) 0) i h k
+
+-- an element stands at a place, and each place has an element
+pub in-place : {A : Type 0} (d x : A) (l : List A) → In x l → (i : ℕ) × (i < length l) × (getD l i d ≡ x)
+in-place d x [] h = absurd h
+in-place d x (y ∷ l) (inl e) = (0, omega arith, sym e)
+in-place d x (y ∷ l) (inr h) = let r = in-place d x l h in (suc (r .0), omega arith, r .2)
+
+pub place-in : {A : Type 0} (d : A) (l : List A) (i : ℕ) → i < length l → In (getD l i d) l
+place-in d [] i h = absurd (omega arith)
+place-in d (x ∷ l) zero h = inl refl
+place-in d (x ∷ l) (suc i) h = inr (place-in d l i (omega arith))
+
+pub in-take : {A : Type 0} (x : A) (n : ℕ) (l : List A) → In x (take n l) → In x l
+in-take x n l h = subst (In x) (take-append-drop n l) (in-append-l x (take n l) (drop n l) h)
+
+pub in-drop : {A : Type 0} (x : A) (n : ℕ) (l : List A) → In x (drop n l) → In x l
+in-drop x n l h = subst (In x) (take-append-drop n l) (in-append-r x (take n l) (drop n l) h)
+
+pub map-back : {A B : Type 0} (f : A → B) (g : B → A) (l : List A) → ((x : A) → In x l → g (f x) ≡ x) → map g (map f l) ≡ l
+map-back f g [] h = refl
+map-back f g (x ∷ l) h = ap₂ _∷_ (h x (inl refl)) (map-back f g l (λ y q. h y (inr q)))
