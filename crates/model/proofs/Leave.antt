@@ -16,6 +16,7 @@ use Rattle.model.specs.Heap.{Heap, inUse, next}
 use Rattle.model.specs.Machine.{Answer, Effect, Entry, Kind, Stmt, accepts, allocates, answerOf, branch, done, fault, faulted, kind, other, picks, refused, run, step, stopped, stops, went}
 use Rattle.model.specs.Runs.{State, Status, Step, isStop, made, past, running}
 use Rattle.model.specs.Shape.{Seg, cells, counters, foldBy, segments, shape, size}
+use Rattle.model.proofs.Bytes.{flagged}
 use Rattle.model.proofs.Effects.{Room, sg-after}
 use Rattle.model.proofs.Facts.{unused-of}
 use Rattle.model.proofs.Folds.{Alls, Kept, counters-grow, fold-same, large-closed, total}
@@ -24,7 +25,7 @@ use Rattle.model.proofs.Sizes.{Neat, Short, neat, run-short}
 use Rattle.model.proofs.Step.{Agree, fault-alike, step-agree, step-go, went-alike}
 use Rattle.model.proofs.Walks.{ClosedHeap}
 use Rattle.model.proofs.Ways.{Fits, count-length}
-use Rattle.model.proofs.Weights.{Fair, flagged, update-value, weigh}
+use Rattle.model.proofs.Weights.{Fair, update-value, weigh}
 
 abbrev pub guardOn : Guard → List ℕ → Bool
 guardOn always cs = true

@@ -15,6 +15,12 @@ pub mod Canonical
 pub mod Unfold
 pub mod Iso
 pub mod SameShape
+pub mod Reach
+pub mod Segments
+pub mod Merge
+pub mod Bytes
+pub mod ReadBack
+pub mod ShapeBack
 pub mod Weights
 pub mod Sizes
 pub mod Step
@@ -22,3 +28,4 @@ pub mod Ways
 pub mod Leave
 pub mod Picks
 pub mod Location
+pub mod Guards

@@ -1,11 +1,12 @@
 -- Elements of lists: membership as a type, through map, append and join, and what `all` says of each element.
-use Prim.Native.Nat.{ℕ}
+use Prim.Native.Nat.{_≤_, ℕ}
 use mathlib.Core.Path.{_∙_, _≡_, ap, refl, subst}
 use mathlib.Core.Logic.{_⊎_, inl, inr}
 use mathlib.Core.Option.{Option, none, some}
 use mathlib.Core.Bool.{Bool, true}
 use mathlib.Core.List.{List, [], _++_, _∷_, map}
 use native.Mathlib.Omega.{arith}
+use lib.ListN.{length}
 use Rattle.model.specs.Base.{all, joined}
 use Rattle.model.proofs.Logic.{and-both, and-l, and-r}
 
@@ -60,3 +61,20 @@ some-none {x} e = absurd (let z : _≡_ {A = ℕ} 0 1 = cc in omega arith)
 
 pub some-inj : {A : Type 0} {x y : A} → _≡_ {A = Option A} (some x) (some y) → x ≡ y
 some-inj {x} {y} e = cc
+
+-- each two elements of a list, the earlier one first, are related
+abbrev pub Pairs : {A : Type 0} → (A → A → Type 0) → List A → Type 0
+Pairs R [] = Unit {0}
+Pairs R (x ∷ l) = ((y : _) → In y l → R x y) × Pairs R l
+
+pub pairs-few : {A : Type 0} (R : A → A → Type 0) (l : List A) → length l ≤ 1 → Pairs R l
+pairs-few R [] h = tt
+pairs-few R (x ∷ []) h = ((λ y i. absurd i), tt)
+pairs-few R (x ∷ y ∷ l) h = absurd (omega arith)
+
+pub pairs-append : {A : Type 0} (R : A → A → Type 0) (l m : List A) → Pairs R l → Pairs R m → ((x y : A) → In x l → In y m → R x y) → Pairs R (l ++ m)
+pairs-append R [] m p q h = q
+pairs-append R (x ∷ l) m p q h = (
+  (λ y i. in-append-cases y l m i (p .0 y) (h x y (inl refl))),
+  pairs-append R l m (p .1) q (λ z y i. h z y (inr i)),
+)

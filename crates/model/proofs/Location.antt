@@ -28,7 +28,7 @@ use Rattle.model.proofs.Step.{branch-same}
 use Rattle.model.proofs.Walks.{ClosedHeap}
 use Rattle.model.proofs.Ways.{Fits, access-facts, access-node, count-length, no-access, one-fits, size-at, two-fits, whole-fits}
 
-in-single : {A : Type 0} (x y : A) → In x (y ∷ []) → x ≡ y
+pub in-single : {A : Type 0} (x y : A) → In x (y ∷ []) → x ≡ y
 in-single x y (inl e) = e
 in-single x y (inr z) = absurd z
 
@@ -40,13 +40,13 @@ accept-unused allocates e h u p q l = rw u
 accept-unused other e h u p q l = refl
 
 -- what is known of an edge by its way
-edge-guard : (s k : ℕ) (y : Way) (a : Answer) (E : Edge) → In E (edgeBy s k y a) → E .guard ≡ y .guard
-edge-guard s k y refused E i = absurd i
-edge-guard s k y stopped E i = absurd i
-edge-guard s k y (faulted f) E i = ap (λ (x : Edge). x .guard) (in-single E _ i)
-edge-guard s k y (went b t h) E i = ap (λ (x : Edge). x .guard) (in-single E _ i)
+pub way-guard : (s k : ℕ) (y : Way) (a : Answer) (E : Edge) → In E (edgeBy s k y a) → E .guard ≡ y .guard
+way-guard s k y refused E i = absurd i
+way-guard s k y stopped E i = absurd i
+way-guard s k y (faulted f) E i = ap (λ (x : Edge). x .guard) (in-single E _ i)
+way-guard s k y (went b t h) E i = ap (λ (x : Edge). x .guard) (in-single E _ i)
 
-edge-goes : (s k : ℕ) (y : Way) (st : Stmt) (E : Edge) → In E (edgeBy s k y (stepBy st k y)) → isStop (kind (st .op)) ≡ false
+pub edge-goes : (s k : ℕ) (y : Way) (st : Stmt) (E : Edge) → In E (edgeBy s k y (stepBy st k y)) → isStop (kind (st .op)) ≡ false
 edge-goes s k y st E i = bool-case (isStop (kind (st .op))) (λ e. absurd (none-left e)) (λ e. e)
   where
     stop-case : (kd : Kind) (d : Entry) (h : Heap) (a : Answer) → isStop kd ≡ true → In E (edgeBy s k y (cond (accepts kd d h) (unlessStop kd a) refused)) → ⊥
@@ -60,7 +60,7 @@ edge-goes s k y st E i = bool-case (isStop (kind (st .op))) (λ e. absurd (none-
         let d : Entry = record { pick = y .pick; cellNo = k } in
         stop-case (kind (st .op)) d (y .heap) (answerOf st (branch (st .op) (y .pick) (y .heap)) (run (st .op) k (y .heap))) e i
 
-choose-edge : (s k f t : ℕ) (h : Heap) → kept h ≡ true → (y : Way) (E : Edge) → In y (ways choose h)
+pub choose-edge : (s k f t : ℕ) (h : Heap) → kept h ≡ true → (y : Way) (E : Edge) → In y (ways choose h)
     → In E (edgeBy s k y (stepBy (record { op = choose; first = f; second = t }) k y)) → E .branchNo ≡ y .pick
 choose-edge s k f t h kt y E (inl e) j =
     let j′ = subst (λ z. In E (edgeBy s k z (stepBy (record { op = choose; first = f; second = t }) k z))) e j in
@@ -225,7 +225,7 @@ module _ (s : ℕ) (st : Stmt) (H : Heap) (cl : ClosedHeap H) (kp : Kept H) wher
   leave-backward E i on e p u =
       let w = edge-way E i in
       let y = w .0 in
-      let R = way-ready (access op-of (shape H)) refl y (w .1) (ap (λ g. guardOn g (counters H)) (sym (edge-guard s nodes y (stepBy st nodes y) E (w .2))) ∙ on) (e .cellNo) in
+      let R = way-ready (access op-of (shape H)) refl y (w .1) (ap (λ g. guardOn g (counters H)) (sym (way-guard s nodes y (stepBy st nodes y) E (w .2))) ∙ on) (e .cellNo) in
       let g : isStop (kind op-of) ≡ false = edge-goes s nodes y st E (w .2) in
       let pk : kind op-of ≡ picks → e .pick ≡ y .pick = λ q. p ∙ choose-branch y E q (w .1) (w .2) in
       let ac : accepts (kind op-of) e H ≡ true = accept-unused (kind op-of) e H u (y .pick) pk (R .1) in

@@ -86,4 +86,3 @@ made-goes q st e h x m = bool-case (accepts (kind (st .op)) e h)
     stop-none picks a s = clash s refl
     stop-none allocates a s = clash s refl
     stop-none other a s = clash s refl
-

@@ -1,19 +1,19 @@
 -- A shape record that keeps the layout is written again as it stood, and its shape can be written and is closed.
-use Prim.Native.Nat.{_+_, _-_, _<_, _≤_, suc, ℕ}
+use Prim.Native.Nat.{_+_, _-_, _≤_, suc, ℕ}
 use mathlib.Core.Path.{_∙_, _≡_, ap, ap₂, refl, subst, sym}
-use mathlib.Core.Bool.{_&&_, true}
+use mathlib.Core.Bool.{_&&_, _||_, true}
 use mathlib.Core.List.{List, [], _++_, _∷_, map}
 use native.Mathlib.Omega.{arith}
 use lib.Dec.{eqb, leb, ltb}
 use lib.ListN.{drop, length, length-drop, length-map, replicate, take, take-append-drop}
 use lib.Seq.{length-take-le, take-add}
-use borrow.Author.Tests.{eqb-false, eqb-true, leb-true, ltb-true}
+use borrow.Author.Tests.{eqb-true, leb-true, ltb-true}
 use Rattle.model.specs.Base.{all}
 use Rattle.model.specs.Heap.{Slot, closed, holds, inUse}
 use Rattle.model.specs.Records.{byte, filled, isZero, layoutH, shapeOf, shapeRecord, slotByte, valByte, valOf, valueByte}
-use Rattle.model.proofs.Bytes.{SmallVal, byte-back, in-drop, in-take, map-back}
+use Rattle.model.proofs.Bytes.{SmallVal, byte-back, map-back}
 use Rattle.model.proofs.Lists.{In, all-in, in-append-l, in-append-r, in-map}
-use Rattle.model.proofs.Logic.{and-l, and-r, bool-case, or-cases}
+use Rattle.model.proofs.Logic.{and-l, and-r, bool-case, clash, or-cases}
 use Rattle.model.proofs.ReadBack.{SmallSlot, Writable, writable-closed}
 
 -- the bytes of a record that keeps the layout, from byte 4 on, for k nodes
@@ -79,12 +79,12 @@ module _ (k : ℕ) (w : List ℕ) (L : Laid k w) where
   value-ok : (b : ℕ) → In b (take 6 w ++ take k (drop 6 w)) → valueByte k b ≡ true
   value-ok b q = all-in (valueByte k) (take (6 + k) w) b (L .values) (subst (In b) (sym (take-add 6 k w)) q)
 
-value-small : (k b : ℕ) → b < 256 → valueByte k b ≡ true → SmallVal k (valOf b)
-value-small k b h q = bool-case (eqb b 0xfe) (λ e. rw e tt) (λ e. bool-case (eqb b 0xff) (λ f. rw (e, f) tt)
-    (λ f. rw (e, f) (or-cases (ltb b k) (leb 0xfe b) q (ltb-true b k)
-    (λ g. absurd (let ne = eqb-false b 0xfe e in let nf = eqb-false b 0xff f in omega (arith, leb-true 0xfe b g))))))
+value-small : (k b : ℕ) → valueByte k b ≡ true → SmallVal k (valOf b)
+value-small k b q = bool-case (eqb b 0xfe) (λ e. rw e tt) (λ e. bool-case (eqb b 0xff) (λ f. rw (e, f) tt)
+    (λ f. rw (e, f) (or-cases (ltb b k || eqb b 0xfe) (eqb b 0xff) q
+    (λ g. or-cases (ltb b k) (eqb b 0xfe) g (ltb-true b k) (λ z. clash z e)) (λ g. clash g f))))
 
--- an accepted shape record is what its shape is written as; no bound on its bytes is needed
+-- an accepted shape record is what its shape is written as
 module _ (r : List ℕ) (l : length r ≡ 32) (h : layoutH r ≡ true) where
   pub shape-record-back : shapeRecord (shapeOf r) ≡ r
   shape-record-back = let q = laid r l h in subst (λ x. shapeRecord (shapeOf x) ≡ x) (sym (q .1)) (laid-back (byte r 3) (q .0) (q .2))
@@ -104,27 +104,27 @@ module _ (r : List ℕ) (l : length r ≡ 32) (h : layoutH r ≡ true) where
   pub layout-used : (s : Slot) → In s (shapeOf r .slots) → inUse s ≡ true
   layout-used s q = let x = in-map (λ b. holds (valOf b)) s (take (byte r 3) (drop 10 r)) q in ap inUse (x .2)
 
-  -- and, where each byte is below 256, it can be written and is closed
-  pub layout-writable : ((b : ℕ) → In b r → b < 256) → Writable (shapeOf r)
-  layout-writable bytes =
+  -- and it can be written and is closed
+  pub layout-writable : Writable (shapeOf r)
+  layout-writable =
       let q = laid r l h in
       let k = byte r 3 in
       let w4 : drop 4 r ≡ q .0 = ap (drop 4) (q .1) in
       let w10 : drop 10 r ≡ drop 6 (q .0) = ap (drop 10) (q .1) in
-      let small : (b : ℕ) → In b r → In b (take 6 (q .0) ++ take k (drop 6 (q .0))) → SmallVal (length (shapeOf r .slots)) (valOf b) =
-      λ b x y. subst (λ n. SmallVal n (valOf b)) (sym layout-slots) (value-small k b (bytes b x) (value-ok k (q .0) (q .2) b y)) in
+      let small : (b : ℕ) → In b (take 6 (q .0) ++ take k (drop 6 (q .0))) → SmallVal (length (shapeOf r .slots)) (valOf b) =
+      λ b y. subst (λ n. SmallVal n (valOf b)) (sym layout-slots) (value-small k b (value-ok k (q .0) (q .2) b y)) in
       record {
         six = layout-pointers;
         few = rw layout-slots layout-few;
         pointers = λ v x.
             let y = in-map valOf v (take 6 (drop 4 r)) x in
-            subst (SmallVal (length (shapeOf r .slots))) (sym (y .2)) (small (y .0) (in-drop (y .0) 4 r (in-take (y .0) 6 (drop 4 r) (y .1)))
+            subst (SmallVal (length (shapeOf r .slots))) (sym (y .2)) (small (y .0)
             (in-append-l (y .0) (take 6 (q .0)) (take k (drop 6 (q .0))) (subst (λ m. In (y .0) (take 6 m)) w4 (y .1))));
         nexts = λ s x.
             let y = in-map (λ b. holds (valOf b)) s (take k (drop 10 r)) x in
-            subst (SmallSlot (length (shapeOf r .slots))) (sym (y .2)) (small (y .0) (in-drop (y .0) 10 r (in-take (y .0) k (drop 10 r) (y .1)))
+            subst (SmallSlot (length (shapeOf r .slots))) (sym (y .2)) (small (y .0)
             (in-append-r (y .0) (take 6 (q .0)) (take k (drop 6 (q .0))) (subst (λ m. In (y .0) (take k m)) w10 (y .1))));
       }
 
-  pub layout-closed : ((b : ℕ) → In b r → b < 256) → closed (shapeOf r) ≡ true
-  layout-closed bytes = writable-closed (shapeOf r) (layout-writable bytes)
+  pub layout-closed : closed (shapeOf r) ≡ true
+  layout-closed = writable-closed (shapeOf r) layout-writable

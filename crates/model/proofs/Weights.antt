@@ -13,18 +13,13 @@ use borrow.Author.Tests.{eq-eqb, ne-eqb}
 use Rattle.model.specs.Base.{any, count, mem, numbers, sum}
 use Rattle.model.specs.Edges.{Weight, addsCounter, counter, isOneCell, isRest, one, rest, updateOf}
 use Rattle.model.specs.Shape.{Seg, cells}
+use Rattle.model.proofs.Bytes.{flagged}
 use Rattle.model.proofs.Logic.{NoDup, bool-case, clash, eqb-same, mem-here, mem-there, not-true, or-cases}
 
 abbrev pub weigh : List ℕ → Weight → ℕ
 weigh cs (counter n) = getD cs n 1
 weigh cs one = 1
 weigh cs (rest n) = getD cs n 1 - 1
-
--- the sum of the counters whose flag is set
-abbrev pub flagged : List Bool → List ℕ → ℕ
-flagged [] cs = 0
-flagged (b ∷ fs) [] = 0
-flagged (b ∷ fs) (c ∷ cs) = cond b c 0 + flagged fs cs
 
 -- sums of flagged counters, the flags given by a test of the numbers from j on
 flags-none : (f : ℕ → Bool) (j : ℕ) (cs : List ℕ) → ((i : ℕ) → f i ≡ false) → flagged (map f (numbers j (length cs))) cs ≡ 0

@@ -144,7 +144,7 @@ refusalS n r = cond (ltb 11 (byte r 1)) 5 (cond (fieldsS r) (cond (targetsS n r)
 
 -- a byte that is a value in a shape of k nodes
 abbrev pub valueByte : ℕ → ℕ → Bool
-valueByte k b = ltb b k || leb 0xfe b
+valueByte k b = ltb b k || eqb b 0xfe || eqb b 0xff
 
 -- "8: breaks the layout"
 abbrev pub layoutH : List ℕ → Bool
