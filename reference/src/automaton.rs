@@ -120,11 +120,12 @@ impl Automaton {
         let target = &self.locations[edge.to];
         let mut counters = [0; NODES];
         if target[2] == 0 {
-            for new in 0..usize::from(target[3]) {
-                let sum = added(edge.updates[new], &at.counters);
+            let nodes = usize::from(target[3]).min(NODES);
+            for (counter, &update) in counters[..nodes].iter_mut().zip(&edge.updates) {
+                let sum = added(update, &at.counters);
                 // The constant is kept with one added to it. Tables that are
                 // wrong may go below 0 here; they are found out afterwards.
-                counters[new] = (sum + u64::from(edge.updates[new] >> 12)).wrapping_sub(1);
+                *counter = (sum + u64::from(update >> 12)).wrapping_sub(1);
             }
         }
         at.location = edge.to;

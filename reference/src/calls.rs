@@ -40,12 +40,7 @@ pub fn fold(pointers: &[u8], cells: &[u8]) -> Folded {
 /// Unfolds a shape with counters into a lent heap image, whose contents do
 /// not matter. Answers 0, or the refusal 13, 8, 9 or 15; then nothing is
 /// written.
-pub fn unfold(
-    record: &[u8],
-    counters: &[u32; NODES],
-    pointers: &mut [u8],
-    cells: &mut [u8],
-) -> u8 {
+pub fn unfold(record: &[u8], counters: &[u32; NODES], pointers: &mut [u8], cells: &mut [u8]) -> u8 {
     if !lengths_fit(pointers, cells) {
         return 13;
     }

@@ -174,7 +174,11 @@ fn run_selftest(words: &[&str]) -> Result<Answer, String> {
             ("--seed", Some(number)) => seed = number,
             ("--routines", Some(number)) => routines = number,
             ("--seed" | "--routines", None) => return Err(format!("{flag} asks for a number")),
-            _ => return Err(format!("no option '{flag}'; see 'reference selftest --help'")),
+            _ => {
+                return Err(format!(
+                    "no option '{flag}'; see 'reference selftest --help'"
+                ))
+            }
         }
     }
     let (status, text) = match selftest::run(seed, routines) {

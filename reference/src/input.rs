@@ -52,7 +52,7 @@ pub fn read_routine(input: &[u8]) -> Result<Routine, Refusal> {
 }
 
 fn split_records(input: &[u8]) -> Result<Vec<Record>, Refusal> {
-    if input.is_empty() || input.len() % RECORD != 0 {
+    if input.is_empty() || !input.len().is_multiple_of(RECORD) {
         return refuse(1, 0);
     }
     let as_record = |bytes: &[u8]| Record::try_from(bytes).expect("32 bytes");

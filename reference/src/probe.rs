@@ -87,10 +87,10 @@ fn infer(place: &Record, statement: &Statement, case: &Case) -> Found {
         raised[old] += 1;
         let second = probe(place, statement, case, &raised);
         expect_alike(&first, &second);
-        for new in 0..NODES {
+        for (new, added) in added.iter_mut().enumerate() {
             match second.counters[new].wrapping_sub(first.counters[new]) {
                 0 => {}
-                1 => added[new] |= 1 << old,
+                1 => *added |= 1 << old,
                 _ => panic!("counter {new} does not follow counter {old} by one"),
             }
         }

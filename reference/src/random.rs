@@ -29,7 +29,7 @@ impl Random {
     }
 
     /// A number from `low` to `high`, both included.
-    pub fn from_to(&mut self, low: usize, high: usize) -> usize {
+    pub fn between(&mut self, low: usize, high: usize) -> usize {
         low + self.below(high - low + 1)
     }
 
@@ -67,7 +67,7 @@ pub fn random_heap(random: &mut Random, most: usize) -> Heap {
         return many_nodes(random, most);
     }
     let mut heap = Heap::empty();
-    let cells = random.from_to(0, most);
+    let cells = random.between(0, most);
     // Long chains, or else many shared cells and rings.
     let chain = [10, 50, 90, 97][random.below(4)];
     for cell in 0..cells {
@@ -103,16 +103,13 @@ fn many_nodes(random: &mut Random, most: usize) -> Heap {
     let mut heap = Heap::empty();
     let mut nexts: Vec<usize> = (12..24).map(|holder| 6 + (holder - 12) / 2).collect();
     random.shuffle(&mut nexts);
-    heap.cells = nexts
-        .iter()
-        .map(|&next| Some(Value::Cell(next)))
-        .collect();
+    heap.cells = nexts.iter().map(|&next| Some(Value::Cell(next))).collect();
     for pointer in 0..POINTERS {
         heap.pointers[pointer] = Value::Cell(pointer);
     }
     random.shuffle(&mut heap.pointers);
     drop_lost_cells(&mut heap);
-    let longer = random.from_to(0, most - 12);
+    let longer = random.between(0, most - 12);
     for _ in 0..longer {
         let after = random.below(heap.cells.len());
         if let Some(next) = heap.cells[after] {
@@ -178,11 +175,11 @@ pub fn random_routine(random: &mut Random) -> Drawn {
         return ring_walk(random);
     }
     let (statements, shapes) = match random.below(100) {
-        0..=69 => (random.from_to(1, 8), random.from_to(1, 3)),
-        70..=94 => (random.from_to(6, 24), random.from_to(1, 5)),
-        _ => (random.from_to(25, 64), random.from_to(1, 16)),
+        0..=69 => (random.between(1, 8), random.between(1, 3)),
+        70..=94 => (random.between(6, 24), random.between(1, 5)),
+        _ => (random.between(25, 64), random.between(1, 16)),
     };
-    let pointers = random.from_to(1, POINTERS);
+    let pointers = random.between(1, POINTERS);
     let weights = OP_WEIGHTS[random.weighted(&[5, 2, 3])];
     let statements = (0..statements)
         .map(|number| random_statement(random, number, statements, pointers, &weights))
@@ -205,16 +202,20 @@ const OP_WEIGHTS: [[usize; 12]; 3] = [
 /// each other in very many ways.
 fn ring_walk(random: &mut Random) -> Drawn {
     const WEIGHTS: [usize; 12] = [0, 0, 1, 8, 0, 1, 0, 0, 1, 1, 6, 1];
-    let count = random.from_to(3, 12);
+    let count = random.between(3, 12);
     // The last pointer keeps all cells reachable and is never moved.
-    let pointers = random.from_to(2, POINTERS - 1);
+    let pointers = random.between(2, POINTERS - 1);
     let statements = (0..count)
         .map(|number| random_statement(random, number, count, pointers, &WEIGHTS))
         .collect();
     let mut heap = Heap::empty();
-    let cells = random.from_to(1, 8);
+    let cells = random.between(1, 8);
     for cell in 0..cells {
-        let next = if cell + 1 < cells { cell + 1 } else { random.below(cells) };
+        let next = if cell + 1 < cells {
+            cell + 1
+        } else {
+            random.below(cells)
+        };
         heap.cells.push(Some(Value::Cell(next)));
     }
     heap.pointers = heap.pointers.map(|_| Value::Cell(random.below(cells)));
@@ -255,7 +256,7 @@ pub fn random_statement(
 fn random_shapes(random: &mut Random, count: usize) -> Vec<Record> {
     let mut shapes: Vec<Record> = Vec::new();
     for _ in 0..count {
-        let most = random.from_to(0, 18);
+        let most = random.between(0, 18);
         let (shape, _) = fold_heap(&random_heap(random, most));
         if !shapes.contains(&shape) {
             shapes.push(shape);

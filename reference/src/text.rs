@@ -158,9 +158,10 @@ fn from_hex(word: &str) -> Result<Vec<u8>, String> {
         .map(|digit| digit.to_digit(16).map(|digit| digit as u8))
         .collect();
     match digits {
-        Some(digits) if digits.len() % 2 == 0 => {
-            Ok(digits.chunks(2).map(|pair| pair[0] << 4 | pair[1]).collect())
-        }
+        Some(digits) if digits.len() % 2 == 0 => Ok(digits
+            .chunks(2)
+            .map(|pair| pair[0] << 4 | pair[1])
+            .collect()),
         _ => Err(format!("'{word}' is not made of pairs of hex digits")),
     }
 }

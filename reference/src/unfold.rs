@@ -30,7 +30,8 @@ pub fn unfold_shape(record: &Record, counters: &Counters) -> Heap {
         for cell in heads[node]..last {
             heap.cells.push(Some(Value::Cell(cell + 1)));
         }
-        heap.cells.push(Some(in_cells(successor_byte(record, node))));
+        heap.cells
+            .push(Some(in_cells(successor_byte(record, node))));
     }
     heap
 }

@@ -108,7 +108,10 @@ fn translate_reads_at_most_4096_bytes() {
     check(&["translate"], &long, 1, "refused 3 0\n");
     long.resize(200_000, 0);
     assert_eq!(run(&["translate"], &long).output, "refused 3 0\n");
-    assert_eq!(run_in_pieces(&["translate"], &long[..4300], 1).output, "refused 3 0\n");
+    assert_eq!(
+        run_in_pieces(&["translate"], &long[..4300], 1).output,
+        "refused 3 0\n"
+    );
 }
 
 #[test]
@@ -118,14 +121,24 @@ fn fold_and_unfold() {
     let folded = format!("record {record}\ncounters 2 0 0 0 0 0 0 0 0 0 0 0\n");
     check(&["fold"], heap, 0, &folded);
     let unfolded = "pointers 0 null null null undef null\ncells 1 null unused\n";
-    check(&["unfold"], (folded.clone() + "length 3\n").as_bytes(), 0, unfolded);
+    check(
+        &["unfold"],
+        (folded.clone() + "length 3\n").as_bytes(),
+        0,
+        unfolded,
+    );
     let lent = "pointers 9 9 9 9 9 9\ncells 7 undef null # any\n";
     check(&["unfold"], (folded.clone() + lent).as_bytes(), 0, unfolded);
     let few = format!("record {record}\ncounters 2\nlength 1\n");
     check(&["unfold"], few.as_bytes(), 1, "refused 15 0\n");
     let many = format!("record {record}\ncounters 2\nlength 241\n");
     check(&["unfold"], many.as_bytes(), 1, "refused 13 0\n");
-    check(&["unfold"], b"record 48\ncounters\nlength 0", 1, "refused 8 0\n");
+    check(
+        &["unfold"],
+        b"record 48\ncounters\nlength 0",
+        1,
+        "refused 8 0\n",
+    );
     check(&["fold"], b"pointers\ncells\n", 1, "refused 13 0\n");
     let lost = b"pointers null null null null null null\r\ncells 0\r\n";
     check(&["fold"], lost, 1, "refused 14 0\n");
@@ -159,9 +172,17 @@ fn bad_text_is_named_by_its_line() {
     check_wrong(&["fold"], b"pointers 253\ncells\n", "line 1: '253'");
     check_wrong(&["fold"], b"pointers 0\n", "no line 'cells'");
     check_wrong(&["fold"], b"cells\nrecord 00\n", "line 2: 'record'");
-    check_wrong(&["fold"], b"cells\ncells\n", "line 2: 'cells' stands in line 1");
+    check_wrong(
+        &["fold"],
+        b"cells\ncells\n",
+        "line 2: 'cells' stands in line 1",
+    );
     check_wrong(&["fold"], b"cells\n\xff\n", "line 2: not plain text");
-    check_wrong(&["unfold"], b"record 0\n", "line 1: '0' is not made of pairs");
+    check_wrong(
+        &["unfold"],
+        b"record 0\n",
+        "line 1: '0' is not made of pairs",
+    );
     check_wrong(&["unfold"], b"record zz\n", "line 1: 'zz'");
     let both = b"record 00\ncounters\nlength 1\ncells\n";
     check_wrong(&["unfold"], both, "'length' stands beside");
@@ -179,7 +200,11 @@ fn wrong_usage() {
     check_wrong(&["translate", "x"], b"", "'x' is not expected");
     check_wrong(&["fold", "x"], b"", "reference fold --help");
     check_wrong(&["selftest", "--seed"], b"", "--seed asks for a number");
-    check_wrong(&["selftest", "--seed", "x"], b"", "--seed asks for a number");
+    check_wrong(
+        &["selftest", "--seed", "x"],
+        b"",
+        "--seed asks for a number",
+    );
     check_wrong(&["selftest", "--speed", "1"], b"", "no option '--speed'");
 }
 

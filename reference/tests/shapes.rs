@@ -84,5 +84,8 @@ fn twelve_nodes() {
     );
     assert_eq!(refusal, 0);
     let folded = reference::fold(&to_pointers, &to_cells);
-    assert_eq!((folded.record, folded.counters), (h(held, &successors), [20; 12]));
+    assert_eq!(
+        (folded.record, folded.counters),
+        (h(held, &successors), [20; 12])
+    );
 }

@@ -1,23 +1,23 @@
--- Bytes and two-byte numbers read back: values, words, updates, and the records of a table.
+-- Bytes and two-byte numbers read back: values, words, updates, and the records of a table; elements of a list by place.
 use Prim.Native.Nat.{_%_, _*_, _+_, _-_, _/_, _<_, _^_, _≤_, suc, zero, ℕ}
-use mathlib.Core.Path.{_∙_, _≡_, ap, ap₂, refl, subst, sym}
+use mathlib.Core.Path.{_∙_, _≡_, ap, ap₂, refl, sym}
 use mathlib.Core.Logic.{inl, inr}
 use mathlib.Core.Bool.{Bool, cond, false, true}
 use mathlib.Core.List.{List, [], _++_, _∷_, append-assoc, map}
 use native.Mathlib.Nat.{add-mul-mod-self-left, mod-add-div, mod-eq-of-lt, one-mul, pow-suc, zero-mul}
 use native.Mathlib.Omega.{arith}
 use lib.Dec.{eqb}
-use lib.ListN.{drop, getD, length, replicate, take, take-append-drop}
+use lib.ListN.{drop, getD, length, replicate, take}
 use lib.Seq.{drop-append-add, take-at}
 use borrow.Author.Tests.{eqb-true, ne-eqb}
-use Rattle.model.specs.Base.{joined}
+use Rattle.model.specs.Base.{all, joined}
 use Rattle.model.specs.Edges.{Update}
 use Rattle.model.specs.Heap.{Val, cell, null, undef}
-use Rattle.model.specs.Records.{bits, recordAt, twoBytes, updateCode, valByte, valOf, word}
+use Rattle.model.specs.Records.{bits, isZero, recordAt, twoBytes, updateCode, valByte, valOf, word}
 use Rattle.model.specs.Runs.{added, applied}
 use Rattle.model.specs.Translate.{tableOf}
-use Rattle.model.proofs.Lists.{In, in-append-l, in-append-r}
-use Rattle.model.proofs.Logic.{bool-case}
+use Rattle.model.proofs.Lists.{In}
+use Rattle.model.proofs.Logic.{and-l, and-r, bool-case}
 
 -- a value whose cell number, if it has one, is below k
 abbrev pub SmallVal : ℕ → Val → Type 0
@@ -106,22 +106,11 @@ pub table-record : (n : ℕ) (rs : List (List ℕ)) (i : ℕ) → ((r : List ℕ
 table-record n rs i h k = joined-record rs (replicate (n - 32 * length rs) 0) i h k
 
 -- an element stands at a place, and each place has an element
-pub in-place : {A : Type 0} (d x : A) (l : List A) → In x l → (i : ℕ) × (i < length l) × (getD l i d ≡ x)
-in-place d x [] h = absurd h
-in-place d x (y ∷ l) (inl e) = (0, omega arith, sym e)
-in-place d x (y ∷ l) (inr h) = let r = in-place d x l h in (suc (r .0), omega arith, r .2)
-
-pub place-in : {A : Type 0} (d : A) (l : List A) (i : ℕ) → i < length l → In (getD l i d) l
-place-in d [] i h = absurd (omega arith)
-place-in d (x ∷ l) zero h = inl refl
-place-in d (x ∷ l) (suc i) h = inr (place-in d l i (omega arith))
-
-pub in-take : {A : Type 0} (x : A) (n : ℕ) (l : List A) → In x (take n l) → In x l
-in-take x n l h = subst (In x) (take-append-drop n l) (in-append-l x (take n l) (drop n l) h)
-
-pub in-drop : {A : Type 0} (x : A) (n : ℕ) (l : List A) → In x (drop n l) → In x l
-in-drop x n l h = subst (In x) (take-append-drop n l) (in-append-r x (take n l) (drop n l) h)
-
 pub map-back : {A B : Type 0} (f : A → B) (g : B → A) (l : List A) → ((x : A) → In x l → g (f x) ≡ x) → map g (map f l) ≡ l
 map-back f g [] h = refl
 map-back f g (x ∷ l) h = ap₂ _∷_ (h x (inl refl)) (map-back f g l (λ y q. h y (inr q)))
+
+-- bytes that are all zero
+pub all-zero : (l : List ℕ) → all isZero l ≡ true → l ≡ replicate (length l) 0
+all-zero [] h = refl
+all-zero (x ∷ l) h = ap₂ _∷_ (eqb-true x 0 (and-l (isZero x) (all isZero l) h)) (all-zero l (and-r (isZero x) (all isZero l) h))

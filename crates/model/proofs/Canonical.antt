@@ -1,31 +1,21 @@
 -- The test `canonical` of a shape is true exactly for the shapes: every node reachable, every node core, and numbered as the walk visits them.
 use Prim.Native.Nat.{_+_, _<_, _≤_, suc, zero, ℕ}
-use mathlib.Core.Path.{_∙_, _≡_, ap, ap₂, refl}
+use mathlib.Core.Path.{_∙_, _≡_, ap, refl}
 use mathlib.Core.Logic.{_↔_}
 use mathlib.Core.Bool.{Bool, _&&_, true}
-use mathlib.Core.List.{List, [], _∷_}
 use native.Mathlib.Omega.{arith}
 use lib.Dec.{eqb}
 use lib.ListN.{length}
-use borrow.Author.Tests.{eqb-false, eqb-true}
+use borrow.Author.Tests.{eqb-false}
 use Rattle.model.specs.Base.{all, numbers, sameList}
-use Rattle.model.specs.Heap.{Heap, kept, order}
+use Rattle.model.specs.Heap.{Heap, closed, kept, order}
 use Rattle.model.specs.Shape.{allCore, canonical, core, numbered}
 use Rattle.model.proofs.Canon.{Canon}
 use Rattle.model.proofs.Facts.{kept-test, test-kept}
 use Rattle.model.proofs.Folds.{Kept}
-use Rattle.model.proofs.Logic.{and-both, and-l, and-r, clash, eq-case, eqb-same}
+use Rattle.model.proofs.Logic.{and-both, and-l, and-r, eq-case}
+use Rattle.model.proofs.Same.{bytes-same, same-bytes-refl}
 use Rattle.model.proofs.Walks.{ClosedHeap}
-
-same-list-eq : (l m : List ℕ) → sameList eqb l m ≡ true → l ≡ m
-same-list-eq [] [] h = refl
-same-list-eq [] (y ∷ m) h = clash h refl
-same-list-eq (x ∷ l) [] h = clash h refl
-same-list-eq (x ∷ l) (y ∷ m) h = ap₂ _∷_ (eqb-true x y (and-l (eqb x y) (sameList eqb l m) h)) (same-list-eq l m (and-r (eqb x y) (sameList eqb l m) h))
-
-same-list-self : (l : List ℕ) → sameList eqb l l ≡ true
-same-list-self [] = refl
-same-list-self (x ∷ l) = and-both (eqb x x) (sameList eqb l l) (eqb-same x) (same-list-self l)
 
 -- a test of n numbers from i on
 all-numbers : (p : ℕ → Bool) (i n : ℕ) → all p (numbers i n) ≡ true → (j : ℕ) → i ≤ j → j < i + n → p j ≡ true
@@ -47,10 +37,10 @@ core-test : (h : Heap) → ((n : ℕ) → n < length (h .slots) → core h n ≡
 core-test h k = numbers-all (core h) 0 (length (h .slots)) (λ n lo hi. k n (omega arith))
 
 test-numbered : (h : Heap) → numbered h ≡ true → order h ≡ numbers 0 (length (h .slots))
-test-numbered h e = same-list-eq (order h) (numbers 0 (length (h .slots))) e
+test-numbered h e = bytes-same (order h) (numbers 0 (length (h .slots))) e
 
 numbered-test : (h : Heap) → order h ≡ numbers 0 (length (h .slots)) → numbered h ≡ true
-numbered-test h e = ap (λ l. sameList eqb l (numbers 0 (length (h .slots)))) e ∙ same-list-self (numbers 0 (length (h .slots)))
+numbered-test h e = ap (λ l. sameList eqb l (numbers 0 (length (h .slots)))) e ∙ same-bytes-refl (numbers 0 (length (h .slots)))
 
 -- canonical means: every node is reachable, every node is core, and the nodes are numbered as the walk visits them
 pub canonical-is : (h : Heap)

@@ -11,6 +11,7 @@ pub mod Facts
 pub mod Effects
 pub mod Bound
 pub mod Canon
+pub mod Same
 pub mod Canonical
 pub mod Unfold
 pub mod Iso
@@ -21,6 +22,7 @@ pub mod Merge
 pub mod Bytes
 pub mod ReadBack
 pub mod ShapeBack
+pub mod Statements
 pub mod Weights
 pub mod Sizes
 pub mod Step
@@ -29,3 +31,6 @@ pub mod Leave
 pub mod Picks
 pub mod Location
 pub mod Guards
+pub mod Listing
+pub mod Exact
+pub mod Places

@@ -1,12 +1,12 @@
 -- Elements of lists: membership as a type, through map, append and join, and what `all` says of each element.
-use Prim.Native.Nat.{_≤_, ℕ}
-use mathlib.Core.Path.{_∙_, _≡_, ap, refl, subst}
+use Prim.Native.Nat.{_<_, _≤_, suc, zero, ℕ}
+use mathlib.Core.Path.{_∙_, _≡_, ap, refl, subst, sym}
 use mathlib.Core.Logic.{_⊎_, inl, inr}
 use mathlib.Core.Option.{Option, none, some}
 use mathlib.Core.Bool.{Bool, true}
 use mathlib.Core.List.{List, [], _++_, _∷_, map}
 use native.Mathlib.Omega.{arith}
-use lib.ListN.{length}
+use lib.ListN.{getD, length}
 use Rattle.model.specs.Base.{all, joined}
 use Rattle.model.proofs.Logic.{and-both, and-l, and-r}
 
@@ -78,3 +78,13 @@ pairs-append R (x ∷ l) m p q h = (
   (λ y i. in-append-cases y l m i (p .0 y) (h x y (inl refl))),
   pairs-append R l m (p .1) q (λ z y i. h z y (inr i)),
 )
+
+pub getD-in : {A : Type 0} (l : List A) (d : A) (i : ℕ) → i < length l → In (getD l i d) l
+getD-in [] d i h = absurd (omega arith)
+getD-in (x ∷ l) d zero h = inl refl
+getD-in (x ∷ l) d (suc i) h = inr (getD-in l d i (omega arith))
+
+pub in-getD : {A : Type 0} (l : List A) (d x : A) → In x l → (i : ℕ) × (i < length l) × (getD l i d ≡ x)
+in-getD [] d x h = absurd h
+in-getD (y ∷ l) d x (inl e) = (0, omega arith, sym e)
+in-getD (y ∷ l) d x (inr h) = let r = in-getD l d x h in (suc (r .0), omega arith, r .2)

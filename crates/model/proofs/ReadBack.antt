@@ -15,9 +15,9 @@ use Rattle.model.specs.Records.{byte, edgeRecord, filled, guardBytes, lo
 use Rattle.model.specs.Runs.{updatesOf}
 use Rattle.model.specs.Shape.{Seg, last, nodeSlot, nodeVal, segments}
 use Rattle.model.proofs.Bound.{few-nodes}
-use Rattle.model.proofs.Bytes.{SmallVal, in-place, map-back, place-in, small-up, val-back, word-back}
+use Rattle.model.proofs.Bytes.{SmallVal, map-back, small-up, val-back, word-back}
 use Rattle.model.proofs.Canon.{Canon, canon-fold}
-use Rattle.model.proofs.Lists.{In, all-of}
+use Rattle.model.proofs.Lists.{In, all-of, getD-in, in-getD}
 use Rattle.model.proofs.Logic.{and-both}
 use Rattle.model.proofs.Order.{used-below}
 use Rattle.model.proofs.Start.{end, slot-at}
@@ -62,7 +62,7 @@ canon-writable h C p = record {
   few = omega (arith, few-nodes h (C .closed) (C .kept), canon-count h C);
   pointers = λ v q. closed-small h v (closed-in (next h) (h .ptrs) v (C .closed .0) q);
   nexts = λ s q.
-      let r = in-place unused s (h .slots) q in
+      let r = in-getD (h .slots) unused s q in
       let u = canon-used h C (r .0) (r .1) in
       subst (SmallSlot (length (h .slots))) (sym (u .1) ∙ r .2) (closed-small h (u .0) (C .closed .1 (r .0) (u .0) (u .1)));
 }
@@ -74,7 +74,7 @@ small-used k (holds v) q = refl
 -- and what can be written is closed
 module _ (h : Heap) (W : Writable h) where
   pub writable-used : (n : ℕ) → n < length (h .slots) → inUse (next h n) ≡ true
-  writable-used n q = small-used (length (h .slots)) (next h n) (W .nexts (next h n) (place-in unused (h .slots) n q))
+  writable-used n q = small-used (length (h .slots)) (next h n) (W .nexts (next h n) (getD-in (h .slots) unused n q))
 
   small-named : (v : Val) → SmallVal (length (h .slots)) v → named (next h) v ≡ true
   small-named (cell n) q = writable-used n q

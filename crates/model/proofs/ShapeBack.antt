@@ -1,6 +1,6 @@
 -- A shape record that keeps the layout is written again as it stood, and its shape can be written and is closed.
 use Prim.Native.Nat.{_+_, _-_, _≤_, suc, ℕ}
-use mathlib.Core.Path.{_∙_, _≡_, ap, ap₂, refl, subst, sym}
+use mathlib.Core.Path.{_∙_, _≡_, ap, ap₂, subst, sym}
 use mathlib.Core.Bool.{_&&_, _||_, true}
 use mathlib.Core.List.{List, [], _++_, _∷_, map}
 use native.Mathlib.Omega.{arith}
@@ -11,7 +11,7 @@ use borrow.Author.Tests.{eqb-true, leb-true, ltb-true}
 use Rattle.model.specs.Base.{all}
 use Rattle.model.specs.Heap.{Slot, closed, holds, inUse}
 use Rattle.model.specs.Records.{byte, filled, isZero, layoutH, shapeOf, shapeRecord, slotByte, valByte, valOf, valueByte}
-use Rattle.model.proofs.Bytes.{SmallVal, byte-back, map-back}
+use Rattle.model.proofs.Bytes.{SmallVal, all-zero, byte-back, map-back}
 use Rattle.model.proofs.Lists.{In, all-in, in-append-l, in-append-r, in-map}
 use Rattle.model.proofs.Logic.{and-l, and-r, bool-case, clash, or-cases}
 use Rattle.model.proofs.ReadBack.{SmallSlot, Writable, writable-closed}
@@ -22,10 +22,6 @@ record Laid (k : ℕ) (w : List ℕ) : Type 0 where
   few : k ≤ 12
   values : all (valueByte k) (take (6 + k) w) ≡ true
   zeros : drop (6 + k) w ≡ replicate (22 - k) 0
-
-all-zero : (l : List ℕ) → all isZero l ≡ true → l ≡ replicate (length l) 0
-all-zero [] h = refl
-all-zero (x ∷ l) h = ap₂ _∷_ (eqb-true x 0 (and-l (isZero x) (all isZero l) h)) (all-zero l (and-r (isZero x) (all isZero l) h))
 
 laid-of : (a b c k : ℕ) (w : List ℕ) → length w ≡ 28 → layoutH (a ∷ b ∷ c ∷ k ∷ w) ≡ true
     → (a ∷ b ∷ c ∷ k ∷ w ≡ 0x48 ∷ 0 ∷ 0 ∷ k ∷ w) × Laid k w

@@ -9,13 +9,15 @@ use crate::records::{byte_value, node_count, pointer_byte, successor_byte, Recor
 pub fn describes(record: &Record, counters: &Counters, heap: &Heap) -> Result<(), String> {
     let heads = find_heads(record, counters, heap)?;
     let owners = claim_cells(record, counters, heap, &heads)?;
-    for cell in 0..heap.cells.len() {
+    for (cell, owner) in owners.into_iter().enumerate() {
         if !heap.in_use(cell) {
             continue;
         }
-        let owner = owners[cell].ok_or(format!("cell {cell} is in no segment"))?;
+        let owner = owner.ok_or(format!("cell {cell} is in no segment"))?;
         if is_core(heap, cell) != (heads[owner] == cell) {
-            return Err(format!("cell {cell} is a head and not core, or the reverse"));
+            return Err(format!(
+                "cell {cell} is a head and not core, or the reverse"
+            ));
         }
     }
     first_visits(record)
@@ -96,7 +98,10 @@ fn claim_cells(
             at = heap.next(cell);
         }
     }
-    if counters[node_count(record)..].iter().any(|&counter| counter != 0) {
+    if counters[node_count(record)..]
+        .iter()
+        .any(|&counter| counter != 0)
+    {
         return Err("a counter past the nodes".to_string());
     }
     Ok(owners)
@@ -104,7 +109,11 @@ fn claim_cells(
 
 fn is_core(heap: &Heap, cell: usize) -> bool {
     let held = Value::Cell(cell);
-    let holders = heap.cells.iter().filter(|&&next| next == Some(held)).count();
+    let holders = heap
+        .cells
+        .iter()
+        .filter(|&&next| next == Some(held))
+        .count();
     heap.pointers.contains(&held) || holders >= 2
 }
 

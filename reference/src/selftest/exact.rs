@@ -3,9 +3,7 @@
 
 use crate::automaton::{Automaton, Edge};
 use crate::input::Routine;
-use crate::records::{
-    location, pointer_byte, shape_of, Record, NODES, NO_GUARD, ONE, TWO_OR_MORE,
-};
+use crate::records::{location, pointer_byte, shape_of, Record, NODES, NO_GUARD, ONE, TWO_OR_MORE};
 use crate::statement::{Op, Statement};
 use crate::unfold::check_shape;
 use std::collections::HashSet;
@@ -53,10 +51,7 @@ fn locations_are_distinct_and_sound(
 /// Every location past the starting shapes takes its number from the first
 /// edge that leads to it, so all are reachable; and edges stand in the order
 /// in which the locations are explored.
-fn locations_are_numbered_as_found(
-    automaton: &Automaton,
-    routine: &Routine,
-) -> Result<(), String> {
+fn locations_are_numbered_as_found(automaton: &Automaton, routine: &Routine) -> Result<(), String> {
     let mut found = routine.shapes.len();
     let mut exploring = 0;
     for (number, edge) in automaton.edges.iter().enumerate() {
@@ -127,7 +122,8 @@ fn expected_guards(record: &Record, statement: &Statement) -> Vec<(u8, usize)> {
 }
 
 /// Entries past the nodes are zero, the others are not, no old counter is
-/// added twice, and an old counter past the nodes is never added.
+/// added twice, and an old counter past the nodes is never added. Under = 1
+/// there are no constants, since the node's own counter is carried.
 fn updates_fit(automaton: &Automaton, edge: &Edge) -> Result<(), String> {
     let old_nodes = automaton.locations[edge.from][3];
     let target = &automaton.locations[edge.to];
@@ -137,6 +133,9 @@ fn updates_fit(automaton: &Automaton, edge: &Edge) -> Result<(), String> {
         let added = update & 0xfff;
         if (new < usize::from(target[3])) != (update != 0) || added & seen != 0 {
             return Err(format!("the updates of {edge:?} do not fit"));
+        }
+        if edge.guard == ONE && update != 0 && update >> 12 != 1 {
+            return Err(format!("{edge:?} has a constant"));
         }
         seen |= added;
     }

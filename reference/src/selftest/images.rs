@@ -7,7 +7,7 @@ use crate::heap::{Heap, Value};
 use crate::image::{write_image, IMAGE_CELLS};
 use crate::machine::{run, Outcome};
 use crate::random::{random_heap, random_statement, rename, Random};
-use crate::records::{NODES, NULL, RECORD, STATEMENTS, UNUSED};
+use crate::records::{NODES, NULL, RECORD, START, STATEMENT, STATEMENTS, UNDEFINED, UNUSED};
 use crate::statement::{read_statement, Op};
 
 /// The bytes of a heap image.
@@ -36,7 +36,7 @@ impl Image {
 pub fn test(random: &mut Random, counts: &mut Counts, number: u64) -> Result<(), String> {
     let most = [4, 12, 40, IMAGE_CELLS][random.below(4)];
     let heap = random_heap(random, most);
-    let length = random.from_to(heap.cells.len(), IMAGE_CELLS);
+    let length = random.between(heap.cells.len(), IMAGE_CELLS);
     let folded = round_trip(random, counts, &heap, length)?;
     single_step(random, counts, &heap, length)?;
     let refusal = 13 + (number % 3) as u8;
@@ -74,7 +74,7 @@ fn round_trip(
         "a renamed heap folds to something else",
     )?;
     let sum = counters.iter().sum::<u64>() as usize;
-    let room = random.from_to(sum, IMAGE_CELLS);
+    let room = random.between(sum, IMAGE_CELLS);
     let mut image = Image {
         pointers: vec![random.byte(); 6],
         cells: vec![random.byte(); room],
@@ -86,7 +86,10 @@ fn round_trip(
         &mut image.cells,
     );
     want(refusal == 0, "what was folded does not unfold")?;
-    want(image.fold() == folded, "what was unfolded folds to something else")?;
+    want(
+        image.fold() == folded,
+        "what was unfolded folds to something else",
+    )?;
     let (used, rest) = image.cells.split_at(sum);
     want(
         !used.contains(&UNUSED) && rest.iter().all(|&byte| byte == UNUSED),
@@ -133,9 +136,15 @@ fn single_step(
         }
     };
     want(stepped == due, "a step on an image differs")?;
-    want(image == Image::of(&after, length), "a step leaves another image")?;
+    want(
+        image == Image::of(&after, length),
+        "a step leaves another image",
+    )?;
     let stays = !matches!(stepped, Stepped::Moved { .. });
-    want(!stays || image == before, "a step that is none changes the image")
+    want(
+        !stays || image == before,
+        "a step that is none changes the image",
+    )
 }
 
 /// Wants the same refusal from fold and from step, and the image unchanged.
@@ -151,7 +160,10 @@ fn want_image_refusal(counts: &mut Counts, image: &Image, refusal: u8) -> Result
     let mut after = image.clone();
     // The image is looked at before the statement, which is none here.
     let stepped = step(&mut after.pointers, &mut after.cells, &[], 9, 999);
-    want(stepped == Stepped::Refused(refusal), "a step refuses otherwise")?;
+    want(
+        stepped == Stepped::Refused(refusal),
+        "a step refuses otherwise",
+    )?;
     want(after == *image, "a refused step changes the image")
 }
 
@@ -164,8 +176,8 @@ fn named_wrongly(
     let mut image = Image::of(heap, length);
     match random.below(4) {
         0 => image.pointers.resize([0, 5, 7][random.below(3)], NULL),
-        1 => image.cells.resize(random.from_to(241, 300), UNUSED),
-        2 => image.pointers[random.below(6)] = random.from_to(length, 0xfd) as u8,
+        1 => image.cells.resize(random.between(241, 300), UNUSED),
+        2 => image.pointers[random.below(6)] = random.between(length, 0xfd) as u8,
         _ => {
             // A cell that is not in use is named, be it past the end.
             let unused = image.cells.iter().position(|&byte| byte == UNUSED);
@@ -193,11 +205,7 @@ fn lost_cell(
     want_image_refusal(counts, &Image::of(&lost, length), 14)
 }
 
-fn wrong_counters(
-    random: &mut Random,
-    counts: &mut Counts,
-    folded: &Folded,
-) -> Result<(), String> {
+fn wrong_counters(random: &mut Random, counts: &mut Counts, folded: &Folded) -> Result<(), String> {
     let nodes = usize::from(folded.record[3]);
     let mut counters = folded.counters;
     let mut room = IMAGE_CELLS;
@@ -210,7 +218,7 @@ fn wrong_counters(
                 counters[random.below(nodes)] = u32::MAX;
             }
         }
-        _ if nodes < NODES => counters[random.from_to(nodes, NODES - 1)] = 1,
+        _ if nodes < NODES => counters[random.between(nodes, NODES - 1)] = 1,
         _ => counters[0] = 0,
     }
     let mut image = Image {
@@ -233,11 +241,14 @@ fn wrong_counters(
 /// Bytes and lengths of any kind: no call panics, and a refusal changes
 /// nothing.
 fn any_bytes(random: &mut Random) -> Result<(), String> {
-    let mut draw = |most: usize| -> Vec<u8> {
-        let length = random.below(most);
-        (0..length).map(|_| random.byte()).collect()
-    };
-    let (pointers, cells, record) = (draw(9), draw(300), draw(40));
+    let pointers = draw_bytes(random, 6, 9);
+    let most = if random.chance(50) { 5 } else { 300 };
+    let length = random.below(most);
+    let cells = draw_bytes(random, length, most);
+    let mut record = draw_bytes(random, RECORD, 40);
+    if let Some(first) = record.first_mut() {
+        *first = [START, STATEMENT][random.below(2)];
+    }
     let counters = [1; NODES];
     let before = Image { pointers, cells };
     let folded = before.fold();
@@ -247,7 +258,10 @@ fn any_bytes(random: &mut Random) -> Result<(), String> {
     )?;
     let mut image = before.clone();
     let refusal = unfold(&record, &counters, &mut image.pointers, &mut image.cells);
-    want(refusal == 0 || image == before, "a refused unfolding writes")?;
+    want(
+        refusal == 0 || image == before,
+        "a refused unfolding writes",
+    )?;
     let mut image = before.clone();
     let stepped = step(
         &mut image.pointers,
@@ -258,4 +272,24 @@ fn any_bytes(random: &mut Random) -> Result<(), String> {
     );
     let moved = matches!(stepped, Stepped::Moved { .. });
     want(moved || image == before, "a step that is none writes")
+}
+
+/// Bytes of this length or, now and then, any below `most`; often such bytes
+/// as sound images and records have.
+fn draw_bytes(random: &mut Random, length: usize, most: usize) -> Vec<u8> {
+    const USUAL: [u8; 8] = [0, 0, 1, 2, 3, NULL, UNDEFINED, UNUSED];
+    let length = if random.chance(80) {
+        length
+    } else {
+        random.below(most)
+    };
+    let usual = random.chance(70);
+    let mut draw = || {
+        if usual {
+            USUAL[random.below(8)]
+        } else {
+            random.byte()
+        }
+    };
+    (0..length).map(|_| draw()).collect()
 }

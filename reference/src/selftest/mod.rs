@@ -63,7 +63,14 @@ fn test_routine(random: &mut Random, counts: &mut Counts, input: &[u8]) -> Resul
     counts.large += u64::from(automaton.locations.len() >= 200);
     counts.largest = counts.largest.max(automaton.locations.len() as u64);
     exact::test(&automaton, &routine)?;
-    tables::test_short_tables(random, counts, input, &full, routine.shapes.len(), &automaton)?;
+    tables::test_short_tables(
+        random,
+        counts,
+        input,
+        &full,
+        routine.shapes.len(),
+        &automaton,
+    )?;
     for _ in 0..3 {
         runs::follow_the_routine(random, counts, &routine, &automaton)?;
         runs::follow_the_edges(random, counts, &routine, &automaton)?;

@@ -47,7 +47,7 @@ fn length(random: &mut Random, drawn: &Drawn) -> Due {
         input.clear();
     } else {
         let records = random.below(input.len() / RECORD);
-        input.truncate(records * RECORD + random.from_to(1, RECORD - 1));
+        input.truncate(records * RECORD + random.between(1, RECORD - 1));
     }
     (input, (1, 0))
 }
@@ -56,7 +56,7 @@ fn statement_count(random: &mut Random, drawn: &Drawn) -> Due {
     let mut statements = Vec::new();
     if random.chance(70) {
         statements = drawn.statements.clone();
-        statements.resize(STATEMENTS + random.from_to(1, 3), drawn.statements[0]);
+        statements.resize(STATEMENTS + random.between(1, 3), drawn.statements[0]);
     }
     (with(&statements, &drawn.shapes), (2, 0))
 }
@@ -65,7 +65,7 @@ fn shape_count(random: &mut Random, drawn: &Drawn) -> Due {
     let mut shapes = Vec::new();
     if random.chance(70) {
         shapes = drawn.shapes.clone();
-        shapes.resize(SHAPES + random.from_to(1, 3), drawn.shapes[0]);
+        shapes.resize(SHAPES + random.between(1, 3), drawn.shapes[0]);
     }
     (with(&drawn.statements, &shapes), (3, 0))
 }
@@ -78,7 +78,11 @@ fn kind(random: &mut Random, drawn: &Drawn) -> Due {
         input.extend(drawn.statements[0]);
     } else {
         let byte = random.byte();
-        let other = if byte == STATEMENT || byte == START { 0x4c } else { byte };
+        let other = if byte == STATEMENT || byte == START {
+            0x4c
+        } else {
+            byte
+        };
         input[place * RECORD] = other;
     }
     (input, (4, place))
@@ -91,27 +95,31 @@ fn statement(random: &mut Random, drawn: &Drawn, refusal: u8) -> Due {
     let record = &mut statements[place];
     let op = OPS[usize::from(record[1])];
     match refusal {
-        5 => record[1] = random.from_to(12, 255) as u8,
+        5 => record[1] = random.between(12, 255) as u8,
         6 if op.uses_u() && random.chance(50) => {
             let field = if op.uses_w() { 2 + random.below(2) } else { 2 };
-            record[field] = random.from_to(6, 255) as u8;
+            record[field] = random.between(6, 255) as u8;
         }
         6 => {
             let unused: Vec<usize> = (0..4).filter(|&field| !op.used_fields()[field]).collect();
             let field = match unused[..] {
-                [] => random.from_to(6, RECORD - 1),
-                _ if random.chance(50) => random.from_to(6, RECORD - 1),
+                [] => random.between(6, RECORD - 1),
+                _ if random.chance(50) => random.between(6, RECORD - 1),
                 _ => 2 + unused[random.below(unused.len())],
             };
-            record[field] = random.from_to(1, 255) as u8;
+            record[field] = random.between(1, 255) as u8;
         }
         _ => {
             if op == Op::Stop {
                 // A stop has no target; a skip has one.
                 record[1] = 11;
             }
-            let field = if op.uses_second() { 4 + random.below(2) } else { 4 };
-            record[field] = random.from_to(count, 255) as u8;
+            let field = if op.uses_second() {
+                4 + random.below(2)
+            } else {
+                4
+            };
+            record[field] = random.between(count, 255) as u8;
         }
     }
     (with(&statements, &drawn.shapes), (refusal, place))
@@ -122,14 +130,14 @@ fn layout(random: &mut Random, drawn: &Drawn) -> Due {
     let place = random.below(shapes.len());
     let record = &mut shapes[place];
     let nodes = usize::from(record[3]);
-    let no_value = random.from_to(nodes, usize::from(UNUSED)) as u8;
+    let no_value = random.between(nodes, usize::from(UNUSED)) as u8;
     match random.below(6) {
-        0 => record[1] = random.from_to(1, 255) as u8,
-        1 => record[2] = random.from_to(1, 255) as u8,
-        2 => record[3] = random.from_to(NODES + 1, 255) as u8,
+        0 => record[1] = random.between(1, 255) as u8,
+        1 => record[2] = random.between(1, 255) as u8,
+        2 => record[3] = random.between(NODES + 1, 255) as u8,
         3 => record[4 + random.below(6)] = no_value,
         4 if nodes > 0 => record[10 + random.below(nodes)] = no_value,
-        _ => record[random.from_to(10 + nodes, RECORD - 1)] = random.from_to(1, 255) as u8,
+        _ => record[random.between(10 + nodes, RECORD - 1)] = random.between(1, 255) as u8,
     }
     let input = with(&drawn.statements, &shapes);
     (input, (8, drawn.statements.len() + place))
@@ -144,7 +152,7 @@ fn no_shape(random: &mut Random, drawn: &Drawn) -> Due {
         // Another numbering: two nodes change places.
         0 if nodes >= 2 => {
             let one = random.below(nodes);
-            let other = (one + random.from_to(1, nodes - 1)) % nodes;
+            let other = (one + random.between(1, nodes - 1)) % nodes;
             swap_nodes(record, one, other);
         }
         // Not core: a node of one holder is put after another node.
@@ -195,7 +203,7 @@ fn repeated(random: &mut Random, drawn: &Drawn) -> Due {
 /// Bytes changed anywhere: whatever comes of it, counts and tables agree.
 fn any_bytes(random: &mut Random, drawn: &Drawn) -> Result<(), String> {
     let mut input = drawn.input();
-    for _ in 0..random.from_to(1, 3) {
+    for _ in 0..random.between(1, 3) {
         let at = random.below(input.len());
         input[at] = random.byte();
     }

@@ -64,16 +64,12 @@ impl Running {
 }
 
 /// A starting shape with counters, and a heap with its cells anywhere.
-fn start(
-    random: &mut Random,
-    counts: &mut Counts,
-    routine: &Routine,
-) -> (Running, Configuration) {
+fn start(random: &mut Random, counts: &mut Counts, routine: &Routine) -> (Running, Configuration) {
     let number = random.below(routine.shapes.len());
     let shape = &routine.shapes[number];
     let mut counters: Counters = [0; NODES];
     for counter in counters.iter_mut().take(node_count(shape)) {
-        *counter = [1, 1, 2, 3, random.from_to(1, 9) as u64][random.below(5)];
+        *counter = [1, 1, 2, 3, random.between(1, 9) as u64][random.below(5)];
     }
     let straight = unfold_shape(shape, &counters);
     let room = straight.cells.len() + random.below(4);
@@ -100,10 +96,14 @@ pub fn follow_the_routine(
 ) -> Result<(), String> {
     let (mut running, mut at) = start(random, counts, routine);
     check_match(routine, automaton, &running, &at)?;
-    let mut past_the_end = 0;
-    while past_the_end < ENTRIES {
-        past_the_end += 1;
-        let pick = if random.chance(10) { random.next() | 2 } else { random.next() & 1 };
+    let mut fed = 0;
+    while fed < ENTRIES {
+        fed += 1;
+        let pick = if random.chance(10) {
+            random.next() | 2
+        } else {
+            random.next() & 1
+        };
         let cell = random.below(running.heap.cells.len() + 3);
         let before = running.clone();
         match running.feed(routine, pick, cell) {
@@ -113,8 +113,8 @@ pub fn follow_the_routine(
                     return Err("an entry that makes no step changes something".to_string());
                 }
                 if running.ended(routine) {
-                    // A few more are fed past the end, then the run is over.
-                    past_the_end += ENTRIES / 3;
+                    // Past the end a few more are enough.
+                    fed += ENTRIES / 3;
                 }
             }
             Fed::Step { branch } => {
@@ -132,13 +132,17 @@ fn take_the_only_edge(
     at: &mut Configuration,
     branch: u8,
 ) -> Result<(), String> {
-    let enabled: Vec<u64> = (0..automaton.leaving(at.location).len())
-        .map(|index| automaton.leaving(at.location)[index] as u64)
+    let enabled: Vec<u64> = automaton
+        .leaving(at.location)
+        .iter()
+        .map(|&number| number as u64)
         .filter(|&number| automaton.enabled(at, number))
         .filter(|&number| automaton.edges[number as usize].branch == branch)
         .collect();
     let [number] = enabled[..] else {
-        return Err(format!("a step of branch {branch} has the edges {enabled:?}"));
+        return Err(format!(
+            "a step of branch {branch} has the edges {enabled:?}"
+        ));
     };
     if automaton.feed(at, number) {
         Ok(())
@@ -156,6 +160,7 @@ pub fn follow_the_edges(
     automaton: &Automaton,
 ) -> Result<(), String> {
     let (mut running, mut at) = start(random, counts, routine);
+    check_match(routine, automaton, &running, &at)?;
     for _ in 0..ENTRIES {
         let number = random_edge_number(random, automaton, &at);
         let before = at.clone();
@@ -169,8 +174,14 @@ pub fn follow_the_edges(
         let edge = &automaton.edges[number as usize];
         let cell = any_unused_cell(random, &running.heap);
         let fed = running.feed(routine, u64::from(edge.branch), cell);
-        if fed != (Fed::Step { branch: edge.branch }) {
-            return Err(format!("edge {number} is taken but the routine gives {fed:?}"));
+        if fed
+            != (Fed::Step {
+                branch: edge.branch,
+            })
+        {
+            return Err(format!(
+                "edge {number} is taken but the routine gives {fed:?}"
+            ));
         }
         count_step(counts, routine, &running);
         check_match(routine, automaton, &running, &at)?;
@@ -222,7 +233,10 @@ fn check_match(
         ));
     }
     if automaton.leaving(at.location).is_empty() != running.ended(routine) {
-        return Err(format!("location {} and the routine's end differ", at.location));
+        return Err(format!(
+            "location {} and the routine's end differ",
+            at.location
+        ));
     }
     if running.fault != 0 {
         return Ok(());
@@ -231,7 +245,10 @@ fn check_match(
         .map_err(|difference| format!("location {}: {difference}", at.location))?;
     let (shape, counters) = fold_heap(&running.heap);
     if location(running.statement, &shape) != *record || counters != at.counters {
-        return Err(format!("location {} is not what folding gives", at.location));
+        return Err(format!(
+            "location {} is not what folding gives",
+            at.location
+        ));
     }
     Ok(())
 }

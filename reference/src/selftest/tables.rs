@@ -71,7 +71,11 @@ pub fn translate_full(
     ];
     let full = translate_into(random, input, lengths);
     match full.answer {
-        Translated { refusal: 0, place: 0, .. } => Ok(Some(full)),
+        Translated {
+            refusal: 0,
+            place: 0,
+            ..
+        } => Ok(Some(full)),
         Translated {
             refusal: 11 | 12,
             locations: 0,
@@ -119,7 +123,7 @@ pub fn test_short_tables(
 /// Often just enough, or one less.
 fn random_places(random: &mut Random, needed: usize) -> usize {
     match random.below(4) {
-        0 => random.from_to(0, needed + 1),
+        0 => random.between(0, needed + 1),
         1 => needed.saturating_sub(1),
         _ => needed,
     }

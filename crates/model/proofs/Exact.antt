@@ -1,0 +1,242 @@
+-- What a listing holds: the starting shapes first, every reachable location once and no other, every edge of each location in order, and
+-- each new target takes the next number.
+use Prim.Native.Nat.{_+_, _<_, _≤_, suc, zero, ℕ}
+use mathlib.Core.Path.{_∙_, _≡_, ap, refl, subst, sym}
+use mathlib.Core.Logic.{inl, inr, ⊎-elim}
+use mathlib.Core.List.{List, [], _++_, _∷_, append-assoc, append-nil, map, map-append}
+use native.Mathlib.Omega.{arith}
+use lib.Dec.{ltb}
+use lib.ListN.{List·getD-eq-default, length, length-map, take}
+use lib.Seq.{take-at}
+use borrow.Author.Tests.{eqb-false, ltb-false, ltb-true}
+use Rattle.model.specs.Base.{any, joined, numbers, placeOf}
+use Rattle.model.specs.Edges.{Edge, Loc, at, edgesOf, failed, sameLoc}
+use Rattle.model.specs.Heap.{Heap}
+use Rattle.model.specs.Machine.{Stmt, leak}
+use Rattle.model.specs.Translate.{Link, Listing, Routine, listed, listing}
+use Rattle.model.proofs.Listing.{add-found, add-place, addEdge, addLoc, any-loc, edge-locs, explored, explored-end, explored-prefix, extend, extend-all, extend-distinct, extend-has, extend-prefix, listing-whole, loc-place, locAt}
+use Rattle.model.proofs.Lists.{In, getD-in, in-append-cases, in-getD, in-joined, in-map, joined-in, map-in}
+use Rattle.model.proofs.Logic.{bool-case, eq-case, not-true}
+use Rattle.model.proofs.Same.{Distinct, Prefix, prefix-getD, prefix-in, prefix-place, prefix-trans}
+
+-- ---- lists
+
+pub numbers-in : (k n i : ℕ) → k ≤ i → i < k + n → In i (numbers k n)
+numbers-in k zero i h h′ = absurd (omega arith)
+numbers-in k (suc n) i h h′ = eq-case i k (λ e. inl e) (λ e. let ne = eqb-false i k e in inr (numbers-in (suc k) n i (omega arith) (omega arith)))
+
+pub numbers-snoc : (k n : ℕ) → numbers k (suc n) ≡ numbers k n ++ (k + n) ∷ []
+numbers-snoc k zero = ap (λ z. z ∷ []) (omega arith)
+numbers-snoc k (suc n) = ap (λ z. k ∷ z) (numbers-snoc (suc k) n ∙ ap (λ z. numbers (suc k) n ++ z ∷ []) (omega arith))
+
+joined-append : {A : Type 0} (l m : List (List A)) → joined (l ++ m) ≡ joined l ++ joined m
+joined-append [] m = refl
+joined-append (x ∷ l) m = ap (λ z. x ++ z) (joined-append l m) ∙ sym (append-assoc x (joined l) (joined m))
+
+joined-snoc : {A : Type 0} (f : ℕ → List A) (n : ℕ) → joined (map f (numbers 0 (suc n))) ≡ joined (map f (numbers 0 n)) ++ f n
+joined-snoc f n =
+    ap (λ z. joined (map f z)) (numbers-snoc 0 n ∙ ap (λ z. numbers 0 n ++ z ∷ []) (omega arith))
+    ∙ ap joined (map-append f (numbers 0 n) (n ∷ [])) ∙ joined-append (map f (numbers 0 n)) (f n ∷ [])
+    ∙ ap (λ z. joined (map f (numbers 0 n)) ++ z) (append-nil (f n))
+
+-- ---- the links
+
+-- edge e of location i, with the number of its target
+abbrev pub linkOf : ℕ → List Loc → Edge → Link
+linkOf i ls e = record { from = i; dest = placeOf (sameLoc (e .to)) ls; edge = e }
+
+-- the edges of location i of a list of locations
+abbrev pub linksFrom : List Stmt → List Loc → ℕ → List Link
+linksFrom sts ls i = map (linkOf i ls) (edgesOf sts (locAt ls i))
+
+abbrev pub linkTarget : Link → Loc
+linkTarget l = l .edge .to
+
+-- an edge's target keeps its number in every longer list
+edge-number : (i : ℕ) (t : Listing) (e : Edge) (ls : List Loc) → Prefix (addEdge i t e .locs) ls
+    → placeOf (sameLoc (e .to)) (t .locs) ≡ placeOf (sameLoc (e .to)) ls
+edge-number i t e ls q =
+    let a = add-place (t .locs) (e .to) in
+    let b = edge-locs i t e in
+    let c : placeOf (sameLoc (e .to)) (addEdge i t e .locs) ≡ placeOf (sameLoc (e .to)) (t .locs) = ap (placeOf (sameLoc (e .to))) b ∙ a in
+    let d : placeOf (sameLoc (e .to)) (addEdge i t e .locs) < length (addEdge i t e .locs) = rw (c, b) (add-found (t .locs) (e .to)) in
+    sym c ∙ sym (prefix-place (sameLoc (e .to)) (addEdge i t e .locs) ls q d)
+
+extend-linked : (i : ℕ) (es : List Edge) (t : Listing) (ls : List Loc) → Prefix (extend i es t .locs) ls
+    → extend i es t .links ≡ t .links ++ map (linkOf i ls) es
+extend-linked i [] t ls q = sym (append-nil (t .links))
+extend-linked i (e ∷ es) t ls q =
+    extend-linked i es (addEdge i t e) ls q
+    ∙ append-assoc (t .links) (record { from = i; dest = placeOf (sameLoc (e .to)) (t .locs); edge = e } ∷ []) (map (linkOf i ls) es)
+    ∙ ap (λ j. t .links ++ record { from = i; dest = j; edge = e } ∷ map (linkOf i ls) es)
+    (edge-number i t e ls (prefix-trans (addEdge i t e .locs) (extend i (e ∷ es) t .locs) ls (extend-prefix i es (addEdge i t e)) q))
+
+-- ---- the order of the locations
+
+abbrev pub addLocs : List Loc → List Loc → List Loc
+addLocs ls [] = ls
+addLocs ls (l ∷ ms) = addLocs (addLoc ls l) ms
+
+-- the first occurrence of each location, in order
+abbrev pub firsts : List Loc → List Loc
+firsts ls = addLocs [] ls
+
+adds-append : (ls ms ns : List Loc) → addLocs ls (ms ++ ns) ≡ addLocs (addLocs ls ms) ns
+adds-append ls [] ns = refl
+adds-append ls (m ∷ ms) ns = adds-append (addLoc ls m) ms ns
+
+adds-distinct : (ls ms : List Loc) → Distinct ms → ((l : Loc) → In l ms → In l ls → ⊥) → addLocs ls ms ≡ ls ++ ms
+adds-distinct ls [] k h = sym (append-nil ls)
+adds-distinct ls (m ∷ ms) k h =
+    let e = not-true (any (sameLoc m) ls) (λ q. h m (inl refl) (any-loc ls m q)) in
+    rw e (adds-distinct (ls ++ m ∷ []) ms (k .1)
+    (λ l a b. in-append-cases l ls (m ∷ []) b (h l (inr a)) (λ w. ⊎-elim (λ (q : l ≡ m). k .0 (subst (λ z. In z ms) q a)) (λ (z : ⊥). z) w))
+    ∙ append-assoc ls (m ∷ []) ms)
+
+extend-order : (i : ℕ) (es : List Edge) (t : Listing) → extend i es t .locs ≡ addLocs (t .locs) (map (λ (e : Edge). e .to) es)
+extend-order i [] t = refl
+extend-order i (e ∷ es) t = extend-order i es (addEdge i t e) ∙ ap (λ z. addLocs z (map (λ (d : Edge). d .to) es)) (edge-locs i t e)
+
+extend-targets : (i : ℕ) (es : List Edge) (t : Listing) → map linkTarget (extend i es t .links) ≡ map linkTarget (t .links) ++ map (λ (e : Edge). e .to) es
+extend-targets i [] t = sym (append-nil (map linkTarget (t .links)))
+extend-targets i (e ∷ es) t = extend-targets i es (addEdge i t e)
+    ∙ ap (λ z. z ++ map (λ (d : Edge). d .to) es)
+    (map-append linkTarget (t .links) (record { from = i; dest = placeOf (sameLoc (e .to)) (t .locs); edge = e } ∷ []))
+    ∙ append-assoc (map linkTarget (t .links)) (e .to ∷ []) (map (λ (d : Edge). d .to) es)
+
+-- ---- the laws
+
+-- the locations that the edges lead to, from the starting shapes at statement 0
+pub data Reached (sts : List Stmt) (hs : List Heap) : Loc → Type 0 where
+  from-start : {h : Heap} → In h hs → Reached sts hs (at 0 h)
+  by-edge : {l : Loc} (e : Edge) → Reached sts hs l → In e (edgesOf sts l) → Reached sts hs (e .to)
+
+-- the starting shapes first, in order; each location once; exactly those reached; the edges of each in order; each new target next
+pub record Exact (r : Routine) (t : Listing) : Type 0 where
+  pub starts : take (length (r .starts)) (t .locs) ≡ map (at 0) (r .starts)
+  pub distinct : Distinct (t .locs)
+  pub sound : (l : Loc) → In l (t .locs) → Reached (r .stmts) (r .starts) l
+  pub complete : (l : Loc) → Reached (r .stmts) (r .starts) l → In l (t .locs)
+  pub links : t .links ≡ joined (map (linksFrom (r .stmts) (t .locs)) (numbers 0 (length (t .locs))))
+  pub order : t .locs ≡ firsts (map (at 0) (r .starts) ++ map linkTarget (t .links))
+
+-- only a location of the list has edges
+pub edge-below : (sts : List Stmt) (ls : List Loc) (i : ℕ) (e : Edge) → In e (edgesOf sts (locAt ls i)) → i < length ls
+edge-below sts ls i e h = bool-case (ltb i (length ls)) (λ q. ltb-true i (length ls) q)
+    (λ q. absurd (subst (λ l. In e (edgesOf sts l)) (List·getD-eq-default ls (failed 0 leak) (ltb-false i (length ls) q)) h))
+
+starts-distinct : (hs : List Heap) → Distinct hs → Distinct (map (at 0) hs)
+starts-distinct [] k = tt
+starts-distinct (h ∷ hs) k = (
+  (λ q. let r = in-map (at 0) (at 0 h) hs q in
+      let g = r .0 in
+      let z : at 0 h ≡ at 0 g = r .2 in
+      let e : g ≡ h = cc in
+      k .0 (subst (λ x. In x hs) e (r .1))),
+  starts-distinct hs (k .1),
+)
+
+module _ (sts : List Stmt) (hs : List Heap) where
+  explored-sound : (i : ℕ) (l : Loc) → In l (explored sts hs i .locs) → Reached sts hs l
+  explored-sound zero l h = let r = in-map (at 0) l hs h in subst (Reached sts hs) (sym (r .2)) (from-start (r .1))
+  explored-sound (suc i) l h =
+      let ls = explored sts hs i .locs in
+      extend-all (Reached sts hs) i (edgesOf sts (locAt ls i)) (explored sts hs i) (explored-sound i)
+      (λ e k. by-edge e (explored-sound i (locAt ls i) (getD-in ls (failed 0 leak) i (edge-below sts ls i e k))) k) l h
+
+  explored-distinct : Distinct hs → (i : ℕ) → Distinct (explored sts hs i .locs)
+  explored-distinct k zero = starts-distinct hs k
+  explored-distinct k (suc i) = extend-distinct i (edgesOf sts (locAt (explored sts hs i .locs) i)) (explored sts hs i) (explored-distinct k i)
+
+  explored-order : (i : ℕ) → explored sts hs i .locs ≡ addLocs (map (at 0) hs) (map linkTarget (explored sts hs i .links))
+  explored-order zero = refl
+  explored-order (suc i) =
+      let t = explored sts hs i in
+      let es = edgesOf sts (locAt (t .locs) i) in
+      extend-order i es t ∙ ap (λ z. addLocs z (map (λ (e : Edge). e .to) es)) (explored-order i)
+      ∙ sym (adds-append (map (at 0) hs) (map linkTarget (t .links)) (map (λ (e : Edge). e .to) es))
+      ∙ ap (addLocs (map (at 0) hs)) (sym (extend-targets i es t))
+
+  loc-later : (i n : ℕ) → i ≤ n → locAt (explored sts hs n .locs) i ≡ locAt (explored sts hs i .locs) i
+  loc-later i n h =
+      let ls = explored sts hs i .locs in
+      bool-case (ltb i (length ls))
+      (λ q. prefix-getD ls (explored sts hs n .locs) (failed 0 leak) i (explored-prefix sts hs i n h) (ltb-true i (length ls) q))
+      (λ q. ap (λ (t : Listing). locAt (t .locs) i) (explored-end sts hs i n (ltb-false i (length ls) q) h))
+
+  explored-linked : (n i : ℕ) → i ≤ n → explored sts hs i .links ≡ joined (map (linksFrom sts (explored sts hs n .locs)) (numbers 0 i))
+  explored-linked n zero h = refl
+  explored-linked n (suc i) h =
+      let t = explored sts hs i in
+      let ls = explored sts hs n .locs in
+      extend-linked i (edgesOf sts (locAt (t .locs) i)) t ls (explored-prefix sts hs (suc i) n h)
+      ∙ ap (λ l. t .links ++ map (linkOf i ls) (edgesOf sts l)) (sym (loc-later i n (omega arith)))
+      ∙ ap (λ z. z ++ linksFrom sts ls i) (explored-linked n i (omega arith))
+      ∙ sym (joined-snoc (linksFrom sts ls) i)
+
+  explored-complete : (n : ℕ) → n ≡ length (explored sts hs n .locs) → (l : Loc) → Reached sts hs l → In l (explored sts hs n .locs)
+  explored-complete n c l (from-start {h = h} k) =
+      prefix-in (map (at 0) hs) (explored sts hs n .locs) (at 0 h) (explored-prefix sts hs 0 n (omega arith)) (map-in (at 0) h hs k)
+  explored-complete n c l (by-edge {l = m} e r k) =
+      let q = in-getD (explored sts hs n .locs) (failed 0 leak) m (explored-complete n c m r) in
+      let i = q .0 in
+      let z : m ≡ locAt (explored sts hs i .locs) i = sym (q .2) ∙ loc-later i n (omega arith) in
+      prefix-in (explored sts hs (suc i) .locs) (explored sts hs n .locs) (e .to) (explored-prefix sts hs (suc i) n (omega arith))
+      (extend-has i (edgesOf sts (locAt (explored sts hs i .locs) i)) (explored sts hs i) e (subst (λ x. In e (edgesOf sts x)) z k))
+
+explored-exact : (r : Routine) (n : ℕ) → Distinct (r .starts) → n ≡ length (explored (r .stmts) (r .starts) n .locs)
+    → Exact r (explored (r .stmts) (r .starts) n)
+explored-exact r n k e =
+    let sts = r .stmts in
+    let hs = r .starts in
+    let p = explored-prefix sts hs 0 n (omega arith) in
+    record {
+      starts = ap (take (length hs)) (p .1) ∙ take-at (map (at 0) hs) (p .0) (length hs) (length-map hs (at 0));
+      distinct = explored-distinct sts hs k n;
+      sound = explored-sound sts hs n;
+      complete = explored-complete sts hs n e;
+      links = explored-linked sts hs n n (omega arith) ∙ ap (λ z. joined (map (linksFrom sts (explored sts hs n .locs)) (numbers 0 z))) e;
+      order =
+          explored-order sts hs n
+          ∙ ap (λ z. addLocs z (map linkTarget (explored sts hs n .links))) (sym (adds-distinct [] (map (at 0) hs) (starts-distinct hs k) (λ l a b. b)))
+          ∙ sym (adds-append [] (map (at 0) hs) (map linkTarget (explored sts hs n .links)));
+    }
+
+-- A listing holds exactly the reachable locations and all their edges, in the order of the exploration.
+pub listing-exact : (r : Routine) (cl ce : ℕ) (t : Listing) → Distinct (r .starts) → listing r cl ce ≡ listed t → Exact r t
+listing-exact r cl ce t k p =
+    let w = listing-whole r cl ce t p in
+    subst (Exact r) (sym (w .0)) (explored-exact r (length (t .locs)) k (ap (λ (u : Listing). length (u .locs)) (w .0)))
+
+-- ---- each link
+
+-- a link's ends are numbers of locations, its second end is its edge's target, and its edge is one of its first end's
+pub record LinkGood (sts : List Stmt) (t : Listing) (k : Link) : Type 0 where
+  pub from-below : k .from < length (t .locs)
+  pub dest-below : k .dest < length (t .locs)
+  pub dest-is : locAt (t .locs) (k .dest) ≡ k .edge .to
+  pub edge-of : In (k .edge) (edgesOf sts (locAt (t .locs) (k .from)))
+
+pub link-good : (r : Routine) (t : Listing) → Exact r t → (k : Link) → In k (t .links) → LinkGood (r .stmts) t k
+link-good r t x k h =
+    let sts = r .stmts in
+    let ls = t .locs in
+    let a = in-joined k (map (linksFrom sts ls) (numbers 0 (length ls))) (rw (x .links) at h) in
+    let b = in-map (linksFrom sts ls) (a .0) (numbers 0 (length ls)) (a .1) in
+    let i = b .0 in
+    let c = in-map (linkOf i ls) k (edgesOf sts (locAt ls i)) (subst (In k) (b .2) (a .2)) in
+    let e = c .0 in
+    let lt = edge-below sts ls i e (c .1) in
+    let d = loc-place ls (e .to) (x .complete (e .to) (by-edge e (x .sound (locAt ls i) (getD-in ls (failed 0 leak) i lt)) (c .1))) in
+    subst (LinkGood sts t) (sym (c .2)) (record { from-below = lt; dest-below = d .0; dest-is = d .1; edge-of = c .1 })
+
+-- each edge of each location has a link
+pub edge-listed : (r : Routine) (t : Listing) → Exact r t → (i : ℕ) (e : Edge) → In e (edgesOf (r .stmts) (locAt (t .locs) i))
+    → In (linkOf i (t .locs) e) (t .links)
+edge-listed r t x i e h =
+    let ls = t .locs in
+    let lt = edge-below (r .stmts) ls i e h in
+    subst (In (linkOf i ls e)) (sym (x .links))
+    (joined-in (linkOf i ls e) (linksFrom (r .stmts) ls i) (map (linksFrom (r .stmts) ls) (numbers 0 (length ls)))
+    (map-in (linksFrom (r .stmts) ls) i (numbers 0 (length ls)) (numbers-in 0 (length ls) i (omega arith) (omega arith)))
+    (map-in (linkOf i ls) e (edgesOf (r .stmts) (locAt ls i)) h))
