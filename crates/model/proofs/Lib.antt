@@ -31,6 +31,7 @@ pub mod Leave
 pub mod Picks
 pub mod Location
 pub mod Guards
+pub mod Checked
 pub mod Listing
 pub mod Exact
 pub mod Places
