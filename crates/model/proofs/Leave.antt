@@ -2,30 +2,32 @@
 
 -- a guard, and an update, on given counters
 use Prim.Native.Nat.{_+_, _-_, _≤_, suc, ℕ}
-use mathlib.Core.Path.{_∙_, _≡_, ap, ap₂, refl, sym}
+use mathlib.Core.Path.{_∙_, _≡_, ap, ap₂, refl, subst, sym}
+use mathlib.Core.Logic.{inl, inr}
 use mathlib.Core.Option.{some}
 use mathlib.Core.Bool.{Bool, false, true}
 use mathlib.Core.List.{List, [], _∷_, map}
 use native.Mathlib.Omega.{arith}
 use lib.Dec.{eqb, leb}
-use lib.ListN.{getD, length}
+use lib.ListN.{getD, length, length-map}
 use borrow.Author.Tests.{le-leb}
 use Rattle.model.specs.Base.{sum}
 use Rattle.model.specs.Edges.{Edge, Guard, Loc, Update, Way, Weight, always, at, edgeBy, failed, isMore, isOne, stepBy, updateOf}
 use Rattle.model.specs.Heap.{Heap, inUse, next}
 use Rattle.model.specs.Machine.{Answer, Effect, Entry, Kind, Stmt, accepts, allocates, answerOf, branch, done, fault, faulted, kind, other, picks, refused, run, step, stopped, stops, went}
 use Rattle.model.specs.Runs.{State, Status, Step, isStop, made, past, running}
-use Rattle.model.specs.Shape.{Seg, cells, counters, foldBy, segments, shape, size}
+use Rattle.model.specs.Shape.{Seg, cells, counters, foldBy, last, nodeSlot, segments, shape, size}
 use Rattle.model.proofs.Bytes.{flagged}
 use Rattle.model.proofs.Effects.{Room, sg-after}
 use Rattle.model.proofs.Facts.{unused-of}
 use Rattle.model.proofs.Folds.{Alls, Kept, counters-grow, fold-same, large-closed, total}
+use Rattle.model.proofs.Lists.{In}
 use Rattle.model.proofs.Logic.{bool-case, clash}
 use Rattle.model.proofs.Sizes.{Neat, Short, neat, run-short}
 use Rattle.model.proofs.Step.{Agree, fault-alike, step-agree, step-go, went-alike}
 use Rattle.model.proofs.Walks.{ClosedHeap}
 use Rattle.model.proofs.Ways.{Fits, count-length}
-use Rattle.model.proofs.Weights.{Fair, update-value, weigh}
+use Rattle.model.proofs.Weights.{Fair, update-small, update-value, weigh}
 
 abbrev pub guardOn : Guard → List ℕ → Bool
 guardOn always cs = true
@@ -68,6 +70,23 @@ sums k cs w sg len F h (s ∷ ss) a = ap₂ _∷_
     (sum-total sg (λ i. weigh cs (w i)) h (cells s) ∙ update-value k cs len w F s (a .0 .0) (a .0 .1))
     (sums k cs w sg len F h ss (a .1))
 
+-- the updates of an edge: one for each node of the target, each with a flag for each of the k old nodes and a constant of -1, 0 or 1
+abbrev pub SmallUpdates : ℕ → List Update → Type 0
+SmallUpdates k us = (u : Update) → In u us → (u .plus ≤ 2) × (length (u .adds) ≡ k)
+
+abbrev pub nodesOf : Loc → ℕ
+nodesOf (at s h) = length (h .slots)
+nodesOf (failed s f) = 0
+
+pub record SmallEdge (k : ℕ) (E : Edge) : Type 0 where
+  pub number : length (E .updates) ≡ nodesOf (E .to)
+  pub small : SmallUpdates k (E .updates)
+
+smalls : (k : ℕ) (cs : List ℕ) (w : ℕ → Weight) → length cs ≡ k → Fair k cs w → (ss : List Seg) → Alls (Neat (suc k)) ss → SmallUpdates k (map (updateOf k w) ss)
+smalls k cs w len F [] a u i = absurd i
+smalls k cs w len F (s ∷ ss) a u (inl e) = let r = update-small k cs len w F s (a .0 .0) in subst (λ (x : Update). (x .plus ≤ 2) × (length (x .adds) ≡ k)) (sym e) r
+smalls k cs w len F (s ∷ ss) a u (inr i) = smalls k cs w len F ss (a .1) u i
+
 -- an edge and the routine's step, side by side
 pub record Landed (q : State) (a : Answer) (E : Edge) (cs : List ℕ) : Type 0 where
   pub taken : Step State
@@ -76,12 +95,13 @@ pub record Landed (q : State) (a : Answer) (E : Edge) (cs : List ℕ) : Type 0 w
   pub fits : Fit (taken .after) (E .to) (map (worth cs) (E .updates))
 
 landed : (s k : ℕ) (y : Way) (H : Heap) (cs : List ℕ) (sg : ℕ → Seg) (a b : Answer) → length cs ≡ k → Fair k cs (y .weight) → ((i : ℕ) → size (sg i) ≡ weigh cs ((y .weight) i))
-    → Agree sg a b → ShortAnswer (suc k) a → (E : Edge) × (edgeBy s k y a ≡ E ∷ []) × (E .guard ≡ y .guard) × Landed (begin s H) b E cs
+    → Agree sg a b → ShortAnswer (suc k) a → (E : Edge) × (edgeBy s k y a ≡ E ∷ []) × (E .guard ≡ y .guard) × Landed (begin s H) b E cs × SmallEdge k E
 landed s k y H cs sg a b len F h (fault-alike {f = f}) sh = (
   record { branchNo = 0; guard = y .guard; to = failed s f; updates = [] },
   refl,
   refl,
   record { taken = record { branchNo = 0; after = record { stmt = s; status = past f; heap = H } }; isMade = refl; branches = refl; fits = (refl, refl) },
+  record { number = refl; small = λ u i. absurd i },
 )
 landed s k y H cs sg a b len F h (went-alike {b = c} {t = t} {W = W′} {H = H′} X kp) sh = (
   record { branchNo = c; guard = y .guard; to = at t (foldBy (segments W′) W′); updates = map (updateOf k (y .weight)) (segments W′) },
@@ -97,6 +117,10 @@ landed s k y H cs sg a b len F h (went-alike {b = c} {t = t} {W = W′} {H = H�
       large-closed W′ sg H′ X,
       kp,
     );
+  },
+  record {
+    number = length-map (segments W′) (updateOf k (y .weight)) ∙ sym (length-map (segments W′) (λ (g : Seg). nodeSlot (segments W′) (next W′ (last g))));
+    small = smalls k cs (y .weight) len F (segments W′) (neat (suc k) W′ (X .closed, X .body .closed) sh);
   },
 )
 
@@ -120,7 +144,7 @@ module _ (s : ℕ) (st : Stmt) (H : Heap) (cl : ClosedHeap H) (kp : Kept H) wher
 
   pub way-lands : (y : Way) (e : Entry) → isStop (kind (st .op)) ≡ false → Fits (st .op) k-of (e .cellNo) y H (counters H) → y .pick ≤ 1 → accepts (kind (st .op)) e H ≡ true
       → branch (st .op) (e .pick) H ≡ branch (st .op) (y .pick) (y .heap)
-      → (E : Edge) × (edgeBy s k-of y (stepBy st k-of y) ≡ E ∷ []) × (E .guard ≡ y .guard) × Landed (begin s H) (step st e H) E (counters H)
+      → (E : Edge) × (edgeBy s k-of y (stepBy st k-of y) ≡ E ∷ []) × (E .guard ≡ y .guard) × Landed (begin s H) (step st e H) E (counters H) × SmallEdge k-of E
   way-lands y e g F p a b =
       let d : Entry = record { pick = y .pick; cellNo = k-of } in
       let aw : accepts (kind (st .op)) d (y .heap) ≡ true = accept-room (kind (st .op)) d (y .heap) (F .room) p in

@@ -35,3 +35,4 @@ pub mod Checked
 pub mod Listing
 pub mod Exact
 pub mod Places
+pub mod Reached

@@ -18,7 +18,7 @@ use Rattle.model.specs.Runs.{State, Step, isStop, made}
 use Rattle.model.specs.Shape.{counters, segments, shape}
 use Rattle.model.proofs.Facts.{kept-test}
 use Rattle.model.proofs.Folds.{Kept, kept-down}
-use Rattle.model.proofs.Leave.{Fit, begin, guardOn, way-lands, worth}
+use Rattle.model.proofs.Leave.{Fit, SmallEdge, begin, guardOn, way-lands, worth}
 use Rattle.model.proofs.Lists.{In, in-joined, in-map, joined-in, map-in}
 use Rattle.model.proofs.Logic.{bool-case, clash}
 use Rattle.model.proofs.Order.{used-below}
@@ -222,6 +222,7 @@ module _ (s : ℕ) (st : Stmt) (H : Heap) (cl : ClosedHeap H) (kp : Kept H) wher
   pub leave-backward : (E : Edge) → In E (edgesAt s st (shape H)) → guardOn (E .guard) (counters H) ≡ true → (e : Entry) → e .pick ≡ E .branchNo
       → inUse (next H (e .cellNo)) ≡ false
       → (x : Step State) × (made (begin s H) (step st e H) ≡ some x) × (x .branchNo ≡ E .branchNo) × Fit (x .after) (E .to) (map (worth (counters H)) (E .updates))
+      × SmallEdge nodes E
   leave-backward E i on e p u =
       let w = edge-way E i in
       let y = w .0 in
@@ -232,4 +233,4 @@ module _ (s : ℕ) (st : Stmt) (H : Heap) (cl : ClosedHeap H) (kp : Kept H) wher
       let r = way-lands s st H cl kp y e g (R .0) (R .1) ac (R .2 (e .pick) pk) in
       let z : E ≡ r .0 = in-single E (r .0) (subst (In E) (r .1) (w .2)) in
       let L = r .3 in
-      (L .taken, L .isMade, L .branches ∙ ap (λ (x : Edge). x .branchNo) (sym z), subst (λ (x : Edge). Fit (L .taken .after) (x .to) (map (worth (counters H)) (x .updates))) (sym z) (L .fits))
+      (L .taken, L .isMade, L .branches ∙ ap (λ (x : Edge). x .branchNo) (sym z), subst (λ (x : Edge). Fit (L .taken .after) (x .to) (map (worth (counters H)) (x .updates))) (sym z) (L .fits), subst (SmallEdge nodes) (sym z) (r .4))

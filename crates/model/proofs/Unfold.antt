@@ -58,7 +58,7 @@ numbers-nodup : (i n : ℕ) → NoDup (numbers i n)
 numbers-nodup i zero = tt
 numbers-nodup i (suc n) = (not-true (mem i (numbers (suc i) n)) (λ h. let r = numbers-mem (suc i) n i h in omega arith), numbers-nodup (suc i) n)
 
-length-numbers : (i n : ℕ) → length (numbers i n) ≡ n
+pub length-numbers : (i n : ℕ) → length (numbers i n) ≡ n
 length-numbers i zero = refl
 length-numbers i (suc n) = ap suc (length-numbers (suc i) n)
 

@@ -10,7 +10,7 @@ use native.Mathlib.Omega.{arith}
 use lib.Dec.{eqb}
 use lib.ListN.{List·getD-eq-default, List·getD-map, getD, length, length-map}
 use borrow.Author.Tests.{eqb-false, eqb-true}
-use Rattle.model.specs.Edges.{Guard, Way, Weight, access, addsCounter, at, counter, isOne, isRest, one, rest, split, splitHeap, whole}
+use Rattle.model.specs.Edges.{Guard, Way, Weight, access, addsCounter, at, counter, isOne, isOneCell, isRest, one, rest, split, splitHeap, whole}
 use Rattle.model.specs.Heap.{Heap, Val, cell, next, null, unused}
 use Rattle.model.specs.Machine.{Kind, Op, allocates, branch, choose, clear, copy, free, isNull, kind, load, new, other, picks, same, setNull, skip, stop, stops, store}
 use Rattle.model.specs.Shape.{Seg, counters, last, nodeSlot, segments, shape, size}
@@ -52,7 +52,7 @@ access-facts (same u w) h n e = no-access e
 access-facts choose h n e = no-access e
 access-facts skip h n e = no-access e
 
-access-closed : (h : Heap) (op : Op) → AllClosed (next h) (h .ptrs) → Closed (next h) (access op h)
+pub access-closed : (h : Heap) (op : Op) → AllClosed (next h) (h .ptrs) → Closed (next h) (access op h)
 access-closed h stop k = tt
 access-closed h (setNull u) k = tt
 access-closed h (copy u w) k = tt
@@ -106,10 +106,14 @@ module _ (k : ℕ) (cs : List ℕ) where
   whole-rest : (c : ℕ) → isRest (whole-weight c) ≡ true → ⊥
   whole-rest c h = bool-case (eqb c k) (λ e. clash (rw e at h) refl) (λ e. clash (rw e at h) refl)
 
+  whole-one : (c : ℕ) → isOneCell (whole-weight c) ≡ true → c ≡ k
+  whole-one c h = bool-case (eqb c k) (λ e. eqb-true c k e) (λ e. clash (rw e at h) refl)
+
   pub whole-fair : Fair k cs whole-weight
   whole-fair = record {
     owned = λ i c d p q. whole-adds i c p .0 ∙ sym (whole-adds i d q .0);
     single = λ c d p q. absurd (whole-rest c p);
+    lone = λ c d p q. whole-one c p ∙ sym (whole-one d q);
     known = λ i c h p. let r = whole-adds i c p in let ne = eqb-false c k (r .1) in let e = r .0 in omega arith;
     positive = λ c n e. absurd (whole-rest c (rw e));
   }
@@ -138,10 +142,15 @@ module _ (k : ℕ) (cs : List ℕ) where
     split-single : (c : ℕ) → isRest (split-weight c) ≡ true → c ≡ k
     split-single c h = let r = rest-is (split-weight c) h in split-rest c (r .0) (r .1) .0
 
+    split-one : (c : ℕ) → isOneCell (split-weight c) ≡ true → c ≡ n
+    split-one c h = bool-case (eqb c n) (λ e. eqb-true c n e)
+        (λ e. bool-case (eqb c k) (λ f. clash (rw (e, f) at h) refl) (λ f. clash (rw (e, f) at h) refl))
+
     pub split-fair : Fair k cs split-weight
     split-fair = record {
       owned = λ i c d p q. split-adds i c p .0 ∙ sym (split-adds i d q .0);
       single = λ c d p q. split-single c p ∙ sym (split-single d q);
+      lone = λ c d p q. split-one c p ∙ sym (split-one d q);
       known = λ i c h p. split-adds i c p .1 h;
       positive = λ c m e. subst (λ x. 1 ≤ getD cs x 1) (split-rest c m e .1) pos;
     }

@@ -2,19 +2,20 @@
 
 -- how many cells a cell of the shape stands for, with these counters
 use Prim.Native.Nat.{_+_, _-_, _<_, _≤_, suc, zero, ℕ}
-use mathlib.Core.Path.{_≡_, ap, ap₂, refl, subst, sym}
+use mathlib.Core.Path.{_∙_, _≡_, ap, ap₂, refl, subst, sym}
 use mathlib.Core.Bool.{Bool, _||_, cond, false, true}
 use mathlib.Core.List.{List, [], _∷_, map}
 use native.Mathlib.Nat.{zero-add}
 use native.Mathlib.Omega.{arith}
 use lib.Dec.{eqb}
-use lib.ListN.{getD, length}
+use lib.ListN.{getD, length, length-map}
 use borrow.Author.Tests.{eq-eqb, ne-eqb}
 use Rattle.model.specs.Base.{any, count, mem, numbers, sum}
 use Rattle.model.specs.Edges.{Weight, addsCounter, counter, isOneCell, isRest, one, rest, updateOf}
 use Rattle.model.specs.Shape.{Seg, cells}
 use Rattle.model.proofs.Bytes.{flagged}
 use Rattle.model.proofs.Logic.{NoDup, bool-case, clash, eqb-same, mem-here, mem-there, not-true, or-cases}
+use Rattle.model.proofs.Unfold.{length-numbers}
 
 abbrev pub weigh : List ℕ → Weight → ℕ
 weigh cs (counter n) = getD cs n 1
@@ -52,10 +53,11 @@ flags-or f g j (c ∷ cs) h =
     (λ p. bool-case (g j) (λ q. absurd (h j p q)) (λ q. rw (p, q) (omega arith)))
     (λ p. bool-case (g j) (λ q. rw (p, q) (omega arith)) (λ q. rw (p, q) (omega arith)))
 
--- What is needed of the cells' weights: a counter belongs to one cell, and so does a rest; counters are there, and a rest's is not 0.
+-- What is needed of the cells' weights: a counter belongs to one cell, and one cell at most is a rest, and one stands for one; counters are there, and a rest's is not 0.
 pub record Fair (k : ℕ) (cs : List ℕ) (w : ℕ → Weight) : Type 0 where
   pub owned : (i c d : ℕ) → addsCounter i (w c) ≡ true → addsCounter i (w d) ≡ true → c ≡ d
   pub single : (c d : ℕ) → isRest (w c) ≡ true → isRest (w d) ≡ true → c ≡ d
+  pub lone : (c d : ℕ) → isOneCell (w c) ≡ true → isOneCell (w d) ≡ true → c ≡ d
   pub known : (i c : ℕ) → c < suc k → addsCounter i (w c) ≡ true → i < k
   pub positive : (c n : ℕ) → w c ≡ rest n → 1 ≤ getD cs n 1
 
@@ -94,14 +96,21 @@ module _ (k : ℕ) (cs : List ℕ) (len : length cs ≡ k) (w : ℕ → Weight) 
       (λ i p q. let z = any-owner i l q in clash (subst (λ x. mem x l ≡ true) (sym (F .owned i c (z .0) p (z .2))) (z .1)) (nd .0)) in
       omega arith
 
-  few-rests : (l : List ℕ) → NoDup l → count (λ c. isRest (w c)) l ≤ 1
-  few-rests [] nd = omega arith
-  few-rests (c ∷ l) nd = bool-case (isRest (w c)) (λ e. rw e (omega (arith, no-rests l (λ d q p. clash (subst (λ x. mem x l ≡ true) (F .single d c p e) q) (nd .0)))))
-      (λ e. rw e (omega (arith, few-rests l (nd .1))))
+  few-of : (p : ℕ → Bool) → ((c d : ℕ) → p c ≡ true → p d ≡ true → c ≡ d) → (l : List ℕ) → NoDup l → count p l ≤ 1
+  few-of p one-only [] nd = omega arith
+  few-of p one-only (c ∷ l) nd = bool-case (p c) (λ e. rw e (omega (arith, none-of l (λ d q z. clash (subst (λ x. mem x l ≡ true) (one-only d c z e) q) (nd .0)))))
+      (λ e. rw e (omega (arith, few-of p one-only l (nd .1))))
     where
-      no-rests : (m : List ℕ) → ((d : ℕ) → mem d m ≡ true → isRest (w d) ≡ true → ⊥) → count (λ c. isRest (w c)) m ≡ 0
-      no-rests [] z = refl
-      no-rests (d ∷ m) z = rw (not-true (isRest (w d)) (z d (mem-here d m))) (omega (arith, no-rests m (λ x q. z x (mem-there x d m q))))
+      none-of : (m : List ℕ) → ((d : ℕ) → mem d m ≡ true → p d ≡ true → ⊥) → count p m ≡ 0
+      none-of [] z = refl
+      none-of (d ∷ m) z = rw (not-true (p d) (z d (mem-here d m))) (omega (arith, none-of m (λ x q. z x (mem-there x d m q))))
+
+  -- the constant of an update is -1, 0 or 1, and it has a flag for each old node
+  pub update-small : (s : Seg) → NoDup (cells s) → (updateOf k w s .plus ≤ 2) × (length (updateOf k w s .adds) ≡ k)
+  update-small s nd = (
+    omega (arith, few-of (λ c. isOneCell (w c)) (F .lone) (cells s) nd),
+    length-map (numbers 0 k) (λ i. any (λ c. addsCounter i (w c)) (cells s)) ∙ length-numbers 0 k,
+  )
 
   -- an update's value is the sum of what the cells stand for
   pub update-value : (s : Seg) → NoDup (cells s) → ((c : ℕ) → mem c (cells s) ≡ true → c < suc k)
@@ -109,5 +118,5 @@ module _ (k : ℕ) (cs : List ℕ) (len : length cs ≡ k) (w : ℕ → Weight) 
   unfolding adds-of
   update-value s nd h =
       let b = balance (cells s) nd h in
-      let f = few-rests (cells s) nd in
+      let f = few-of (λ c. isRest (w c)) (F .single) (cells s) nd in
       rw (← len) (omega arith)
