@@ -36,3 +36,4 @@ pub mod Listing
 pub mod Exact
 pub mod Places
 pub mod Reached
+pub mod Moves
