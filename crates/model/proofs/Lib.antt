@@ -37,3 +37,4 @@ pub mod Exact
 pub mod Places
 pub mod Reached
 pub mod Moves
+pub mod Single
