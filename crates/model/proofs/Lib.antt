@@ -38,3 +38,4 @@ pub mod Places
 pub mod Reached
 pub mod Moves
 pub mod Single
+pub mod Whole

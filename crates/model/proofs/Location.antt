@@ -204,7 +204,7 @@ module _ (s : ℕ) (st : Stmt) (H : Heap) (cl : ClosedHeap H) (kp : Kept H) wher
   way-ready (cell n) a y (inr (inr x)) on c = absurd x
 
   -- the way of an edge
-  edge-way : (E : Edge) → In E (edgesAt s st (shape H)) → (y : Way) × In y (ways op-of (shape H)) × In E (edgeBy s nodes y (stepBy st nodes y))
+  pub edge-way : (E : Edge) → In E (edgesAt s st (shape H)) → (y : Way) × In y (ways op-of (shape H)) × In E (edgeBy s nodes y (stepBy st nodes y))
   edge-way E i =
       let r = in-joined E (map (λ z. edgeBy s nodes z (stepBy st nodes z)) (ways op-of (shape H))) i in
       let q = in-map (λ z. edgeBy s nodes z (stepBy st nodes z)) (r .0) (ways op-of (shape H)) (r .1) in

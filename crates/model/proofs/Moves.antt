@@ -38,16 +38,16 @@ map-two : {A B C : Type 0} (f : A → B) (g : B → C) (l : List A) → map g (m
 map-two f g [] = refl
 map-two f g (x ∷ l) = ap (λ z. g (f x) ∷ z) (map-two f g l)
 
-abbrev noLink : Link
+abbrev pub noLink : Link
 noLink = record { from = 0; dest = 0; edge = record { branchNo = 0; guard = always; to = failed 0 leak; updates = [] } }
 
 -- edge n of a listing
 abbrev pub linkAt : Listing → ℕ → Link
 linkAt t n = getD (t .links) n noLink
 
--- the move along an edge
-abbrev pub along : Config → Link → Step Config
-along c k = record { branchNo = k .edge .branchNo; after = record { loc = k .dest; values = map (worth (c .values)) (k .edge .updates) } }
+-- the move by-link an edge
+abbrev pub by-link : Config → Link → Step Config
+by-link c k = record { branchNo = k .edge .branchNo; after = record { loc = k .dest; values = map (worth (c .values)) (k .edge .updates) } }
 
 pub good-writable : (l : Loc) → GoodLoc l → WritableLoc l
 good-writable (at s h) g = canon-writable h (g .0) (g .1)
@@ -110,7 +110,7 @@ module _ (r : Routine) (t : Listing) (X : Exact r t) (G : GoodStarts r) (a b : �
       ∙ guard-read (k .edge .guard) cs
 
   -- taking an edge
-  taken-along : (n : ℕ) (c : Config) → n < length (t .links) → taken T c (recordAt (T .edgeBytes) n) ≡ along c (linkAt t n)
+  taken-along : (n : ℕ) (c : Config) → n < length (t .links) → taken T c (recordAt (T .edgeBytes) n) ≡ by-link c (linkAt t n)
   taken-along n c h =
       let k = linkAt t n in
       let L = link-facts n h in
@@ -134,7 +134,7 @@ module _ (r : Routine) (t : Listing) (X : Exact r t) (G : GoodStarts r) (a b : �
       })
 
   pub move-of : (n : ℕ) (c : Config) → n < length (t .links) → linkAt t n .from ≡ c .loc → guardOn (linkAt t n .edge .guard) (c .values) ≡ true
-      → moveOf T c n ≡ some (along c (linkAt t n))
+      → moveOf T c n ≡ some (by-link c (linkAt t n))
   move-of n c h f g =
       let e : enabled T c n ≡ true = and-both (ltb n (length (t .links)) && eqb (word (recordAt (T .edgeBytes) n) 2) (c .loc)) _
       (and-both (ltb n (length (t .links))) (eqb (word (recordAt (T .edgeBytes) n) 2) (c .loc)) (lt-ltb n (length (t .links)) h) (eq-eqb (word (recordAt (T .edgeBytes) n) 2) (c .loc) (edge-word n h ∙ f)))
@@ -142,7 +142,7 @@ module _ (r : Routine) (t : Listing) (X : Exact r t) (G : GoodStarts r) (a b : �
       rw e (ap some (taken-along n c h))
 
   pub move-some : (n : ℕ) (c : Config) (y : Step Config) → moveOf T c n ≡ some y
-      → (n < length (t .links)) × (linkAt t n .from ≡ c .loc) × (guardOn (linkAt t n .edge .guard) (c .values) ≡ true) × (y ≡ along c (linkAt t n))
+      → (n < length (t .links)) × (linkAt t n .from ≡ c .loc) × (guardOn (linkAt t n .edge .guard) (c .values) ≡ true) × (y ≡ by-link c (linkAt t n))
   move-some n c y m = bool-case (enabled T c n)
       (λ e.
       let p = ltb n (length (t .links)) in

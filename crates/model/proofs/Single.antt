@@ -26,7 +26,7 @@ use Rattle.model.proofs.Listing.{locAt}
 use Rattle.model.proofs.Lists.{In, Pairs, getD-in, in-getD, in-joined, in-map, pairs-append, some-none}
 use Rattle.model.proofs.Location.{leave-backward, leave-forward}
 use Rattle.model.proofs.Logic.{bool-case, eq-case}
-use Rattle.model.proofs.Moves.{along, link-facts, linkAt, loc-good, move-of, move-some}
+use Rattle.model.proofs.Moves.{by-link, link-facts, linkAt, loc-good, move-of, move-some}
 use Rattle.model.proofs.Reached.{GoodLoc}
 
 pairs-joined : {A B : Type 0} (R : B → B → Type 0) (f : A → List B) (l : List A) → ((x : A) → In x l → Pairs R (f x))
@@ -134,7 +134,7 @@ module _ (r : Routine) (t : Listing) (X : Exact r t) (G : GoodStarts r) (a b : �
           let ed : k .edge ≡ E = ap (λ (z : Link). z .edge) (P .2) in
           let L = link-facts r t X G a b n (P .1) in
           let on : guardOn (k .edge .guard) (c .values) ≡ true = ap₂ (λ (z : Edge) cs. guardOn (z .guard) cs) ed (m .1) ∙ F .2 in
-          (n, along c k, move-of r t X G a b n c (P .1) (ap (λ (z : Link). z .from) (P .2)) on,
+          (n, by-link c k, move-of r t X G a b n c (P .1) (ap (λ (z : Link). z .from) (P .2)) on,
           F .3 ∙ ap (λ (z : Edge). z .branchNo) (sym ed),
           (subst₂ (λ l vs. Fit (x .after) l vs) (ap (λ (z : Edge). z .to) (sym ed) ∙ sym (L .dest-is))
           (ap₂ (λ cs (z : Edge). map (worth cs) (z .updates)) (sym (m .1)) (sym ed)) (F .4), L .dest-below))
@@ -144,7 +144,7 @@ module _ (r : Routine) (t : Listing) (X : Exact r t) (G : GoodStarts r) (a b : �
       → (x : Step State) × (stepOf sts q e ≡ some x) × (x .branchNo ≡ y .branchNo) × Both (x .after) (y .after)
   backward q c B n y p e pk u = by-status (q .status) (B .0)
     where
-      M : (n < length (t .links)) × (linkAt t n .from ≡ c .loc) × (guardOn (linkAt t n .edge .guard) (c .values) ≡ true) × (y ≡ along c (linkAt t n))
+      M : (n < length (t .links)) × (linkAt t n .from ≡ c .loc) × (guardOn (linkAt t n .edge .guard) (c .values) ≡ true) × (y ≡ by-link c (linkAt t n))
       M = move-some r t X G a b n c y p
 
       L : LinkGood sts t (linkAt t n)

@@ -81,7 +81,7 @@ access-same (same u w) n k h = refl
 access-same choose n k h = refl
 access-same skip n k h = refl
 
-room-of : (k : Kind) (h : Heap) (c : ℕ) → next h c ≡ unused → Room k h c
+pub room-of : (k : Kind) (h : Heap) (c : ℕ) → next h c ≡ unused → Room k h c
 room-of stops h c e = tt
 room-of picks h c e = tt
 room-of allocates h c e = e
