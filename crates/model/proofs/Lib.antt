@@ -39,3 +39,4 @@ pub mod Reached
 pub mod Moves
 pub mod Single
 pub mod Whole
+pub mod Demand

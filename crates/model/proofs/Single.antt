@@ -133,11 +133,17 @@ module _ (r : Routine) (t : Listing) (X : Exact r t) (G : GoodStarts r) (a b : �
           let k = linkAt t n in
           let ed : k .edge ≡ E = ap (λ (z : Link). z .edge) (P .2) in
           let L = link-facts r t X G a b n (P .1) in
-          let on : guardOn (k .edge .guard) (c .values) ≡ true = ap₂ (λ (z : Edge) cs. guardOn (z .guard) cs) ed (m .1) ∙ F .2 in
-          (n, by-link c k, move-of r t X G a b n c (P .1) (ap (λ (z : Link). z .from) (P .2)) on,
-          F .3 ∙ ap (λ (z : Edge). z .branchNo) (sym ed),
-          (subst₂ (λ l vs. Fit (x .after) l vs) (ap (λ (z : Edge). z .to) (sym ed) ∙ sym (L .dest-is))
-          (ap₂ (λ cs (z : Edge). map (worth cs) (z .updates)) (sym (m .1)) (sym ed)) (F .4), L .dest-below))
+          let on : guardOn (k .edge .guard) (c .values) ≡ true = ap₂ (λ (z : Edge) cs. guardOn (z .guard) cs) ed (m .1) ∙ F .2 in (
+            n,
+            by-link c k,
+            move-of r t X G a b n c (P .1) (ap (λ (z : Link). z .from) (P .2)) on,
+            F .3 ∙ ap (λ (z : Edge). z .branchNo) (sym ed),
+            (
+              subst₂ (λ l vs. Fit (x .after) l vs) (ap (λ (z : Edge). z .to) (sym ed) ∙ sym (L .dest-is))
+                  (ap₂ (λ cs (z : Edge). map (worth cs) (z .updates)) (sym (m .1)) (sym ed)) (F .4),
+              L .dest-below,
+            ),
+          )
 
   pub backward : (q : State) (c : Config) → Both q c → (n : ℕ) (y : Step Config) → moveOf T c n ≡ some y → (e : Entry) → e .pick ≡ y .branchNo
       → inUse (next (q .heap) (e .cellNo)) ≡ false
@@ -159,7 +165,10 @@ module _ (r : Routine) (t : Listing) (X : Exact r t) (G : GoodStarts r) (a b : �
       by-status running m =
           let k = linkAt t n in
           let F = leave-backward (q .stmt) (stmtAt sts (q .stmt)) (q .heap) (m .2) (m .3) (k .edge) (subst (λ l. In (k .edge) (edgesOf sts l)) (m .0) inEdges)
-          (ap (guardOn (k .edge .guard)) (sym (m .1)) ∙ M .2) e (pk ∙ ap (λ (z : Step Config). z .branchNo) (M .3)) u in
-          (F .0, sym (made-begin q (step (stmtAt sts (q .stmt)) e (q .heap))) ∙ F .1, F .2 ∙ ap (λ (z : Step Config). z .branchNo) (sym (M .3)),
-          subst (λ (z : Step Config). Both (F .0 .after) (z .after)) (sym (M .3))
-          (subst₂ (λ l vs. Fit (F .0 .after) l vs) (sym (L .dest-is)) (ap (λ cs. map (worth cs) (k .edge .updates)) (sym (m .1))) (F .3), L .dest-below))
+          (ap (guardOn (k .edge .guard)) (sym (m .1)) ∙ M .2) e (pk ∙ ap (λ (z : Step Config). z .branchNo) (M .3)) u in (
+            F .0,
+            sym (made-begin q (step (stmtAt sts (q .stmt)) e (q .heap))) ∙ F .1,
+            F .2 ∙ ap (λ (z : Step Config). z .branchNo) (sym (M .3)),
+            subst (λ (z : Step Config). Both (F .0 .after) (z .after)) (sym (M .3))
+                (subst₂ (λ l vs. Fit (F .0 .after) l vs) (sym (L .dest-is)) (ap (λ cs. map (worth cs) (k .edge .updates)) (sym (m .1))) (F .3), L .dest-below),
+          )

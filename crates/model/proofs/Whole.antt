@@ -160,8 +160,11 @@ module _ (r : Routine) (t : Listing) (X : Exact r t) (G : GoodStarts r) (a b : �
           let v = rw (p, trace) at u in
           let e : Entry = record { pick = y .branchNo; cellNo = d } in
           let f = backward r t X G a b q c B n y p e refl (v .0) in
-          rw (p, trace) (rw (f .1, trace) (f .2, fits-match (f .0 .after) (y .after) (f .3),
-          rec (f .0 .after) (y .after) (f .3) cs (let z = rw (p, trace) at l in omega arith) (subst (λ o. Unused sts (afterEntry q o) (fed (trace (moveOf T) (y .after) ns) cs)) (f .1) (v .1))))
+          rw (p, trace) (rw (f .1, trace) (
+            f .2,
+            fits-match (f .0 .after) (y .after) (f .3),
+            rec (f .0 .after) (y .after) (f .3) cs (let z = rw (p, trace) at l in omega arith) (subst (λ o. Unused sts (afterEntry q o) (fed (trace (moveOf T) (y .after) ns) cs)) (f .1) (v .1)),
+          ))
 
   -- there are always such cells
   supplied : (ns : List ℕ) (q : State) (c : Config) → Fits q c → (cs : List ℕ) × Supply sts q (trace (moveOf T) c ns) cs
@@ -175,11 +178,13 @@ module _ (r : Routine) (t : Listing) (X : Exact r t) (G : GoodStarts r) (a b : �
           let d = length (q .heap .slots) in
           let e : Entry = record { pick = y .branchNo; cellNo = d } in
           let f = backward r t X G a b q c B n y p e refl (unused-past (q .heap)) in
-          let k = rec (f .0 .after) (y .after) (f .3) in
-          (d ∷ k .0, rw (p, trace) (record {
-            enough = ap suc (k .1 .enough);
-            unused = (unused-past (q .heap), subst (λ o. Unused sts (afterEntry q o) (fed (trace (moveOf T) (y .after) ns) (k .0))) (sym (f .1)) (k .1 .unused));
-          }))
+          let k = rec (f .0 .after) (y .after) (f .3) in (
+            d ∷ k .0,
+            rw (p, trace) (record {
+              enough = ap suc (k .1 .enough);
+              unused = (unused-past (q .heap), subst (λ o. Unused sts (afterEntry q o) (fed (trace (moveOf T) (y .after) ns) (k .0))) (sym (f .1)) (k .1 .unused));
+            }),
+          )
 
   -- whole lists are matched, in either direction
   pub matching : (q : State) (c : Config) → Fits q c → Matching sts T q c

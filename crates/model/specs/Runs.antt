@@ -200,5 +200,5 @@ abbrev pub DemandThree : List ℕ → Tables → Type 0
 DemandThree s t = (r : Routine) → check s ≡ good r → IsRoutine r t
 
 -- Demand 3: for any accepted translation.
-pub Demand3 : Type 0
+unfoldable pub Demand3 : Type 0
 Demand3 = (s : List ℕ) (a b : ℕ) → translate s a b .refused .number ≡ 0 → DemandThree s (translate s a b .tables)

@@ -1,0 +1,67 @@
+-- Demand 3, for any accepted translation, read from the bytes of its tables.
+
+-- a number that is 0 is no refusal's
+use Prim.Native.Nat.{_<_, suc, zero, ℕ}
+use mathlib.Core.Path.{_∙_, _≡_, ap, refl, subst, sym}
+use mathlib.Core.Logic.{⊎-elim}
+use mathlib.Core.Option.{some}
+use mathlib.Core.List.{List, [], _∷_, head-eq-of-cons-eq, map, tail-eq-of-cons-eq}
+use native.Mathlib.Omega.{arith}
+use lib.ListN.{getD, getElem?, length, take}
+use Rattle.model.specs.Edges.{Edge, Loc, at, failed}
+use Rattle.model.specs.Heap.{Heap}
+use Rattle.model.specs.Machine.{leak}
+use Rattle.model.specs.Runs.{Config, Demand3, Matching}
+use Rattle.model.specs.Translate.{Explored, Listing, Outcome, Refusal, Routine, check, full, good, listed, listedWith, listing, places, refusal, refusedWith, translate}
+use Rattle.model.proofs.Checked.{check-good}
+use Rattle.model.proofs.Exact.{listing-exact}
+use Rattle.model.proofs.Facts.{heap-closed, heap-kept}
+use Rattle.model.proofs.Leave.{begin}
+use Rattle.model.proofs.Lists.{some-inj, some-none}
+use Rattle.model.proofs.Places.{Refused, Why, full-says, no-edge, no-location}
+use Rattle.model.proofs.Same.{elem-none}
+use Rattle.model.proofs.Whole.{matching}
+
+full-number : (r : Routine) (cl ce : ℕ) (x : Refusal) → listing r cl ce ≡ full x → x .number ≡ 0 → ⊥
+full-number r cl ce x e z = ⊎-elim
+    (λ (p : (cl < length (r .starts)) × (x ≡ refusal 11 cl)). let q = ap (λ (y : Refusal). y .number) (p .1) in omega arith)
+    (λ (p : Refused (r .stmts) (r .starts) cl ce x). by-why (p .no-place .why)) (full-says r cl ce x e)
+  where
+    by-why : {i : ℕ} {d : Edge} {u : Listing} → Why cl ce i d u x → ⊥
+    by-why (no-location p q l) = let k = ap (λ (y : Refusal). y .number) p in omega arith
+    by-why (no-edge p q l) = let k = ap (λ (y : Refusal). y .number) p in omega arith
+
+-- an accepted translation is a listing of a checked routine
+pub accepted : (s : List ℕ) (a b : ℕ) (r : Routine) → check s ≡ good r → translate s a b .refused .number ≡ 0
+    → (t : Listing) × (listing r (places 1024 a) (places 2048 b) ≡ listed t) × (translate s a b ≡ listedWith a b t)
+unfolding translate
+accepted s a b r e z = by-listing (listing r (places 1024 a) (places 2048 b)) refl
+  where
+    by-listing : (o : Explored) → listing r (places 1024 a) (places 2048 b) ≡ o
+        → (t : Listing) × (listing r (places 1024 a) (places 2048 b) ≡ listed t) × (translate s a b ≡ listedWith a b t)
+    by-listing (full x) p =
+        let q : translate s a b ≡ refusedWith a b x = rw (e, translate) (rw (p, translate)) in
+        absurd (full-number r (places 1024 a) (places 2048 b) x p (ap (λ (o : Outcome). o .refused .number) (sym q) ∙ z))
+    by-listing (listed t) p = (t, p, rw (e, translate) (rw (p, translate)))
+
+-- the location of a starting shape
+start-at : (hs : List Heap) (ls : List Loc) → take (length hs) ls ≡ map (at 0) hs → (i : ℕ) (h : Heap) → getElem? hs i ≡ some h
+    → (getD ls i (failed 0 leak) ≡ at 0 h) × (i < length ls)
+start-at [] ls e i h g = some-none (sym (elem-none [] i (omega arith)) ∙ g)
+start-at (x ∷ hs) [] e i h g = absurd (let z : _≡_ {A = ℕ} 0 1 = cc in omega arith)
+start-at (x ∷ hs) (l ∷ ls) e zero h g = (head-eq-of-cons-eq e ∙ ap (at 0) (some-inj g), omega arith)
+start-at (x ∷ hs) (l ∷ ls) e (suc i) h g = let k = start-at hs ls (tail-eq-of-cons-eq e) i h g in (k .0, omega arith)
+
+-- demand 3
+pub demand-three : Demand3
+unfolding Demand3
+demand-three s a b z r e i sh h cs g d =
+    let A = accepted s a b r e z in
+    let t = A .0 in
+    let G = check-good s r e in
+    let X = listing-exact r (places 1024 a) (places 2048 b) t (G .distinct) (A .1) in
+    let w = start-at (r .starts) (t .locs) (X .starts) i sh g in
+    let q = begin 0 h in
+    let c : Config = record { loc = i; values = cs } in
+    subst (λ (o : Outcome). Matching (r .stmts) (o .tables) q c) (sym (A .2))
+    (matching r t X G a b q c ((w .0 ∙ ap (at 0) (sym (d .shapeIs)), sym (d .countersAre), heap-closed h (d .isHeap), heap-kept h (d .isHeap)), w .1))
