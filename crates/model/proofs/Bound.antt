@@ -11,11 +11,11 @@ use Rattle.model.specs.Base.{mem}
 use Rattle.model.specs.Heap.{Heap, Slot, Val, cell, holds, kept, next, null, order, undef, unused}
 use Rattle.model.specs.Shape.{Seg, core, cut, cutFrom, holdsCell, isCell, last, nodeSlot, nodeVal, segments, shape}
 use Rattle.model.proofs.Cores.{core-head}
-use Rattle.model.proofs.Expand.{Chain}
 use Rattle.model.proofs.Folds.{Alls, Kept, fold-same}
 use Rattle.model.proofs.Logic.{bool-case, clash, eq-case, eqb-same, or-cases, or-l, tsum}
+use Rattle.model.proofs.Notions.{Chain, segAt}
 use Rattle.model.proofs.Order.{toured}
-use Rattle.model.proofs.Start.{AllCore, Cuts, alls-at, core-of-pointed, cuts-good, end, last-head, linked-chain, segAt, slot-at, start}
+use Rattle.model.proofs.Start.{AllCore, Cuts, alls-at, core-of-pointed, cuts-good, end, last-head, linked-chain, slot-at, start}
 use Rattle.model.proofs.Walks.{ClosedHeap, Tours, Walks, at-null, at-seen, at-undef, go, holders, pointed, tour-done, tour-more}
 
 pub fold-fold : (h : Heap) → ClosedHeap h → Kept h → shape (shape h) ≡ shape h

@@ -2,13 +2,13 @@
 use Prim.Native.Nat.{_%_, _*_, _+_, _-_, _/_, _<_, _^_, _≤_, suc, zero, ℕ}
 use mathlib.Core.Path.{_∙_, _≡_, ap, ap₂, refl, sym}
 use mathlib.Core.Logic.{inl, inr}
-use mathlib.Core.Bool.{Bool, cond, false, true}
-use mathlib.Core.List.{List, [], _++_, _∷_, append-assoc, map}
+use mathlib.Core.Bool.{Bool, false, true}
+use mathlib.Core.List.{List, [], _++_, _∷_, append-assoc}
 use native.Mathlib.Nat.{add-mul-mod-self-left, mod-add-div, mod-eq-of-lt, one-mul, pow-suc, zero-mul}
 use native.Mathlib.Omega.{arith}
 use lib.Dec.{eqb}
-use lib.ListN.{drop, getD, length, replicate, take}
-use lib.Seq.{drop-append-add, take-at}
+use lib.ListN.{drop, getD, length, length-append, length-replicate, replicate, take}
+use lib.Seq.{drop-append-add, drop-at, take-at}
 use borrow.Author.Tests.{eqb-true, ne-eqb}
 use Rattle.model.specs.Base.{all, joined}
 use Rattle.model.specs.Edges.{Update}
@@ -18,12 +18,9 @@ use Rattle.model.specs.Runs.{added, applied}
 use Rattle.model.specs.Translate.{tableOf}
 use Rattle.model.proofs.Lists.{In}
 use Rattle.model.proofs.Logic.{and-l, and-r, bool-case}
-
--- a value whose cell number, if it has one, is below k
-abbrev pub SmallVal : ℕ → Val → Type 0
-SmallVal k (cell n) = n < k
-SmallVal k null = Unit {0}
-SmallVal k undef = Unit {0}
+pub use Rattle.model.proofs.Listings.{SmallVal}
+pub use Rattle.model.proofs.Lists.{map-back}
+pub use Rattle.model.proofs.Notions.{flagged}
 
 pub small-up : (j k : ℕ) (v : Val) → j ≤ k → SmallVal j v → SmallVal k v
 small-up j k (cell n) h s = omega arith
@@ -49,12 +46,6 @@ word-back n = mod-add-div n 256
 pub word-at : (l : List ℕ) (n : ℕ) (m : List ℕ) → word (l ++ (twoBytes n ++ m)) (length l) ≡ n
 word-at [] n m = word-back n
 word-at (x ∷ l) n m = word-at l n m
-
--- the counters that are flagged, added up
-abbrev pub flagged : List Bool → List ℕ → ℕ
-flagged [] cs = 0
-flagged (b ∷ fs) [] = 0
-flagged (b ∷ fs) (c ∷ cs) = cond b c 0 + flagged fs cs
 
 added-none : (cs : List ℕ) → added 0 cs ≡ 0
 added-none [] = refl
@@ -105,10 +96,22 @@ pub table-record : (n : ℕ) (rs : List (List ℕ)) (i : ℕ) → ((r : List ℕ
     → recordAt (tableOf n rs) i ≡ getD rs i []
 table-record n rs i h k = joined-record rs (replicate (n - 32 * length rs) 0) i h k
 
--- an element stands at a place, and each place has an element
-pub map-back : {A B : Type 0} (f : A → B) (g : B → A) (l : List A) → ((x : A) → In x l → g (f x) ≡ x) → map g (map f l) ≡ l
-map-back f g [] h = refl
-map-back f g (x ∷ l) h = ap₂ _∷_ (h x (inl refl)) (map-back f g l (λ y q. h y (inr q)))
+pub joined-length : (rs : List (List ℕ)) → ((r : List ℕ) → In r rs → length r ≡ 32) → length (joined rs) ≡ 32 * length rs
+joined-length [] h = refl
+joined-length (r ∷ rs) h = omega (arith, length-append r (joined rs), h r (inl refl), joined-length rs (λ x q. h x (inr q)))
+
+-- a table keeps its length, and "bytes after the last are zero"
+pub table-length : (n : ℕ) (rs : List (List ℕ)) → ((r : List ℕ) → In r rs → length r ≡ 32) → 32 * length rs ≤ n → length (tableOf n rs) ≡ n
+table-length n rs h k = omega (
+  arith,
+  length-append (joined rs) (replicate (n - 32 * length rs) 0),
+  joined-length rs h,
+  length-replicate {A = ℕ} (n - 32 * length rs) 0,
+)
+
+pub table-rest : (n : ℕ) (rs : List (List ℕ)) → ((r : List ℕ) → In r rs → length r ≡ 32)
+    → drop (32 * length rs) (tableOf n rs) ≡ replicate (n - 32 * length rs) 0
+table-rest n rs h = drop-at (joined rs) (replicate (n - 32 * length rs) 0) (32 * length rs) (joined-length rs h)
 
 -- bytes that are all zero
 pub all-zero : (l : List ℕ) → all isZero l ≡ true → l ≡ replicate (length l) 0

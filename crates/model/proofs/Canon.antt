@@ -5,30 +5,28 @@ use mathlib.Core.Bool.{Bool, true}
 use mathlib.Core.List.{List, [], _++_, _∷_, append-cancel-left, head-eq-of-cons-eq, map}
 use native.Mathlib.Omega.{arith}
 use lib.Dec.{eqb}
-use lib.ListN.{getD, length, length-map}
+use lib.ListN.{length, length-map}
 use borrow.Author.Tests.{eqb-false, eqb-true}
 use Rattle.model.specs.Base.{mem, numbers}
-use Rattle.model.specs.Edges.{at}
-use Rattle.model.specs.Heap.{Heap, Slot, Val, cell, holds, next, null, order, undef, unused}
-use Rattle.model.specs.Shape.{Seg, cells, core, cut, cutFrom, last, node, nodeSlot, nodeVal, segments, shape}
+use Rattle.model.specs.Heap.{Heap, Slot, Val, cell, closed, holds, kept, next, null, order, undef, unused}
+use Rattle.model.specs.Shape.{Seg, cells, core, cut, cutFrom, last, node, nodeSlot, nodeVal, numbered, segments, shape}
 use Rattle.model.proofs.Bound.{nodes-core}
 use Rattle.model.proofs.Cores.{first-inj}
-use Rattle.model.proofs.Expand.{Expands, cat}
 use Rattle.model.proofs.Folds.{Kept, kept-down, order-cat}
-use Rattle.model.proofs.Logic.{bool-case, clash, mem-cases, mem-here, mem-there}
+use Rattle.model.proofs.Lists.{map-id, map-same, map-two}
+use Rattle.model.proofs.Logic.{bool-case, mem-here, mem-there}
+use Rattle.model.proofs.Notions.{Expands, cat, flat, segAt}
+use Rattle.model.proofs.Numbers.{read-all}
 use Rattle.model.proofs.Order.{toured, used-below}
-use Rattle.model.proofs.Start.{end, flat, flat-is, segAt, slot-at, start}
-use Rattle.model.proofs.Walks.{AllClosed, AllUsed, Closed, ClosedHeap, seg}
+use Rattle.model.proofs.Start.{end, flat-is, slot-at, start}
+use Rattle.model.proofs.Walks.{AllUsed, Closed, ClosedHeap, closed-in, seg}
+pub use Rattle.model.proofs.Numbers.{numbers-mem}
 
 pub record Canon (h : Heap) : Type 0 where
   pub closed : ClosedHeap h
   pub kept : Kept h
   pub numbered : order h ≡ numbers 0 (length (h .slots))
   pub all-core : (n : ℕ) → n < length (h .slots) → core h n ≡ true
-
-pub numbers-mem : (i n c : ℕ) → mem c (numbers i n) ≡ true → (i ≤ c) × (c < i + n)
-numbers-mem i zero c h = clash h refl
-numbers-mem i (suc n) c h = mem-cases c i (numbers (suc i) n) h (λ e. (omega arith, omega arith)) (λ k. let r = numbers-mem (suc i) n c k in (omega arith, omega arith))
 
 cat-inj : (nw : ℕ → Slot) (sg : ℕ → Seg) (nh : ℕ → Slot) → Expands nw sg nh → (l m : List ℕ) → AllUsed nw l → AllUsed nw m → cat sg l ≡ cat sg m → l ≡ m
 cat-inj nw sg nh E [] [] ul um e = refl
@@ -75,38 +73,26 @@ node-single i zero c h k = absurd (omega arith)
 node-single i (suc n) c h k = bool-case (eqb c i) (λ e. rw e (let z = eqb-true c i e in omega arith))
     (λ e. rw e (let z = eqb-false c i e in let r = node-single (suc i) n c (omega arith) (omega arith) in omega arith))
 
-map-shift : (g : Slot → Slot) (x : Slot) (l : List Slot) (i n : ℕ) → map (λ (s : Seg). g (getD (x ∷ l) (last s) unused)) (map single (numbers (suc i) n)) ≡ map (λ (s : Seg). g (getD l (last s) unused)) (map single (numbers i n))
-map-shift g x l i zero = refl
-map-shift g x l i (suc n) = ap (λ z. g (getD l i unused) ∷ z) (map-shift g x l (suc i) n)
-
-map-slots : (g : Slot → Slot) (l : List Slot) → map (λ (s : Seg). g (getD l (last s) unused)) (map single (numbers 0 (length l))) ≡ map g l
-map-slots g [] = refl
-map-slots g (x ∷ l) = ap (λ z. g x ∷ z) (map-shift g x l 0 (length l) ∙ map-slots g l)
-
-map-id : (g : Slot → Slot) (l : List Slot) → ((i : ℕ) → g (getD l i unused) ≡ getD l i unused) → map g l ≡ l
-map-id g [] h = refl
-map-id g (x ∷ l) h = ap₂ _∷_ (h 0) (map-id g l (λ i. h (suc i)))
-
-map-idv : (nx : ℕ → Slot) (g : Val → Val) (l : List Val) → ((v : Val) → Closed nx v → g v ≡ v) → AllClosed nx l → map g l ≡ l
-map-idv nx g [] h k = refl
-map-idv nx g (v ∷ l) h k = ap₂ _∷_ (h v (k .0)) (map-idv nx g l h (k .1))
-
 module _ (h : Heap) (C : Canon h) where
+  -- one node for each slot
+  abbrev nodes : List Seg
+  nodes = map single (numbers 0 (length (h .slots)))
+
   pub canon-segments : segments h ≡ map single (numbers 0 (length (h .slots)))
   canon-segments = rw (C .numbered) (cuts-single (core h) (numbers 0 (length (h .slots))) (λ n q. C .all-core n (let r = numbers-mem 0 (length (h .slots)) n q in omega arith)))
 
-  val-id : (v : Val) → Closed (next h) v → nodeVal (map single (numbers 0 (length (h .slots)))) v ≡ v
+  val-id : (v : Val) → Closed (next h) v → nodeVal nodes v ≡ v
   val-id null k = refl
   val-id undef k = refl
   val-id (cell c) k = ap cell (let r = node-single 0 (length (h .slots)) c (omega arith) (let q = used-below (h .slots) c k in omega arith) in omega arith)
 
-  slot-id : (i : ℕ) (s : Slot) → next h i ≡ s → nodeSlot (map single (numbers 0 (length (h .slots)))) s ≡ s
+  slot-id : (i : ℕ) (s : Slot) → next h i ≡ s → nodeSlot nodes s ≡ s
   slot-id i unused e = refl
   slot-id i (holds v) e = ap holds (val-id v (C .closed .1 i v e))
 
   pub canon-fold : shape h ≡ h
   canon-fold = rw canon-segments (λ i. record {
-    ptrs = map-idv (next h) (nodeVal (map single (numbers 0 (length (h .slots))))) (h .ptrs) val-id (C .closed .0) i;
-    slots = (map-slots (nodeSlot (map single (numbers 0 (length (h .slots))))) (h .slots)
-        ∙ map-id (nodeSlot (map single (numbers 0 (length (h .slots))))) (h .slots) (λ j. slot-id j (next h j) refl)) i;
+    ptrs = map-id (nodeVal nodes) (h .ptrs) (λ v q. val-id v (closed-in (next h) (h .ptrs) v (C .closed .0) q)) i;
+    slots = (map-two single (λ (s : Seg). nodeSlot nodes (next h (last s))) (numbers 0 (length (h .slots)))
+        ∙ map-same (λ n. nodeSlot nodes (next h n)) (next h) (numbers 0 (length (h .slots))) (λ n q. slot-id n (next h n) refl) ∙ read-all unused (h .slots)) i;
   })

@@ -7,18 +7,16 @@ use native.Mathlib.Omega.{arith}
 use lib.Dec.{eqb}
 use borrow.Author.Tests.{eq-eqb, eqb-false, ne-eqb}
 use Rattle.model.specs.Base.{mem}
-use Rattle.model.specs.Edges.{at, one}
-use Rattle.model.specs.Heap.{Slot, Val, cell, closed, holds, null, undef, unused}
+use Rattle.model.specs.Edges.{one}
+use Rattle.model.specs.Heap.{Slot, Val, cell, holds, null, undef, unused}
 use Rattle.model.specs.Machine.{wipe, wipeSlot}
 use Rattle.model.specs.Shape.{Seg, cells}
 use Rattle.model.proofs.Cores.{first-inj}
-use Rattle.model.proofs.Expand.{Chain, Expands, img}
 use Rattle.model.proofs.Folds.{chain-used}
 use Rattle.model.proofs.Logic.{NoDup, bool-case, clash, eq-case, mem-cases, mem-here, mem-one, mem-there}
+use Rattle.model.proofs.Notions.{Chain, Expands, img}
 use Rattle.model.proofs.Walks.{Closed, Used, seg}
-
-abbrev pub upd {ℓ} : {A : Type ℓ} → (ℕ → A) → ℕ → A → ℕ → A
-upd f c x i = cond (eqb i c) x (f i)
+pub use Rattle.model.proofs.Notions.{upd}
 
 pub upd-at {ℓ} : {A : Type ℓ} (f : ℕ → A) (c : ℕ) (x : A) (i : ℕ) → i ≡ c → upd f c x i ≡ x
 upd-at f c x i e = rw (eq-eqb i c e)

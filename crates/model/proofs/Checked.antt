@@ -1,6 +1,4 @@
 -- What the checks of the input say of an accepted one: its starting shapes are shapes with six pointers, and no two are equal.
-
--- an S is no H
 use Prim.Native.Nat.{_%_, _*_, _/_, suc, zero, ℕ}
 use mathlib.Core.Path.{_∙_, _≡_, ap, refl, subst, sym}
 use mathlib.Core.Logic.{inl, inr}
@@ -13,7 +11,6 @@ use lib.ListN.{drop, length, length-drop}
 use lib.Seq.{length-take-le}
 use borrow.Author.Tests.{eqb-true, ne-eqb}
 use Rattle.model.specs.Base.{all, any, count, sameList}
-use Rattle.model.specs.Edges.{at}
 use Rattle.model.specs.Heap.{Heap}
 use Rattle.model.specs.Records.{byte, isH, isS, layoutH, refusalH, refusalS, shapeOf, shapeRecord}
 use Rattle.model.specs.Shape.{canonical}
@@ -21,11 +18,12 @@ use Rattle.model.specs.Translate.{Refusal, Routine, bad, badKind, badRec
 use Rattle.model.proofs.Canon.{Canon}
 use Rattle.model.proofs.Canonical.{canonical-canon}
 use Rattle.model.proofs.Facts.{test-closed}
-use Rattle.model.proofs.Lists.{In, in-map, some-none}
-use Rattle.model.proofs.Logic.{and-both, and-l, and-r, bool-case, clash, or-false-r, or-l, or-r}
-use Rattle.model.proofs.Same.{Distinct, same-bytes-refl}
+use Rattle.model.proofs.Lists.{Distinct, In, any-in, in-drop, in-map, some-none}
+use Rattle.model.proofs.Logic.{and-both, and-l, and-r, bool-case, clash, or-false-r}
+use Rattle.model.proofs.Same.{same-bytes-refl}
 use Rattle.model.proofs.ShapeBack.{layout-closed, layout-pointers, shape-record-back}
 
+-- an S is no H
 not-both : (r : List ℕ) → isH r ≡ true → isS r ≡ false
 not-both r h = ne-eqb (byte r 0) 0x53 (λ e. let k = eqb-true (byte r 0) 0x48 h in omega arith)
 
@@ -94,12 +92,7 @@ not-again n earlier (r ∷ rs) x y a h i (inl p) e =
     let q = rw (not-both r (and-l (isH r) (all isH rs) h)) at (a .0) in
     let z = accepted-h earlier r q .2 in
     let w : In r earlier = subst (λ v. In v earlier) (sym e ∙ p) i in
-    clash (any-same earlier r w) z
-  where
-    any-same : (l : List (List ℕ)) (v : List ℕ) → In v l → any (sameList eqb v) l ≡ true
-    any-same [] v k = absurd k
-    any-same (u ∷ l) v (inl k) = or-l (sameList eqb v u) (any (sameList eqb v) l) (rw (← k) (same-bytes-refl v))
-    any-same (u ∷ l) v (inr k) = or-r (sameList eqb v u) (any (sameList eqb v) l) (any-same l v k)
+    clash (any-in (sameList eqb r) earlier r w (same-bytes-refl r)) z
 not-again n earlier (r ∷ rs) x y a h i (inr j) e = not-again n (r ∷ earlier) rs x y (a .1) (and-r (isH r) (all isH rs) h) (inr i) j e
 
 good-h : (n : ℕ) (earlier rs : List (List ℕ)) → Accepted n earlier rs → all isH rs ≡ true → ((r : List ℕ) → In r rs → length r ≡ 32) → (r : List ℕ) → In r rs → GoodH r
@@ -125,20 +118,15 @@ chunks-wide zero s l r i = absurd i
 chunks-wide (suc m) s l r (inl e) = ap length e ∙ length-take-le 32 s (omega arith)
 chunks-wide (suc m) s l r (inr i) = chunks-wide m (drop 32 s) (omega (arith, length-drop 32 s)) r i
 
-in-drop : {A : Type 0} (x : A) (n : ℕ) (l : List A) → In x (drop n l) → In x l
-in-drop x zero l i = i
-in-drop x (suc n) [] i = i
-in-drop x (suc n) (y ∷ l) i = inr (in-drop x n l i)
-
 -- a starting shape of an accepted input
 pub record GoodStarts (r : Routine) : Type 0 where
   pub shapes : (h : Heap) → In h (r .starts) → Canon h × (length (h .ptrs) ≡ 6)
   pub distinct : Distinct (r .starts)
 
-bad-good {ℓ} : {C : Type ℓ} {x : Refusal} {r : Routine} → bad x ≡ good r → C
+pub bad-good {ℓ} : {C : Type ℓ} {x : Refusal} {r : Routine} → bad x ≡ good r → C
 bad-good {x = x} {r = r} e = absurd (let z : _≡_ {A = ℕ} 0 1 = cc in omega arith)
 
-good-inj : {q r : Routine} → good q ≡ good r → q ≡ r
+pub good-inj : {q r : Routine} → good q ≡ good r → q ≡ r
 good-inj {q} {r} e = cc
 
 records-good : (n : ℕ) (rs : List (List ℕ)) (r : Routine) → ((x : List ℕ) → In x rs → length x ≡ 32) → all isH (drop n rs) ≡ true → checkRecords n rs ≡ good r → GoodStarts r

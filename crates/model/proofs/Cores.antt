@@ -1,22 +1,21 @@
 -- Core cells carry over: the head of a chain is core as its node is; the other cells of a chain never are
-use Prim.Native.Nat.{suc, zero, ℕ, _≤_}
-use mathlib.Core.Path.{_≡_, ap, ap₂, refl, subst, sym, _∙_, _≡_}
+use Prim.Native.Nat.{_≤_, suc, zero, ℕ}
+use mathlib.Core.Path.{_∙_, _≡_, ap, ap₂, refl, subst, sym}
+use mathlib.Core.Logic.{_↔_, _⊎_, inl, inr, ⊎-elim}
 use mathlib.Core.Bool.{_||_, false, true}
-use mathlib.Core.List.{List, [], map, _∷_}
+use mathlib.Core.List.{List, [], _∷_, map}
 use native.Mathlib.Omega.{arith}
 use lib.Dec.{eqb, leb}
 use lib.ListN.{getD}
-use borrow.Author.Tests.{eq-eqb, eqb-true, le-leb, leb-true, ne-eqb}
+use borrow.Author.Tests.{eq-eqb, eqb-false, eqb-true, le-leb, leb-true, ne-eqb}
 use Rattle.model.specs.Base.{mem}
-use Rattle.model.specs.Edges.{at}
 use Rattle.model.specs.Heap.{Heap, Slot, Val, cell, holds, next, null, undef, unused}
-use Rattle.model.specs.Shape.{Seg, cells, core, holdsCell, last, lastFrom}
-use Rattle.model.proofs.Expand.{Chain, Expands, Expansion, img}
-use Rattle.model.proofs.Logic.{NoDup, bool-case, bool-ext, clash, eqb-same, mem-cases, mem-here, mem-there, not-true}
+use Rattle.model.specs.Shape.{Seg, cells, core, holdsCell, isCell, last, lastFrom}
+use Rattle.model.proofs.Lists.{In, any-find, any-in}
+use Rattle.model.proofs.Logic.{NoDup, bool-case, bool-ext, clash, eq-case, eqb-same, mem-cases, mem-here, mem-there, not-true, or-cases, or-l, or-r}
+use Rattle.model.proofs.Notions.{Chain, Expands, Expansion, img}
 use Rattle.model.proofs.Walks.{AllClosed, Closed, Used, holders, pointed}
-
-abbrev pub Two : (ℕ → Slot) → ℕ → Type 0
-Two nx c = (a : ℕ) × (b : ℕ) × (a ≡ b → ⊥) × (nx a ≡ holds (cell c)) × (nx b ≡ holds (cell c))
+pub use Rattle.model.proofs.Notions.{Two}
 
 pub holds-cell-true : (c : ℕ) (s : Slot) → holdsCell c s ≡ true → s ≡ holds (cell c)
 holds-cell-true c unused h = clash h refl
@@ -52,6 +51,33 @@ of-two c (s ∷ ss) zero zero n p q = absurd (n refl)
 of-two c (s ∷ ss) zero (suc j) n p q = let r = of-one c ss j q in rw (true-holds-cell c s p) (omega arith)
 of-two c (s ∷ ss) (suc i) zero n p q = let r = of-one c ss i p in rw (true-holds-cell c s q) (omega arith)
 of-two c (s ∷ ss) (suc i) (suc j) n p q = let r = of-two c ss i j (λ e. n (ap suc e)) p q in omega arith
+
+cell-of : (c : ℕ) (v : Val) → isCell c v ≡ true → cell c ≡ v
+cell-of c (cell d) h = ap cell (eqb-true c d h)
+cell-of c null h = clash h refl
+cell-of c undef h = clash h refl
+
+in-pointed : (c : ℕ) (vs : List Val) → pointed c vs ≡ true → In (cell c) vs
+in-pointed c vs h = let r = any-find (isCell c) vs h in subst (λ v. In v vs) (sym (cell-of c (r .0) (r .2))) (r .1)
+
+pointed-in : (c : ℕ) (vs : List Val) → In (cell c) vs → pointed c vs ≡ true
+pointed-in c vs i = any-in (isCell c) vs (cell c) i (eqb-same c)
+
+-- "A core cell is held by a pointer or by the next of two or more cells."
+pub core-is : (h : Heap) (c : ℕ) → (core h c ≡ true) ↔ (In (cell c) (h .ptrs) ⊎ Two (next h) c)
+core-is h c =
+    let p = pointed c (h .ptrs) in
+    let n = holders c (h .slots) in (
+      (λ k. or-cases p (leb 2 n) k (λ q. inl (in-pointed c (h .ptrs) q)) (λ q. inr (two-of c (h .slots) (leb-true 2 n q)))),
+      ⊎-elim (λ i. or-l p (leb 2 n) (pointed-in c (h .ptrs) i)) (λ t. or-r p (leb 2 n) (le-leb 2 n (of-two c (h .slots) (t .0) (t .1) (t .2) (t .3) (t .4)))),
+    )
+
+-- a cell that is not core is held by no pointer and by the next of one cell at most
+pub not-pointed : (h : Heap) (d : ℕ) → core h d ≡ false → In (cell d) (h .ptrs) → ⊥
+not-pointed h d n i = clash (core-is h d .1 (inl i)) n
+
+pub one-holder : (h : Heap) (d a b : ℕ) → core h d ≡ false → next h a ≡ holds (cell d) → next h b ≡ holds (cell d) → a ≡ b
+one-holder h d a b n p q = eq-case a b (λ e. e) (λ e. clash (core-is h d .1 (inr (a, b, eqb-false a b e, p, q))) n)
 
 -- what a cell of a chain holds: the cell after it, or what the chain ends in
 pub next-in {ℓ} : {C : Type ℓ} (nx : ℕ → Slot) (c : ℕ) (l : List ℕ) (v : Val) (a d : ℕ) → Chain nx c l v → mem a (c ∷ l) ≡ true → nx a ≡ holds (cell d)

@@ -1,19 +1,21 @@
 -- Every effect carries over: on a heap and on its expansion both fault alike, or both finish in an expansion.
 use Prim.Native.Nat.{suc, zero, ℕ}
-use mathlib.Core.Path.{_∙_, _≡_, ap, ap₂, fun-ext, refl, subst, subst₂, sym}
+use mathlib.Core.Path.{_∙_, _≡_, ap, fun-ext, refl, subst, subst₂, sym}
 use mathlib.Core.Bool.{cond}
 use mathlib.Core.List.{List, [], _∷_, map}
 use lib.Dec.{eqb, eqb·suc-suc, eqb·suc-zero, eqb·zero-suc}
 use lib.ListN.{List·getD-map, getD, set}
-use Rattle.model.specs.Edges.{access, rest, splitHeap}
-use Rattle.model.specs.Heap.{Heap, Slot, Val, cell, closed, holds, next, null, ptr, undef, unused}
-use Rattle.model.specs.Machine.{Effect, Fault, Kind, Op, allocates, choose, clear, copy, done, effect, fault, free, freeCell, freeVal, held, isNull, kind, load, new, other, picks, put, putSlot, same, setNull, setPtr, skip, stop, stops, store, through, wipe, wipeSlot}
+use Rattle.model.specs.Edges.{access, splitHeap}
+use Rattle.model.specs.Heap.{Heap, Slot, Val, cell, holds, next, null, ptr, undef, unused}
+use Rattle.model.specs.Machine.{Op, choose, clear, copy, effect, free, freeCell, freeVal, held, isNull, kind, load, new, put, putSlot, same, setNull, setPtr, skip, stop, store, through, wipe, wipeSlot}
 use Rattle.model.specs.Shape.{Seg, lastFrom}
-use Rattle.model.proofs.Changes.{expands-free, expands-new, expands-split, expands-write, f-closed, f-img, freed, n-closed, n-img, s-closed, s-img, upd, upd-at, w-closed}
+use Rattle.model.proofs.Changes.{expands-free, expands-new, expands-split, expands-write, f-closed, f-img, freed, n-closed, n-img, s-closed, s-img, upd-at, w-closed}
 use Rattle.model.proofs.Cores.{chain-last}
-use Rattle.model.proofs.Expand.{Expands, Expansion, img}
+use Rattle.model.proofs.Lists.{map-two}
 use Rattle.model.proofs.Logic.{eqb-same}
-use Rattle.model.proofs.Walks.{AllClosed, Closed, Used, seg}
+use Rattle.model.proofs.Notions.{Expands, Expansion, img, upd}
+use Rattle.model.proofs.Walks.{AllClosed, Closed, Used, closed-map, closed-up, map-closed, seg}
+pub use Rattle.model.proofs.Notions.{Alike, Room, both-bad, both-ok, sg-after}
 
 getD-put : (l : List Slot) (c : ℕ) (s : Slot) (i : ℕ) → getD (put l c s) i unused ≡ cond (eqb i c) s (getD l i unused)
 getD-put [] zero s zero = refl
@@ -31,10 +33,6 @@ next-put h c s = fun-ext (λ i. getD-put (h .slots) c s i)
 pub next-free : (h : Heap) (c : ℕ) → next (freeCell c h) ≡ freed (next h) c
 next-free h c = fun-ext (λ i. getD-put (map (wipeSlot c) (h .slots)) c unused i ∙ ap (λ s. cond (eqb i c) unused s) (List·getD-map (wipeSlot c) (h .slots) i unused))
 
-all-closed-map : (nx ny : ℕ → Slot) (vs : List Val) → ((x : Val) → Closed nx x → Closed ny x) → AllClosed nx vs → AllClosed ny vs
-all-closed-map nx ny [] f k = tt
-all-closed-map nx ny (v ∷ vs) f k = (f v (k .0), all-closed-map nx ny vs f (k .1))
-
 pub closed-ptr : (nx : ℕ → Slot) (vs : List Val) (u : ℕ) → AllClosed nx vs → Closed nx (getD vs u undef)
 closed-ptr nx [] u k = tt
 closed-ptr nx (v ∷ vs) zero k = k .0
@@ -49,18 +47,6 @@ map-set : (f : Val → Val) (vs : List Val) (u : ℕ) (v : Val) → map f (set v
 map-set f [] u v = refl
 map-set f (x ∷ vs) zero v = refl
 map-set f (x ∷ vs) (suc u) v = ap (λ z. f x ∷ z) (map-set f vs u v)
-
-map-img : (nx : ℕ → Slot) (f g : Val → Val) (vs : List Val) → ((x : Val) → Closed nx x → f x ≡ g x) → AllClosed nx vs → map f vs ≡ map g vs
-map-img nx f g [] h k = refl
-map-img nx f g (v ∷ vs) h k = ap₂ _∷_ (h v (k .0)) (map-img nx f g vs h (k .1))
-
-map-two : (f g : Val → Val) (vs : List Val) → map f (map g vs) ≡ map (λ x. f (g x)) vs
-map-two f g [] = refl
-map-two f g (v ∷ vs) = ap (λ z. f (g v) ∷ z) (map-two f g vs)
-
-closed-wipe : (nx ny : ℕ → Slot) (n : ℕ) (vs : List Val) → ((x : Val) → Closed nx x → Closed ny (wipe n x)) → AllClosed nx vs → AllClosed ny (map (wipe n) vs)
-closed-wipe nx ny n [] f k = tt
-closed-wipe nx ny n (v ∷ vs) f k = (f v (k .0), closed-wipe nx ny n vs f (k .1))
 
 module _ (W : Heap) (sg : ℕ → Seg) (H : Heap) (X : Expansion W sg H) where
   pub ptr-img : (u : ℕ) → ptr H u ≡ img sg (ptr W u)
@@ -80,7 +66,7 @@ module _ (W : Heap) (sg : ℕ → Seg) (H : Heap) (X : Expansion W sg H) where
   exp-write n h v single u k = record {
     body = subst₂ (λ a b. Expands a sg b) (sym (next-put W n (holds v))) (sym (next-put H h (holds (img sg v)))) (expands-write (next W) sg (next H) (X .body) n h single u v k);
     closed = subst (λ a. AllClosed a (W .ptrs)) (sym (next-put W n (holds v)))
-        (all-closed-map (next W) (upd (next W) n (holds v)) (W .ptrs) (w-closed (next W) sg (next H) (X .body) n h single u v k) (X .closed));
+        (closed-up (next W) (upd (next W) n (holds v)) (W .ptrs) (w-closed (next W) sg (next H) (X .body) n h single u v k) (X .closed));
     ptrs = X .ptrs;
   }
 
@@ -88,17 +74,18 @@ module _ (W : Heap) (sg : ℕ → Seg) (H : Heap) (X : Expansion W sg H) where
   exp-new n h fw fh = record {
     body = subst₂ (λ a b. Expands a (upd sg n (seg h [])) b) (sym (next-put W n (holds undef))) (sym (next-put H h (holds undef))) (expands-new (next W) sg (next H) (X .body) n h fw fh);
     closed = subst (λ a. AllClosed a (W .ptrs)) (sym (next-put W n (holds undef)))
-        (all-closed-map (next W) (upd (next W) n (holds undef)) (W .ptrs) (n-closed (next W) sg (next H) (X .body) n h fw fh) (X .closed));
-    ptrs = X .ptrs ∙ sym (map-img (next W) (img (upd sg n (seg h []))) (img sg) (W .ptrs) (n-img (next W) sg (next H) (X .body) n h fw fh) (X .closed));
+        (closed-up (next W) (upd (next W) n (holds undef)) (W .ptrs) (n-closed (next W) sg (next H) (X .body) n h fw fh) (X .closed));
+    ptrs = X .ptrs ∙ sym (map-closed (next W) (img (upd sg n (seg h []))) (img sg) (W .ptrs) (n-img (next W) sg (next H) (X .body) n h fw fh) (X .closed));
   }
 
   exp-free : (n h : ℕ) → sg n ≡ seg h [] → Used (next W) n → Expansion (freeCell n W) sg (freeCell h H)
   exp-free n h single u = record {
     body = subst₂ (λ a b. Expands a sg b) (sym (next-free W n)) (sym (next-free H h)) (expands-free (next W) sg (next H) (X .body) n h single u);
     closed = subst (λ a. AllClosed a (map (wipe n) (W .ptrs))) (sym (next-free W n))
-        (closed-wipe (next W) (freed (next W) n) n (W .ptrs) (f-closed (next W) sg (next H) (X .body) n h single u) (X .closed));
-    ptrs = ap (map (wipe h)) (X .ptrs) ∙ map-two (wipe h) (img sg) (W .ptrs)
-        ∙ sym (map-two (img sg) (wipe n) (W .ptrs) ∙ map-img (next W) (λ x. img sg (wipe n x)) (λ x. wipe h (img sg x)) (W .ptrs) (f-img (next W) sg (next H) (X .body) n h single u) (X .closed));
+        (closed-map (next W) (freed (next W) n) (wipe n) (W .ptrs) (f-closed (next W) sg (next H) (X .body) n h single u) (X .closed));
+    ptrs = ap (map (wipe h)) (X .ptrs) ∙ map-two (img sg) (wipe h) (W .ptrs)
+        ∙ sym (map-two (wipe n) (img sg) (W .ptrs)
+        ∙ map-closed (next W) (λ x. img sg (wipe n x)) (λ x. wipe h (img sg x)) (W .ptrs) (f-img (next W) sg (next H) (X .body) n h single u) (X .closed));
   }
 
   pub exp-split : (n k h t : ℕ) (ts : List ℕ) → sg n ≡ seg h (t ∷ ts) → Used (next W) n → next W k ≡ unused → Expansion (splitHeap n k W) (upd (upd sg k (seg t ts)) n (seg h [])) H
@@ -108,27 +95,9 @@ module _ (W : Heap) (sg : ℕ → Seg) (H : Heap) (X : Expansion W sg H) where
       record {
         body = subst (λ a. Expands a (upd (upd sg k (seg t ts)) n (seg h [])) (next H)) (sym e) (expands-split (next W) sg (next H) (X .body) n k h t ts longer u fw);
         closed = subst (λ a. AllClosed a (W .ptrs)) (sym e)
-            (all-closed-map (next W) (upd (upd (next W) k (next W n)) n (holds (cell k))) (W .ptrs) (s-closed (next W) sg (next H) (X .body) n k h t ts longer u fw) (X .closed));
-        ptrs = X .ptrs ∙ sym (map-img (next W) (img (upd (upd sg k (seg t ts)) n (seg h []))) (img sg) (W .ptrs) (s-img (next W) sg (next H) (X .body) n k h t ts longer u fw) (X .closed));
+            (closed-up (next W) (upd (upd (next W) k (next W n)) n (holds (cell k))) (W .ptrs) (s-closed (next W) sg (next H) (X .body) n k h t ts longer u fw) (X .closed));
+        ptrs = X .ptrs ∙ sym (map-closed (next W) (img (upd (upd sg k (seg t ts)) n (seg h []))) (img sg) (W .ptrs) (s-img (next W) sg (next H) (X .body) n k h t ts longer u fw) (X .closed));
       }
-
-pub data Alike (sg : ℕ → Seg) : Effect → Effect → Type 0 where
-  both-bad : {f : Fault} → Alike sg (fault f) (fault f)
-  both-ok : {W H : Heap} → Expansion W sg H → Alike sg (done W) (done H)
-
--- the segments after the operation
-abbrev pub sg-after : Kind → ℕ → ℕ → (ℕ → Seg) → ℕ → Seg
-sg-after stops k c sg = sg
-sg-after picks k c sg = sg
-sg-after allocates k c sg = upd sg k (seg c [])
-sg-after other k c sg = sg
-
--- is the cell for a new single free?
-abbrev pub Room : Kind → Heap → ℕ → Type 0
-Room stops h c = Unit {0}
-Room picks h c = Unit {0}
-Room allocates h c = next h c ≡ unused
-Room other h c = Unit {0}
 
 module _ (W : Heap) (sg : ℕ → Seg) (H : Heap) (X : Expansion W sg H) where
   one-cell : (n : ℕ) → sg n .rest ≡ [] → sg n ≡ seg (sg n .first) []

@@ -1,6 +1,6 @@
 -- What a listing holds: the starting shapes first, every reachable location once and no other, every edge of each location in order, and
 -- each new target takes the next number.
-use Prim.Native.Nat.{_+_, _<_, _≤_, suc, zero, ℕ}
+use Prim.Native.Nat.{_<_, _≤_, suc, zero, ℕ}
 use mathlib.Core.Path.{_∙_, _≡_, ap, refl, subst, sym}
 use mathlib.Core.Logic.{inl, inr, ⊎-elim}
 use mathlib.Core.List.{List, [], _++_, _∷_, append-assoc, append-nil, map, map-append}
@@ -8,26 +8,21 @@ use native.Mathlib.Omega.{arith}
 use lib.Dec.{ltb}
 use lib.ListN.{List·getD-eq-default, length, length-map, take}
 use lib.Seq.{take-at}
-use borrow.Author.Tests.{eqb-false, ltb-false, ltb-true}
+use borrow.Author.Tests.{ltb-false, ltb-true}
 use Rattle.model.specs.Base.{any, joined, numbers, placeOf}
 use Rattle.model.specs.Edges.{Edge, Loc, at, edgesOf, failed, sameLoc}
 use Rattle.model.specs.Heap.{Heap}
 use Rattle.model.specs.Machine.{Stmt, leak}
 use Rattle.model.specs.Translate.{Link, Listing, Routine, listed, listing}
-use Rattle.model.proofs.Listing.{add-found, add-place, addEdge, addLoc, any-loc, edge-locs, explored, explored-end, explored-prefix, extend, extend-all, extend-distinct, extend-has, extend-prefix, listing-whole, loc-place, locAt}
-use Rattle.model.proofs.Lists.{In, getD-in, in-append-cases, in-getD, in-joined, in-map, joined-in, map-in}
-use Rattle.model.proofs.Logic.{bool-case, eq-case, not-true}
-use Rattle.model.proofs.Same.{Distinct, Prefix, prefix-getD, prefix-in, prefix-place, prefix-trans}
+use Rattle.model.proofs.Listing.{add-found, add-place, any-loc, edge-locs, explored-end, explored-prefix, extend-all, extend-distinct, extend-has, extend-prefix, listing-whole, loc-place}
+use Rattle.model.proofs.Listings.{addEdge, addLoc, explored, extend, locAt}
+use Rattle.model.proofs.Lists.{Distinct, In, getD-in, in-append-cases, in-getD, in-joined, in-map, joined-in, map-in}
+use Rattle.model.proofs.Logic.{bool-case, not-true}
+use Rattle.model.proofs.Same.{Prefix, prefix-getD, prefix-in, prefix-place, prefix-trans}
+pub use Rattle.model.proofs.Listings.{Exact, Reached, addLocs, by-edge, firsts, from-start, linkOf, linkTarget, linksFrom}
+pub use Rattle.model.proofs.Numbers.{numbers-in, numbers-snoc}
 
 -- ---- lists
-
-pub numbers-in : (k n i : ℕ) → k ≤ i → i < k + n → In i (numbers k n)
-numbers-in k zero i h h′ = absurd (omega arith)
-numbers-in k (suc n) i h h′ = eq-case i k (λ e. inl e) (λ e. let ne = eqb-false i k e in inr (numbers-in (suc k) n i (omega arith) (omega arith)))
-
-pub numbers-snoc : (k n : ℕ) → numbers k (suc n) ≡ numbers k n ++ (k + n) ∷ []
-numbers-snoc k zero = ap (λ z. z ∷ []) (omega arith)
-numbers-snoc k (suc n) = ap (λ z. k ∷ z) (numbers-snoc (suc k) n ∙ ap (λ z. numbers (suc k) n ++ z ∷ []) (omega arith))
 
 joined-append : {A : Type 0} (l m : List (List A)) → joined (l ++ m) ≡ joined l ++ joined m
 joined-append [] m = refl
@@ -40,17 +35,6 @@ joined-snoc f n =
     ∙ ap (λ z. joined (map f (numbers 0 n)) ++ z) (append-nil (f n))
 
 -- ---- the links
-
--- edge e of location i, with the number of its target
-abbrev pub linkOf : ℕ → List Loc → Edge → Link
-linkOf i ls e = record { from = i; dest = placeOf (sameLoc (e .to)) ls; edge = e }
-
--- the edges of location i of a list of locations
-abbrev pub linksFrom : List Stmt → List Loc → ℕ → List Link
-linksFrom sts ls i = map (linkOf i ls) (edgesOf sts (locAt ls i))
-
-abbrev pub linkTarget : Link → Loc
-linkTarget l = l .edge .to
 
 -- an edge's target keeps its number in every longer list
 edge-number : (i : ℕ) (t : Listing) (e : Edge) (ls : List Loc) → Prefix (addEdge i t e .locs) ls
@@ -72,14 +56,6 @@ extend-linked i (e ∷ es) t ls q =
     (edge-number i t e ls (prefix-trans (addEdge i t e .locs) (extend i (e ∷ es) t .locs) ls (extend-prefix i es (addEdge i t e)) q))
 
 -- ---- the order of the locations
-
-abbrev pub addLocs : List Loc → List Loc → List Loc
-addLocs ls [] = ls
-addLocs ls (l ∷ ms) = addLocs (addLoc ls l) ms
-
--- the first occurrence of each location, in order
-abbrev pub firsts : List Loc → List Loc
-firsts ls = addLocs [] ls
 
 adds-append : (ls ms ns : List Loc) → addLocs ls (ms ++ ns) ≡ addLocs (addLocs ls ms) ns
 adds-append ls [] ns = refl
@@ -105,20 +81,6 @@ extend-targets i (e ∷ es) t = extend-targets i es (addEdge i t e)
     ∙ append-assoc (map linkTarget (t .links)) (e .to ∷ []) (map (λ (d : Edge). d .to) es)
 
 -- ---- the laws
-
--- the locations that the edges lead to, from the starting shapes at statement 0
-pub data Reached (sts : List Stmt) (hs : List Heap) : Loc → Type 0 where
-  from-start : {h : Heap} → In h hs → Reached sts hs (at 0 h)
-  by-edge : {l : Loc} (e : Edge) → Reached sts hs l → In e (edgesOf sts l) → Reached sts hs (e .to)
-
--- the starting shapes first, in order; each location once; exactly those reached; the edges of each in order; each new target next
-pub record Exact (r : Routine) (t : Listing) : Type 0 where
-  pub starts : take (length (r .starts)) (t .locs) ≡ map (at 0) (r .starts)
-  pub distinct : Distinct (t .locs)
-  pub sound : (l : Loc) → In l (t .locs) → Reached (r .stmts) (r .starts) l
-  pub complete : (l : Loc) → Reached (r .stmts) (r .starts) l → In l (t .locs)
-  pub links : t .links ≡ joined (map (linksFrom (r .stmts) (t .locs)) (numbers 0 (length (t .locs))))
-  pub order : t .locs ≡ firsts (map (at 0) (r .starts) ++ map linkTarget (t .links))
 
 -- only a location of the list has edges
 pub edge-below : (sts : List Stmt) (ls : List Loc) (i : ℕ) (e : Edge) → In e (edgesOf sts (locAt ls i)) → i < length ls

@@ -1,40 +1,16 @@
 -- One heap as the expansion of another: each cell n of the small heap is a chain of cells, `sg n`, of the large one
 use Prim.Native.Nat.{ℕ}
-use mathlib.Core.Path.{ap, refl, subst, sym, _∙_, _≡_}
+use mathlib.Core.Path.{_∙_, _≡_, ap, refl, subst, sym}
 use mathlib.Core.Bool.{false, true}
-use mathlib.Core.List.{_++_, List, [], append-assoc, append-nil, map, _∷_}
+use mathlib.Core.List.{List, [], _++_, _∷_, append-assoc, append-nil, map}
 use lib.Dec.{eqb}
 use borrow.Author.Tests.{ne-eqb}
 use Rattle.model.specs.Base.{mem}
-use Rattle.model.specs.Heap.{Heap, Slot, Val, cell, holds, next, null, undef}
+use Rattle.model.specs.Heap.{Slot, Val, cell}
 use Rattle.model.specs.Shape.{Seg, cells}
 use Rattle.model.proofs.Logic.{NoDup, clash, mem-append, mem-append-cases, mem-append-l, mem-append-r, mem-cases, mem-here, mem-one, mem-there, not-true, or-nil}
 use Rattle.model.proofs.Walks.{AllClosed, AllUsed, Closed, Tours, Used, Walks, at-null, at-seen, at-undef, go, tour-done, tour-more}
-
-abbrev pub Chain : (ℕ → Slot) → ℕ → List ℕ → Val → Type 0
-Chain nx c [] v = nx c ≡ holds v
-Chain nx c (d ∷ l) v = (nx c ≡ holds (cell d)) × Chain nx d l v
-
-abbrev pub img : (ℕ → Seg) → Val → Val
-img sg null = null
-img sg undef = undef
-img sg (cell n) = cell (sg n .first)
-
-abbrev pub cat : (ℕ → Seg) → List ℕ → List ℕ
-cat sg [] = []
-cat sg (n ∷ l) = cells (sg n) ++ cat sg l
-
-pub record Expands (nw : ℕ → Slot) (sg : ℕ → Seg) (nh : ℕ → Slot) : Type 0 where
-  pub closed : (n : ℕ) (v : Val) → nw n ≡ holds v → Closed nw v
-  pub chain : (n : ℕ) (v : Val) → nw n ≡ holds v → Chain nh (sg n .first) (sg n .rest) (img sg v)
-  pub cover : (c : ℕ) (v : Val) → nh c ≡ holds v → (n : ℕ) × Used nw n × (mem c (cells (sg n)) ≡ true)
-  pub apart : (n m c : ℕ) → Used nw n → Used nw m → mem c (cells (sg n)) ≡ true → mem c (cells (sg m)) ≡ true → n ≡ m
-  pub nodup : (n : ℕ) → Used nw n → NoDup (cells (sg n))
-
-pub record Expansion (W : Heap) (sg : ℕ → Seg) (H : Heap) : Type 0 where
-  pub body : Expands (next W) sg (next H)
-  pub closed : AllClosed (next W) (W .ptrs)
-  pub ptrs : H .ptrs ≡ map (img sg) (W .ptrs)
+pub use Rattle.model.proofs.Notions.{Chain, Expands, Expansion, cat, img}
 
 pub cat-append : (sg : ℕ → Seg) (s t : List ℕ) → cat sg (s ++ t) ≡ cat sg s ++ cat sg t
 cat-append sg [] t = refl

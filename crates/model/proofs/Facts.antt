@@ -7,16 +7,20 @@ use native.Mathlib.Nat.{zero-add}
 use native.Mathlib.Omega.{arith}
 use lib.ListN.{getD}
 use Rattle.model.specs.Base.{all, mem}
-use Rattle.model.specs.Edges.{at}
 use Rattle.model.specs.Heap.{Heap, IsHeap, Slot, Val, cell, closed, eachUsed, holds, inUse, kept, named, next, null, order, slotNamed, undef, unused}
+use Rattle.model.specs.Shape.{Seg}
 use Rattle.model.proofs.Changes.{slot-clash}
-use Rattle.model.proofs.Folds.{Kept}
-use Rattle.model.proofs.Logic.{and-both, and-l, and-r, clash}
+use Rattle.model.proofs.Folds.{Kept, kept-down, kept-up}
+use Rattle.model.proofs.Logic.{and-both, and-l, and-r, bool-ext, clash}
+use Rattle.model.proofs.Notions.{Expansion}
 use Rattle.model.proofs.Walks.{AllClosed, Closed, ClosedHeap, Used}
 
 pub used-of : (s : Slot) → inUse s ≡ true → (v : Val) × (s ≡ holds v)
 used-of unused h = clash h refl
 used-of (holds v) h = (v, refl)
+
+pub used-test : (nx : ℕ → Slot) (c : ℕ) → Used nx c → inUse (nx c) ≡ true
+used-test nx c u = ap inUse (u .1)
 
 pub unused-of : (s : Slot) → inUse s ≡ false → s ≡ unused
 unused-of unused h = refl
@@ -93,3 +97,8 @@ heap-closed h x = test-closed h (x .isClosed)
 
 pub heap-kept : (h : Heap) → IsHeap h → Kept h
 heap-kept h x = test-kept h (x .isKept)
+
+-- an expansion has lost a cell when the other heap has
+pub kept-same : (W : Heap) (sg : ℕ → Seg) (H : Heap) → Expansion W sg H → kept H ≡ kept W
+kept-same W sg H X = bool-ext (kept H) (kept W)
+    (λ e. kept-test W (kept-down W sg H X (test-kept H e))) (λ e. kept-test H (kept-up W sg H X (test-kept W e)))

@@ -1,20 +1,22 @@
 -- The fold carries over: an expansion folds to the same shape, with the sizes added up, and leaks when the other does
 use Prim.Native.Nat.{_+_, suc, ℕ}
-use mathlib.Core.Path.{ap, ap₂, refl, subst, sym, _∙_, _≡_}
+use mathlib.Core.Path.{_∙_, _≡_, ap, ap₂, refl, subst, sym}
 use mathlib.Core.Bool.{Bool, cond, false, true}
-use mathlib.Core.List.{_++_, List, [], _∷_, append-assoc, append-nil, map, _∷_}
+use mathlib.Core.List.{List, [], _++_, _∷_, append-assoc, append-nil, map}
 use lib.Dec.{eqb}
 use lib.ListN.{length, length-append}
 use borrow.Author.Tests.{eq-eqb, eqb-true}
 use Rattle.model.specs.Base.{mem}
-use Rattle.model.specs.Edges.{at}
 use Rattle.model.specs.Heap.{Heap, Slot, Val, cell, holds, next, null, order, undef}
 use Rattle.model.specs.Shape.{Seg, cells, core, counters, cut, cutFrom, last, lastFrom, node, nodeSlot, nodeVal, segments, shape, size}
 use Rattle.model.proofs.Cores.{chain-last, core-head, core-inner, first-inj, next-in}
-use Rattle.model.proofs.Expand.{Chain, Expansion, cat, cat-snoc, img, lift-tour, mem-cat, mem-of-cat}
+use Rattle.model.proofs.Expand.{cat-snoc, lift-tour, mem-cat, mem-of-cat}
+use Rattle.model.proofs.Lists.{map-same, map-two}
 use Rattle.model.proofs.Logic.{bool-case, bool-ext, clash, mem-append-cases, mem-cases, mem-here, mem-one, mem-there}
+use Rattle.model.proofs.Notions.{Chain, Expansion, cat, img}
 use Rattle.model.proofs.Order.{toured, tours-same}
-use Rattle.model.proofs.Walks.{AllClosed, AllUsed, Closed, ClosedHeap, Used, seg}
+use Rattle.model.proofs.Walks.{AllClosed, AllUsed, Closed, ClosedHeap, Used, closed-map, map-closed, seg}
+pub use Rattle.model.proofs.Notions.{total}
 
 pub chain-used : (nx : ℕ → Slot) (c : ℕ) (l : List ℕ) (v : Val) (d : ℕ) → Chain nx c l v → mem d (c ∷ l) ≡ true → Used nx d
 chain-used nx c [] v d ch h = (v, ap nx (mem-one d c h) ∙ ch)
@@ -80,17 +82,13 @@ module _ (pw ph : ℕ → Bool) (sg : ℕ → Seg) where
 abbrev pub Kept : Heap → Type 0
 Kept h = (c : ℕ) → Used (next h) c → mem c (order h) ≡ true
 
-abbrev pub total : (ℕ → Seg) → List ℕ → ℕ
-total sg [] = 0
-total sg (n ∷ l) = size (sg n) + total sg l
-
 length-cat : (sg : ℕ → Seg) (l : List ℕ) → length (cat sg l) ≡ total sg l
 length-cat sg [] = refl
 length-cat sg (n ∷ l) = length-append (cells (sg n)) (cat sg l) ∙ ap (λ x. size (sg n) + x) (length-cat sg l)
 
 sizes : (sg : ℕ → Seg) (ss : List Seg) → map size (map (grow sg) ss) ≡ map (λ (s : Seg). total sg (cells s)) ss
-sizes sg [] = refl
-sizes sg (s ∷ ss) = ap₂ _∷_ (length-cat sg (cells s)) (sizes sg ss)
+sizes sg ss = map-two (grow sg) size ss
+    ∙ map-same (λ (s : Seg). length (cat sg (cells s))) (λ (s : Seg). total sg (cells s)) ss (λ s i. length-cat sg (cells s))
 
 module _ (W : Heap) (sg : ℕ → Seg) (H : Heap) (X : Expansion W sg H) where
   small-closed : ClosedHeap W
@@ -100,10 +98,6 @@ module _ (W : Heap) (sg : ℕ → Seg) (H : Heap) (X : Expansion W sg H) where
   img-closed null k = tt
   img-closed undef k = tt
   img-closed (cell n) k = chain-used (next H) (sg n .first) (sg n .rest) (img sg (k .0)) (sg n .first) (X .body .chain n (k .0) (k .1)) (mem-here (sg n .first) (sg n .rest))
-
-  all-closed : (vs : List Val) → AllClosed (next W) vs → AllClosed (next H) (map (img sg) vs)
-  all-closed [] k = tt
-  all-closed (v ∷ vs) k = (img-closed v (k .0), all-closed vs (k .1))
 
   next-closed : (c : ℕ) (v : Val) → next H c ≡ holds v → Closed (next H) v
   next-closed c null e = tt
@@ -118,7 +112,7 @@ module _ (W : Heap) (sg : ℕ → Seg) (H : Heap) (X : Expansion W sg H) where
       (λ q p. subst (Closed (next H)) p (img-closed v (X .body .closed n v (r .1 .1))))
 
   pub large-closed : ClosedHeap H
-  large-closed = (rw (X .ptrs) (all-closed (W .ptrs) (X .closed)), next-closed)
+  large-closed = (rw (X .ptrs) (closed-map (next W) (next H) (img sg) (W .ptrs) img-closed (X .closed)), next-closed)
 
   pub order-cat : order H ≡ cat sg (order W)
   order-cat =
@@ -143,9 +137,11 @@ module _ (W : Heap) (sg : ℕ → Seg) (H : Heap) (X : Expansion W sg H) where
   val-grow undef ss k us = refl
   val-grow (cell n) ss k us = ap cell (node-grow n ss k us)
 
-  ptrs-grow : (vs : List Val) (ss : List Seg) → AllClosed (next W) vs → Alls (λ s. AllUsed (next W) (cells s)) ss → map (nodeVal (map (grow sg) ss)) (map (img sg) vs) ≡ map (nodeVal ss) vs
-  ptrs-grow [] ss k us = refl
-  ptrs-grow (v ∷ vs) ss k us = ap₂ _∷_ (val-grow v ss (k .0) us) (ptrs-grow vs ss (k .1) us)
+  ptrs-grow : (vs : List Val) (ss : List Seg) → AllClosed (next W) vs → Alls (λ s. AllUsed (next W) (cells s)) ss
+      → map (nodeVal (map (grow sg) ss)) (map (img sg) vs) ≡ map (nodeVal ss) vs
+  ptrs-grow vs ss k us =
+      map-two (img sg) (nodeVal (map (grow sg) ss)) vs
+      ∙ map-closed (next W) (λ v. nodeVal (map (grow sg) ss) (img sg v)) (nodeVal ss) vs (λ v q. val-grow v ss q us) k
 
   slot-grow : (s : Seg) (ss : List Seg) → AllUsed (next W) (cells s) → Alls (λ s. AllUsed (next W) (cells s)) ss
       → nodeSlot (map (grow sg) ss) (next H (last (grow sg s))) ≡ nodeSlot ss (next W (last s))

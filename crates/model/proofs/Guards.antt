@@ -1,6 +1,4 @@
 -- The edges of a location that share a branch: their guards exclude each other and leave nothing out. No edge leaves a stop.
-
--- two edges of one branch are never enabled together
 use Prim.Native.Nat.{_≤_, ℕ}
 use mathlib.Core.Path.{_∙_, _≡_, ap, refl, subst, sym}
 use mathlib.Core.Logic.{inl, inr}
@@ -11,20 +9,18 @@ use lib.Dec.{eqb}
 use lib.ListN.{getD, length}
 use borrow.Author.Tests.{eqb-false, eqb-true, le-leb, leb-true}
 use Rattle.model.specs.Base.{joined}
-use Rattle.model.specs.Edges.{Edge, Way, access, always, at, edgeBy, edgesAt, isMore, isOne, picksOf, split, splitHeap, stepBy, waysAt, whole}
+use Rattle.model.specs.Edges.{Edge, Way, access, always, edgeBy, edgesAt, isMore, isOne, picksOf, split, splitHeap, stepBy, waysAt, whole}
 use Rattle.model.specs.Heap.{Heap, Val, cell, kept, null, undef}
 use Rattle.model.specs.Machine.{Answer, Effect, Kind, Stmt, accepts, allocates, answerOf, branch, choose, done, fault, faulted, kind, other, picks, refused, run, stopped, stops, went}
 use Rattle.model.specs.Runs.{isStop}
-use Rattle.model.proofs.Leave.{guardOn}
-use Rattle.model.proofs.Lists.{In, Pairs, in-append-cases, in-append-l, in-append-r, in-joined, in-map, pairs-append, pairs-few}
-use Rattle.model.proofs.Location.{choose-edge, in-single, way-guard}
+use Rattle.model.proofs.Lists.{In, Pairs, in-append-cases, in-append-l, in-append-r, in-joined, in-map, in-single, pairs-append, pairs-few}
+use Rattle.model.proofs.Location.{choose-edge, way-guard}
 use Rattle.model.proofs.Logic.{bool-case}
+use Rattle.model.proofs.Notions.{guardOn}
 use Rattle.model.proofs.Picks.{choose-is}
 use Rattle.model.proofs.Step.{step-go}
 use Rattle.model.proofs.Ways.{access-facts}
-
-abbrev pub Exclude : Edge → Edge → Type 0
-Exclude a b = a .branchNo ≡ b .branchNo → (cs : List ℕ) → guardOn (a .guard) cs ≡ true → guardOn (b .guard) cs ≡ true → ⊥
+pub use Rattle.model.proofs.Notions.{Exclude}
 
 edge-few : (s k : ℕ) (y : Way) (a : Answer) → length (edgeBy s k y a) ≤ 1
 edge-few s k y refused = omega arith

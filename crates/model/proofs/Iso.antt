@@ -1,31 +1,20 @@
 -- Isomorphic heaps: a renaming of the cells of a heap gives a heap of the same shape with the same counters.
 use Prim.Native.Nat.{ℕ}
-use mathlib.Core.Path.{_∙_, _≡_, ap, ap₂, refl, subst, sym}
+use mathlib.Core.Path.{_∙_, _≡_, ap, refl, subst, sym}
 use mathlib.Core.Bool.{true}
-use mathlib.Core.List.{List, [], _∷_, map}
+use mathlib.Core.List.{List, [], _∷_}
 use native.Mathlib.Omega.{arith}
 use lib.ListN.{length}
 use Rattle.model.specs.Base.{mem}
-use Rattle.model.specs.Heap.{Heap, IsHeap, Val, cell, holds, next, null, undef}
+use Rattle.model.specs.Heap.{Heap, IsHeap, Val, cell, holds, null, undef}
 use Rattle.model.specs.Shape.{Seg, cells, counters, segments, shape, size}
-use Rattle.model.proofs.Expand.{Expansion, img}
 use Rattle.model.proofs.Facts.{heap-closed, heap-kept, is-heap}
-use Rattle.model.proofs.Folds.{counters-grow, fold-same, kept-up, large-closed, total}
+use Rattle.model.proofs.Folds.{counters-grow, fold-same, kept-up, large-closed}
+use Rattle.model.proofs.Lists.{map-same}
 use Rattle.model.proofs.Logic.{mem-here, mem-one}
-use Rattle.model.proofs.Walks.{ClosedHeap, Used, seg}
-
--- a value whose cell is renamed
-abbrev pub renameVal : (ℕ → ℕ) → Val → Val
-renameVal f (cell n) = cell (f n)
-renameVal f null = null
-renameVal f undef = undef
-
--- f takes the cells of heap a to those of heap b, one to one, and each value to the value renamed
-pub record Renames (f : ℕ → ℕ) (a b : Heap) : Type 0 where
-  pub ptrsAre : b .ptrs ≡ map (renameVal f) (a .ptrs)
-  pub nextsAre : (n : ℕ) (v : Val) → next a n ≡ holds v → next b (f n) ≡ holds (renameVal f v)
-  pub onto : (c : ℕ) → Used (next b) c → (n : ℕ) × Used (next a) n × (f n ≡ c)
-  pub oneToOne : (n m : ℕ) → Used (next a) n → Used (next a) m → f n ≡ f m → n ≡ m
+use Rattle.model.proofs.Notions.{Expansion, img, total}
+use Rattle.model.proofs.Walks.{ClosedHeap, seg}
+pub use Rattle.model.proofs.Notions.{Renames, renameVal}
 
 -- a renaming is an expansion by chains of one cell
 abbrev alone : (ℕ → ℕ) → ℕ → Seg
@@ -35,10 +24,6 @@ rename-img : (f : ℕ → ℕ) (v : Val) → renameVal f v ≡ img (alone f) v
 rename-img f (cell n) = refl
 rename-img f null = refl
 rename-img f undef = refl
-
-rename-ptrs : (f : ℕ → ℕ) (vs : List Val) → map (renameVal f) vs ≡ map (img (alone f)) vs
-rename-ptrs f [] = refl
-rename-ptrs f (v ∷ vs) = ap₂ _∷_ (rename-img f v) (rename-ptrs f vs)
 
 rename-expansion : (f : ℕ → ℕ) (a b : Heap) → ClosedHeap a → Renames f a b → Expansion a (alone f) b
 rename-expansion f a b cl R = record {
@@ -50,16 +35,12 @@ rename-expansion f a b cl R = record {
     nodup = λ n u. (refl, tt);
   };
   closed = cl .0;
-  ptrs = R .ptrsAre ∙ rename-ptrs f (a .ptrs);
+  ptrs = R .ptrsAre ∙ map-same (renameVal f) (img (alone f)) (a .ptrs) (λ v i. rename-img f v);
 }
 
 total-alone : (f : ℕ → ℕ) (l : List ℕ) → total (alone f) l ≡ length l
 total-alone f [] = refl
 total-alone f (n ∷ l) = omega (arith, total-alone f l)
-
-totals-alone : (f : ℕ → ℕ) (ss : List Seg) → map (λ (s : Seg). total (alone f) (cells s)) ss ≡ map size ss
-totals-alone f [] = refl
-totals-alone f (s ∷ ss) = ap₂ _∷_ (total-alone f (cells s)) (totals-alone f ss)
 
 -- a heap renamed is a heap, of the same shape, with the same counters
 pub renamed-same : (f : ℕ → ℕ) (a b : Heap) → IsHeap a → Renames f a b → IsHeap b × (shape b ≡ shape a) × (counters b ≡ counters a)
@@ -67,5 +48,5 @@ renamed-same f a b i R =
     let X = rename-expansion f a b (heap-closed a i) R in (
       is-heap b (large-closed a (alone f) b X) (kept-up a (alone f) b X (heap-kept a i)),
       fold-same a (alone f) b X,
-      counters-grow a (alone f) b X ∙ totals-alone f (segments a),
+      counters-grow a (alone f) b X ∙ map-same (λ (s : Seg). total (alone f) (cells s)) size (segments a) (λ s i. total-alone f (cells s)),
     )

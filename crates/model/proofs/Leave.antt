@@ -1,41 +1,29 @@
 -- Leaving a location: each step that the routine makes is one of the location's edges, and each enabled edge is a step of the routine.
-
--- a guard, and an update, on given counters
-use Prim.Native.Nat.{_+_, _-_, _≤_, suc, ℕ}
+use Prim.Native.Nat.{_+_, _≤_, suc, ℕ}
 use mathlib.Core.Path.{_∙_, _≡_, ap, ap₂, refl, subst, sym}
 use mathlib.Core.Logic.{inl, inr}
 use mathlib.Core.Option.{some}
-use mathlib.Core.Bool.{Bool, false, true}
+use mathlib.Core.Bool.{false, true}
 use mathlib.Core.List.{List, [], _∷_, map}
 use native.Mathlib.Omega.{arith}
-use lib.Dec.{eqb, leb}
-use lib.ListN.{getD, length, length-map}
+use lib.ListN.{length, length-map}
 use borrow.Author.Tests.{le-leb}
 use Rattle.model.specs.Base.{sum}
-use Rattle.model.specs.Edges.{Edge, Guard, Loc, Update, Way, Weight, always, at, edgeBy, failed, isMore, isOne, stepBy, updateOf}
+use Rattle.model.specs.Edges.{Edge, Loc, Update, Way, Weight, at, edgeBy, failed, stepBy, updateOf}
 use Rattle.model.specs.Heap.{Heap, inUse, next}
 use Rattle.model.specs.Machine.{Answer, Effect, Entry, Kind, Stmt, accepts, allocates, answerOf, branch, done, fault, faulted, kind, other, picks, refused, run, step, stopped, stops, went}
-use Rattle.model.specs.Runs.{State, Status, Step, isStop, made, past, running}
+use Rattle.model.specs.Runs.{State, Status, Step, isStop, made, past, running, taken}
 use Rattle.model.specs.Shape.{Seg, cells, counters, foldBy, last, nodeSlot, segments, shape, size}
-use Rattle.model.proofs.Bytes.{flagged}
-use Rattle.model.proofs.Effects.{Room, sg-after}
 use Rattle.model.proofs.Facts.{unused-of}
-use Rattle.model.proofs.Folds.{Alls, Kept, counters-grow, fold-same, large-closed, total}
-use Rattle.model.proofs.Lists.{In}
+use Rattle.model.proofs.Folds.{Alls, Kept, counters-grow, fold-same, large-closed}
 use Rattle.model.proofs.Logic.{bool-case, clash}
+use Rattle.model.proofs.Notions.{Room, sg-after, total}
 use Rattle.model.proofs.Sizes.{Neat, Short, neat, run-short}
 use Rattle.model.proofs.Step.{Agree, fault-alike, step-agree, step-go, went-alike}
 use Rattle.model.proofs.Walks.{ClosedHeap}
 use Rattle.model.proofs.Ways.{Fits, count-length}
 use Rattle.model.proofs.Weights.{Fair, update-small, update-value, weigh}
-
-abbrev pub guardOn : Guard → List ℕ → Bool
-guardOn always cs = true
-guardOn (isOne n) cs = eqb (getD cs n 0) 1
-guardOn (isMore n) cs = leb 2 (getD cs n 0)
-
-abbrev pub worth : List ℕ → Update → ℕ
-worth cs u = (flagged (u .adds) cs + u .plus) - 1
+pub use Rattle.model.proofs.Notions.{SmallEdge, SmallUpdates, guardOn, nodesOf, worth}
 
 -- the match of a state with a location and counters
 abbrev pub MatchIn : Status → ℕ → Heap → Loc → List ℕ → Type 0
@@ -69,18 +57,6 @@ sums k cs w sg len F h [] a = refl
 sums k cs w sg len F h (s ∷ ss) a = ap₂ _∷_
     (sum-total sg (λ i. weigh cs (w i)) h (cells s) ∙ update-value k cs len w F s (a .0 .0) (a .0 .1))
     (sums k cs w sg len F h ss (a .1))
-
--- the updates of an edge: one for each node of the target, each with a flag for each of the k old nodes and a constant of -1, 0 or 1
-abbrev pub SmallUpdates : ℕ → List Update → Type 0
-SmallUpdates k us = (u : Update) → In u us → (u .plus ≤ 2) × (length (u .adds) ≡ k)
-
-abbrev pub nodesOf : Loc → ℕ
-nodesOf (at s h) = length (h .slots)
-nodesOf (failed s f) = 0
-
-pub record SmallEdge (k : ℕ) (E : Edge) : Type 0 where
-  pub number : length (E .updates) ≡ nodesOf (E .to)
-  pub small : SmallUpdates k (E .updates)
 
 smalls : (k : ℕ) (cs : List ℕ) (w : ℕ → Weight) → length cs ≡ k → Fair k cs w → (ss : List Seg) → Alls (Neat (suc k)) ss → SmallUpdates k (map (updateOf k w) ss)
 smalls k cs w len F [] a u i = absurd i

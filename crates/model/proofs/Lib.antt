@@ -1,6 +1,9 @@
 pub mod Logic
 pub mod Lists
+pub mod Numbers
 pub mod Walks
+pub mod Notions
+pub mod Listings
 pub mod Order
 pub mod Expand
 pub mod Cores
@@ -36,7 +39,15 @@ pub mod Listing
 pub mod Exact
 pub mod Places
 pub mod Reached
+pub mod Once
 pub mod Moves
+pub mod Refusals
+pub mod Outcomes
+pub mod Images
+pub mod Stepping
 pub mod Single
 pub mod Whole
 pub mod Demand
+pub mod Promises
+pub mod PromisesShapes
+pub mod PromisesListings

@@ -3,43 +3,22 @@ use Prim.Native.Nat.{_+_, _<_, _≤_, suc, zero, ℕ}
 use mathlib.Core.Path.{_∙_, _≡_, ap, refl, subst, sym}
 use mathlib.Core.Logic.{inl, inr, ⊎-elim}
 use mathlib.Core.Bool.{cond, true}
-use mathlib.Core.List.{List, [], _++_, _∷_, map}
+use mathlib.Core.List.{List, [], _++_, _∷_}
 use native.Mathlib.Omega.{arith}
 use lib.Dec.{ltb}
-use lib.ListN.{List·getD-eq-default, getD, length, length-append, length-map}
+use lib.ListN.{List·getD-eq-default, length, length-append, length-map}
 use borrow.Author.Tests.{eqb-false, ltb-false, ltb-true}
 use Rattle.model.specs.Base.{any, placeOf}
 use Rattle.model.specs.Edges.{Edge, Loc, at, edgesOf, failed, sameLoc}
 use Rattle.model.specs.Heap.{Heap}
 use Rattle.model.specs.Machine.{Stmt, leak}
-use Rattle.model.specs.Translate.{Explored, Listing, Refusal, Routine, addEdges, explore, full, grown, listed, listing}
-use Rattle.model.proofs.Lists.{In, in-append-cases, in-append-r}
-use Rattle.model.proofs.Logic.{bool-case, clash, eq-case, or-cases}
-use Rattle.model.proofs.Same.{Distinct, Prefix, any-in, distinct-snoc, elem-none, elem-some, loc-same, place-found, place-none, place-passes, place-snoc, place-test, prefix-in, prefix-length, prefix-refl, prefix-trans, same-loc-refl}
+use Rattle.model.specs.Translate.{Explored, Listing, Refusal, Routine, addEdges, explore, full, listed, listing}
+use Rattle.model.proofs.Lists.{Distinct, In, any-find, any-in, in-append-cases, in-append-r}
+use Rattle.model.proofs.Logic.{bool-case, clash, eq-case}
+use Rattle.model.proofs.Same.{Prefix, distinct-snoc, elem-none, elem-some, loc-same, place-found, place-none, place-passes, place-snoc, place-test, prefix-in, prefix-length, prefix-refl, prefix-trans, same-loc-refl}
+pub use Rattle.model.proofs.Listings.{Placed, addEdge, addLoc, explored, extend, locAt}
 
 -- ---- the exploration without bounds
-
--- location i of a list of locations; past the end a fault, which has no edges
-abbrev pub locAt : List Loc → ℕ → Loc
-locAt ls i = getD ls i (failed 0 leak)
-
--- a location added to a list unless it stands there
-abbrev pub addLoc : List Loc → Loc → List Loc
-addLoc ls l = cond (any (sameLoc l) ls) ls (ls ++ l ∷ [])
-
--- one more edge of location i
-abbrev pub addEdge : ℕ → Listing → Edge → Listing
-addEdge i t e = grown i (placeOf (sameLoc (e .to)) (t .locs)) e t
-
--- more edges of location i, in order
-abbrev pub extend : ℕ → List Edge → Listing → Listing
-extend i [] t = t
-extend i (e ∷ es) t = extend i es (addEdge i t e)
-
--- the listing after the edges of the locations below i, with places for all of them
-abbrev pub explored : List Stmt → List Heap → ℕ → Listing
-explored sts hs zero = record { locs = map (at 0) hs; links = [] }
-explored sts hs (suc i) = extend i (edgesOf sts (locAt (explored sts hs i .locs) i)) (explored sts hs i)
 
 pub edge-locs : (i : ℕ) (t : Listing) (e : Edge) → addEdge i t e .locs ≡ addLoc (t .locs) (e .to)
 edge-locs i t e = ap (λ b. cond b (t .locs) (t .locs ++ e .to ∷ [])) (place-test (sameLoc (e .to)) (t .locs))
@@ -71,8 +50,7 @@ extend-links i (e ∷ es) t = extend-links i es (addEdge i t e) ∙ rw (length-a
 -- ---- the locations that edges add
 
 pub any-loc : (ls : List Loc) (l : Loc) → any (sameLoc l) ls ≡ true → In l ls
-any-loc [] l h = clash h refl
-any-loc (m ∷ ls) l h = or-cases (sameLoc l m) (any (sameLoc l) ls) h (λ e. inl (loc-same l m e)) (λ k. inr (any-loc ls l k))
+any-loc ls l h = let r = any-find (sameLoc l) ls h in subst (λ m. In m ls) (sym (loc-same l (r .0) (r .2))) (r .1)
 
 pub in-loc : (ls : List Loc) (l : Loc) → In l ls → any (sameLoc l) ls ≡ true
 in-loc ls l h = any-in (sameLoc l) ls l h (same-loc-refl l)
@@ -110,10 +88,6 @@ extend-all P i (e ∷ es) t h k l q = extend-all P i es (addEdge i t e)
     (λ m z. add-in (t .locs) (e .to) m (rw (edge-locs i t e) at z) (h m) (λ w. subst P (sym w) (k e (inl refl)))) (λ d z. k d (inr z)) l q
 
 -- ---- with bounds
-
--- there is a place for each location and each edge
-abbrev pub Placed : ℕ → ℕ → Listing → Type 0
-Placed cl ce t = (length (t .locs) ≤ cl) × (length (t .links) ≤ ce)
 
 pub placed-edge : (cl ce i : ℕ) (t : Listing) (e : Edge) → Placed cl ce t → placeOf (sameLoc (e .to)) (t .locs) < cl → length (t .links) < ce
     → Placed cl ce (addEdge i t e)

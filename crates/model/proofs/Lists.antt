@@ -1,18 +1,31 @@
 -- Elements of lists: membership as a type, through map, append and join, and what `all` says of each element.
 use Prim.Native.Nat.{_<_, _≤_, suc, zero, ℕ}
-use mathlib.Core.Path.{_∙_, _≡_, ap, refl, subst, sym}
+use mathlib.Core.Path.{_∙_, _≡_, ap, ap₂, refl, subst, sym}
 use mathlib.Core.Logic.{_⊎_, inl, inr}
 use mathlib.Core.Option.{Option, none, some}
 use mathlib.Core.Bool.{Bool, true}
 use mathlib.Core.List.{List, [], _++_, _∷_, map}
 use native.Mathlib.Omega.{arith}
-use lib.ListN.{getD, length}
-use Rattle.model.specs.Base.{all, joined}
-use Rattle.model.proofs.Logic.{and-both, and-l, and-r}
+use lib.Dec.{eqb}
+use lib.ListN.{List·getD-map, drop, getD, length, length-map}
+use borrow.Author.Tests.{eqb-true}
+use Rattle.model.specs.Base.{all, any, joined, mem}
+use Rattle.model.proofs.Logic.{and-both, and-l, and-r, clash, eqb-same, or-cases, or-l, or-r}
 
+-- x stands in the list
 abbrev pub In : {A : Type 0} → A → List A → Type 0
 In x [] = ⊥
 In x (y ∷ l) = (x ≡ y) ⊎ In x l
+
+-- no element stands twice (for lists of numbers: NoDup of Logic)
+abbrev pub Distinct : {A : Type 0} → List A → Type 0
+Distinct [] = Unit {0}
+Distinct (x ∷ l) = (In x l → ⊥) × Distinct l
+
+-- each two elements of a list, the earlier one first, are related
+abbrev pub Pairs : {A : Type 0} → (A → A → Type 0) → List A → Type 0
+Pairs R [] = Unit {0}
+Pairs R (x ∷ l) = ((y : _) → In y l → R x y) × Pairs R l
 
 pub in-map : {A B : Type 0} (f : A → B) (y : B) (l : List A) → In y (map f l) → (x : A) × In x l × (y ≡ f x)
 in-map f y [] h = absurd h
@@ -62,11 +75,6 @@ some-none {x} e = absurd (let z : _≡_ {A = ℕ} 0 1 = cc in omega arith)
 pub some-inj : {A : Type 0} {x y : A} → _≡_ {A = Option A} (some x) (some y) → x ≡ y
 some-inj {x} {y} e = cc
 
--- each two elements of a list, the earlier one first, are related
-abbrev pub Pairs : {A : Type 0} → (A → A → Type 0) → List A → Type 0
-Pairs R [] = Unit {0}
-Pairs R (x ∷ l) = ((y : _) → In y l → R x y) × Pairs R l
-
 pub pairs-few : {A : Type 0} (R : A → A → Type 0) (l : List A) → length l ≤ 1 → Pairs R l
 pairs-few R [] h = tt
 pairs-few R (x ∷ []) h = ((λ y i. absurd i), tt)
@@ -88,3 +96,76 @@ pub in-getD : {A : Type 0} (l : List A) (d x : A) → In x l → (i : ℕ) × (i
 in-getD [] d x h = absurd h
 in-getD (y ∷ l) d x (inl e) = (0, omega arith, sym e)
 in-getD (y ∷ l) d x (inr h) = let r = in-getD l d x h in (suc (r .0), omega arith, r .2)
+
+-- in another list, or by another name, an element by its place
+pub getD-default : {A : Type 0} (l : List A) (d e : A) (i : ℕ) → i < length l → getD l i d ≡ getD l i e
+getD-default [] d e i h = absurd (omega arith)
+getD-default (x ∷ l) d e zero h = refl
+getD-default (x ∷ l) d e (suc i) h = getD-default l d e i (omega arith)
+
+pub getD-map : {A B : Type 0} (f : A → B) (l : List A) (i : ℕ) (d : A) (e : B) → i < length l → getD (map f l) i e ≡ f (getD l i d)
+getD-map f l i d e h = getD-default (map f l) e (f d) i (omega (arith, length-map l f)) ∙ List·getD-map f l i d
+
+pub in-drop : {A : Type 0} (x : A) (n : ℕ) (l : List A) → In x (drop n l) → In x l
+in-drop x zero l i = i
+in-drop x (suc n) [] i = i
+in-drop x (suc n) (y ∷ l) i = inr (in-drop x n l i)
+
+pub in-single : {A : Type 0} (x y : A) → In x (y ∷ []) → x ≡ y
+in-single x y (inl e) = e
+in-single x y (inr z) = absurd z
+
+-- maps of one list
+pub map-same : {A B : Type 0} (f g : A → B) (l : List A) → ((x : A) → In x l → f x ≡ g x) → map f l ≡ map g l
+map-same f g [] h = refl
+map-same f g (x ∷ l) h = ap₂ _∷_ (h x (inl refl)) (map-same f g l (λ y i. h y (inr i)))
+
+pub map-two : {A B C : Type 0} (f : A → B) (g : B → C) (l : List A) → map g (map f l) ≡ map (λ x. g (f x)) l
+map-two f g [] = refl
+map-two f g (x ∷ l) = ap (λ z. g (f x) ∷ z) (map-two f g l)
+
+pub map-id : {A : Type 0} (f : A → A) (l : List A) → ((x : A) → In x l → f x ≡ x) → map f l ≡ l
+map-id f [] h = refl
+map-id f (x ∷ l) h = ap₂ _∷_ (h x (inl refl)) (map-id f l (λ y i. h y (inr i)))
+
+pub map-back : {A B : Type 0} (f : A → B) (g : B → A) (l : List A) → ((x : A) → In x l → g (f x) ≡ x) → map g (map f l) ≡ l
+map-back f g l h = map-two f g l ∙ map-id (λ x. g (f x)) l h
+
+-- `any` passes exactly where one of the elements does
+pub any-in : {A : Type 0} (p : A → Bool) (l : List A) (x : A) → In x l → p x ≡ true → any p l ≡ true
+any-in p [] x h e = absurd h
+any-in p (y ∷ l) x (inl q) e = or-l (p y) (any p l) (ap p (sym q) ∙ e)
+any-in p (y ∷ l) x (inr h) e = or-r (p y) (any p l) (any-in p l x h e)
+
+pub any-find : {A : Type 0} (p : A → Bool) (l : List A) → any p l ≡ true → (x : A) × In x l × (p x ≡ true)
+any-find p [] h = clash h refl
+any-find p (y ∷ l) h = or-cases (p y) (any p l) h (λ e. (y, inl refl, e)) (λ e. let r = any-find p l e in (r .0, inr (r .1), r .2))
+
+pub in-mem : (c : ℕ) (l : List ℕ) → In c l → mem c l ≡ true
+in-mem c l h = any-in (eqb c) l c h (eqb-same c)
+
+pub mem-in : (c : ℕ) (l : List ℕ) → mem c l ≡ true → In c l
+mem-in c l h = let r = any-find (eqb c) l h in subst (λ x. In x l) (sym (eqb-true c (r .0) (r .2))) (r .1)
+
+-- ---- pairs
+
+pub pairs-map : {A B : Type 0} (R : B → B → Type 0) (f : A → B) (l : List A) → Pairs (λ x y. R (f x) (f y)) l → Pairs R (map f l)
+pairs-map R f [] p = tt
+pairs-map R f (x ∷ l) p = ((λ y i. let m = in-map f y l i in subst (R (f x)) (sym (m .2)) (p .0 (m .0) (m .1))), pairs-map R f l (p .1))
+
+pub pairs-mono : {A : Type 0} (R S : A → A → Type 0) (l : List A) → ((x y : A) → R x y → S x y) → Pairs R l → Pairs S l
+pairs-mono R S [] h p = tt
+pairs-mono R S (x ∷ l) h p = ((λ y i. h x y (p .0 y i)), pairs-mono R S l h (p .1))
+
+pub pairs-at : {A : Type 0} (R : A → A → Type 0) (l : List A) (d : A) (i j : ℕ) → Pairs R l → i < j → j < length l → R (getD l i d) (getD l j d)
+pairs-at R [] d i j p h k = absurd (omega arith)
+pairs-at R (x ∷ l) d zero zero p h k = absurd (omega arith)
+pairs-at R (x ∷ l) d zero (suc j) p h k = p .0 (getD l j d) (getD-in l d j (omega arith))
+pairs-at R (x ∷ l) d (suc i) zero p h k = absurd (omega arith)
+pairs-at R (x ∷ l) d (suc i) (suc j) p h k = pairs-at R l d i j (p .1) (omega arith) (omega arith)
+
+pub pairs-joined : {A B : Type 0} (R : B → B → Type 0) (f : A → List B) (l : List A) → ((x : A) → In x l → Pairs R (f x))
+    → Pairs (λ x y. (u v : B) → In u (f x) → In v (f y) → R u v) l → Pairs R (joined (map f l))
+pairs-joined R f [] p q = tt
+pairs-joined R f (x ∷ l) p q = pairs-append R (f x) (joined (map f l)) (p x (inl refl)) (pairs-joined R f l (λ y i. p y (inr i)) (q .1))
+    (λ u v i j. let k = in-joined v (map f l) j in let m = in-map f (k .0) l (k .1) in q .0 (m .0) (m .1) u v i (subst (In v) (m .2) (k .2)))

@@ -1,36 +1,33 @@
 -- The edges of a location against the steps of the routine, both ways; the guards of one branch exclude each other and leave nothing out.
-
--- ops that do not choose have a branch of their own
-use Prim.Native.Nat.{_<_, _≤_, suc, zero, ℕ}
+use Prim.Native.Nat.{_≤_, ℕ}
 use mathlib.Core.Path.{_∙_, _≡_, ap, refl, subst, sym}
 use mathlib.Core.Logic.{inl, inr}
 use mathlib.Core.Option.{some}
 use mathlib.Core.Bool.{cond, false, true}
-use mathlib.Core.List.{List, [], _∷_, map}
+use mathlib.Core.List.{[], _∷_, map}
 use native.Mathlib.Omega.{arith}
 use lib.Dec.{T, eqb}
 use lib.ListN.{getD, length}
 use borrow.Author.Tests.{eqb-false, eqb-true, le-leb, leb-true}
-use Rattle.model.specs.Edges.{Edge, Way, access, always, at, edgeBy, edgesAt, isOne, picksOf, split, splitHeap, stepBy, ways, waysAt, whole}
+use Rattle.model.specs.Edges.{Edge, Way, access, always, edgeBy, edgesAt, isOne, picksOf, split, splitHeap, stepBy, ways, waysAt, whole}
 use Rattle.model.specs.Heap.{Heap, Val, cell, inUse, kept, next, null, undef}
 use Rattle.model.specs.Machine.{Answer, Entry, Kind, Op, Stmt, accepts, allocates, answerOf, branch, choose, faulted, kind, other, picks, refused, run, step, stopped, stops, unlessStop, went}
 use Rattle.model.specs.Runs.{State, Step, isStop, made}
 use Rattle.model.specs.Shape.{counters, segments, shape}
+use Rattle.model.specs.Translate.{listed}
 use Rattle.model.proofs.Facts.{kept-test}
 use Rattle.model.proofs.Folds.{Kept, kept-down}
-use Rattle.model.proofs.Leave.{Fit, SmallEdge, begin, guardOn, way-lands, worth}
-use Rattle.model.proofs.Lists.{In, in-joined, in-map, joined-in, map-in}
+use Rattle.model.proofs.Leave.{Fit, begin, way-lands}
+use Rattle.model.proofs.Lists.{In, getD-default, in-joined, in-map, joined-in, map-in}
 use Rattle.model.proofs.Logic.{bool-case, clash}
+use Rattle.model.proofs.Notions.{SmallEdge, guardOn, segAt, worth}
 use Rattle.model.proofs.Order.{used-below}
 use Rattle.model.proofs.Picks.{branch-pick, choose-is, kind-case, made-goes, pick-in, pick-low}
-use Rattle.model.proofs.Start.{segAt, start}
+use Rattle.model.proofs.Start.{start}
 use Rattle.model.proofs.Step.{branch-same}
 use Rattle.model.proofs.Walks.{ClosedHeap}
 use Rattle.model.proofs.Ways.{Fits, access-facts, access-node, count-length, no-access, one-fits, size-at, two-fits, whole-fits}
-
-pub in-single : {A : Type 0} (x y : A) → In x (y ∷ []) → x ≡ y
-in-single x y (inl e) = e
-in-single x y (inr z) = absurd z
+pub use Rattle.model.proofs.Lists.{in-single}
 
 -- an entry whose cell is not in use, and whose pick is at most 1 at choose
 accept-unused : (kd : Kind) (e : Entry) (h : Heap) → inUse (next h (e .cellNo)) ≡ false → (p : ℕ) → (kd ≡ picks → e .pick ≡ p) → p ≤ 1 → accepts kd e h ≡ true
@@ -93,12 +90,7 @@ module _ (s : ℕ) (st : Stmt) (H : Heap) (cl : ClosedHeap H) (kp : Kept H) wher
   counter-same n a =
       let u = access-node H cl kp op-of n a in
       let lt = used-below (shape H .slots) n u in
-      getD-default (counters H) n (omega (arith, count-length H cl kp))
-    where
-      getD-default : (l : List ℕ) (i : ℕ) → i < length l → getD l i 0 ≡ getD l i 1
-      getD-default [] i h = absurd (omega arith)
-      getD-default (x ∷ l) zero h = refl
-      getD-default (x ∷ l) (suc i) h = getD-default l i (omega arith)
+      getD-default (counters H) 0 1 n (omega (arith, count-length H cl kp))
 
   plain-fits : (v : Val) → access op-of (shape H) ≡ v → ((n : ℕ) → v ≡ cell n → ⊥) → (c p : ℕ) → Fits op-of nodes c (whole always p (shape H)) H (counters H)
   plain-fits v a nv c p = whole-fits H cl kp op-of c p always (λ n b. absurd (nv n (sym a ∙ b)))

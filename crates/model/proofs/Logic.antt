@@ -72,6 +72,7 @@ mem-there c x l h = or-r (eqb c x) (mem c l) h
 pub mem-cases {ℓ} : {C : Type ℓ} (c x : ℕ) (l : List ℕ) → mem c (x ∷ l) ≡ true → (c ≡ x → C) → (mem c l ≡ true → C) → C
 mem-cases c x l h f g = or-cases (eqb c x) (mem c l) h (λ e. f (eqb-true c x e)) g
 
+-- no number stands twice
 abbrev pub NoDup : List ℕ → Type 0
 NoDup [] = Unit {0}
 NoDup (x ∷ l) = (mem x l ≡ false) × NoDup l

@@ -12,30 +12,18 @@ use Rattle.model.specs.Base.{mem, sum}
 use Rattle.model.specs.Heap.{Heap, IsHeap, Slot, Val, cell, holds, next, null, order, undef, unused}
 use Rattle.model.specs.Machine.{putSlot}
 use Rattle.model.specs.Shape.{Seg, cells, core, counters, segments, shape}
-use Rattle.model.proofs.Changes.{slot-clash, upd, upd-at, upd-off}
+use Rattle.model.proofs.Changes.{slot-clash, upd-at, upd-off}
+use Rattle.model.proofs.Cores.{not-pointed, one-holder}
 use Rattle.model.proofs.Effects.{next-put}
-use Rattle.model.proofs.Expand.{Chain, Expands, Expansion, cat, img}
 use Rattle.model.proofs.Facts.{heap-closed, heap-kept, is-heap}
 use Rattle.model.proofs.Folds.{Kept, fold-same, grow, kept-down, order-cat, segments-grow}
-use Rattle.model.proofs.Lists.{In}
+use Rattle.model.proofs.Lists.{In, map-id, map-same, map-two}
 use Rattle.model.proofs.Logic.{NoDup, bool-case, clash, eq-case, eqb-sym, mem-cases, mem-here, mem-one, mem-there, or-false-l, or-false-r}
+use Rattle.model.proofs.Notions.{Chain, EveryCore, Expands, Expansion, cat, counted, heads, img, upd}
 use Rattle.model.proofs.Order.{toured}
-use Rattle.model.proofs.Segments.{EveryCore, counted, counted-ones, counted-single, heads, heads-single, not-pointed, one-holder, predecessor}
-use Rattle.model.proofs.Walks.{AllClosed, Closed, Used, seg}
-
--- cell d merged into cell p: p holds what d held, and d goes
-abbrev pub mergeHeap : ℕ → ℕ → Heap → Heap
-mergeHeap p d W = putSlot d unused (putSlot p (next W d) W)
-
--- One merge, in a heap whose cells have the counters w: a cell d that is not core goes into its predecessor p, and the counters are added.
-pub data Merges : Heap → (ℕ → ℕ) → Heap → (ℕ → ℕ) → Type 0 where
-  merge : {W : Heap} {w : ℕ → ℕ} (p d : ℕ) → IsHeap W → Used (next W) d → core W d ≡ false → next W p ≡ holds (cell d)
-      → Merges W w (mergeHeap p d W) (upd w p (w p + w d))
-
--- one merge after the other
-pub data MergesTo : Heap → (ℕ → ℕ) → Heap → (ℕ → ℕ) → Type 0 where
-  no-more : {W : Heap} {w : ℕ → ℕ} → MergesTo W w W w
-  then-more : {W M U : Heap} {w m u : ℕ → ℕ} → Merges W w M m → MergesTo M m U u → MergesTo W w U u
+use Rattle.model.proofs.Segments.{counted-ones, counted-single, heads-single, predecessor}
+use Rattle.model.proofs.Walks.{AllClosed, Closed, Used, closed-in, in-closed, seg}
+pub use Rattle.model.proofs.Notions.{Merges, MergesTo, merge, mergeHeap, no-more, then-more}
 
 sum-append : (w : ℕ → ℕ) (s t : List ℕ) → sum w (s ++ t) ≡ sum w s + sum w t
 sum-append w [] t = omega arith
@@ -135,20 +123,16 @@ module _ (W : Heap) (p d : ℕ) (x : IsHeap W) (u : Used (next W) d) (n : core W
     nodup = λ i a. eq-case i p (λ q. rw (sg-p i q, p-d) (refl, (refl, tt))) (λ q. rw (sg-off i q) (refl, tt));
   }
 
-  off-ptrs : (vs : List Val) → (In (cell d) vs → ⊥) → AllClosed (next W) vs → AllClosed nm vs
-  off-ptrs [] f k = tt
-  off-ptrs (v ∷ vs) f k = (m-closed v (λ q. f (inl (sym q))) (k .0), off-ptrs vs (λ i. f (inr i)) (k .1))
-
-  same-imgs : (vs : List Val) → map (img (mergeSegs p d)) vs ≡ vs
-  same-imgs [] = refl
-  same-imgs (v ∷ vs) = ap₂ _∷_ (same-img v) (same-imgs vs)
+  off-ptrs : AllClosed nm (W .ptrs)
+  off-ptrs = in-closed nm (W .ptrs)
+      (λ v i. m-closed v (λ q. not-pointed W d n (subst (λ z. In z (W .ptrs)) q i)) (closed-in (next W) (W .ptrs) v (heap-closed W x .0) i))
 
   -- the heap before is an expansion of the heap after
   pub merge-expansion : Expansion (mergeHeap p d W) (mergeSegs p d) W
   merge-expansion = record {
     body = subst (λ f. Expands f (mergeSegs p d) (next W)) (sym next-merge) m-expands;
-    closed = subst (λ f. AllClosed f (W .ptrs)) (sym next-merge) (off-ptrs (W .ptrs) (not-pointed W d n) (heap-closed W x .0));
-    ptrs = sym (same-imgs (W .ptrs));
+    closed = subst (λ f. AllClosed f (W .ptrs)) (sym next-merge) off-ptrs;
+    ptrs = sym (map-id (img (mergeSegs p d)) (W .ptrs) (λ v i. same-img v));
   }
 
   after-kept : Kept (mergeHeap p d W)
@@ -165,15 +149,17 @@ module _ (W : Heap) (p d : ℕ) (x : IsHeap W) (u : Used (next W) d) (n : core W
 
   after-sums : (w : ℕ → ℕ) (ss : List Seg)
       → map (λ (s : Seg). sum w (cells s)) (map (grow (mergeSegs p d)) ss) ≡ map (λ (s : Seg). sum (upd w p (w p + w d)) (cells s)) ss
-  after-sums w [] = refl
-  after-sums w (s ∷ ss) = ap₂ _∷_ (after-sum w (cells s)) (after-sums w ss)
+  after-sums w ss =
+      map-two (grow (mergeSegs p d)) (λ (s : Seg). sum w (cells s)) ss
+      ∙ map-same (λ (s : Seg). sum w (cat (mergeSegs p d) (cells s))) (λ (s : Seg). sum (upd w p (w p + w d)) (cells s)) ss (λ s i. after-sum w (cells s))
 
   after-counted : (w : ℕ → ℕ) → counted (mergeHeap p d W) (upd w p (w p + w d)) ≡ counted W w
   after-counted w = sym (rw (segments-grow (mergeHeap p d W) (mergeSegs p d) W merge-expansion) (after-sums w (segments (mergeHeap p d W))))
 
   after-firsts : (ss : List Seg) → map (λ (s : Seg). s .first) (map (grow (mergeSegs p d)) ss) ≡ map (λ (s : Seg). s .first) ss
-  after-firsts [] = refl
-  after-firsts (s ∷ ss) = ap₂ _∷_ (seg-first (s .first)) (after-firsts ss)
+  after-firsts ss =
+      map-two (grow (mergeSegs p d)) (λ (s : Seg). s .first) ss
+      ∙ map-same (λ (s : Seg). mergeSegs p d (s .first) .first) (λ (s : Seg). s .first) ss (λ s i. seg-first (s .first))
 
   after-heads : heads (mergeHeap p d W) ≡ heads W
   after-heads = sym (rw (segments-grow (mergeHeap p d W) (mergeSegs p d) W merge-expansion) (after-firsts (segments (mergeHeap p d W))))

@@ -1,15 +1,14 @@
 -- The automaton read from the bytes of the tables: its moves are the listing's edges, and its locations read as they were written.
-use Prim.Native.Nat.{_+_, _<_, _≤_, suc, zero, ℕ}
+use Prim.Native.Nat.{_<_, _≤_, ℕ}
 use mathlib.Core.Path.{_∙_, _≡_, ap, ap₂, refl, sym}
-use mathlib.Core.Logic.{inl, inr}
 use mathlib.Core.Option.{some}
-use mathlib.Core.Bool.{Bool, _&&_, true}
-use mathlib.Core.List.{List, [], _∷_, map}
+use mathlib.Core.Bool.{_&&_, true}
+use mathlib.Core.List.{List, [], map}
 use native.Mathlib.Omega.{arith}
 use lib.Dec.{eqb, ltb}
 use lib.ListN.{getD, length, length-map}
-use borrow.Author.Tests.{eq-eqb, eqb-false, eqb-true, lt-ltb, ltb-true}
-use Rattle.model.specs.Base.{any, numbers}
+use borrow.Author.Tests.{eq-eqb, eqb-true, lt-ltb, ltb-true}
+use Rattle.model.specs.Base.{numbers}
 use Rattle.model.specs.Edges.{Guard, Loc, always, at, failed, isMore, isOne}
 use Rattle.model.specs.Machine.{leak}
 use Rattle.model.specs.Records.{byte, edgeRecord, guardBytes, locRecord, recordAt, updateCode, word}
@@ -17,35 +16,17 @@ use Rattle.model.specs.Runs.{Config, Step, applied, enabled, guardHolds,
 use Rattle.model.specs.Translate.{Link, Listing, Routine, Tables, linkRecord, tablesOf}
 use Rattle.model.proofs.Bytes.{applied-code, table-record}
 use Rattle.model.proofs.Checked.{GoodStarts}
-use Rattle.model.proofs.Exact.{Exact, LinkGood, link-good}
-use Rattle.model.proofs.Leave.{SmallEdge, guardOn, nodesOf, worth}
-use Rattle.model.proofs.Listing.{locAt}
-use Rattle.model.proofs.Lists.{In, getD-in, in-map, some-inj, some-none}
-use Rattle.model.proofs.Logic.{and-both, and-l, and-r, bool-case, clash, eq-case, or-cases, or-l, or-r}
+use Rattle.model.proofs.Exact.{LinkGood, link-good}
+use Rattle.model.proofs.Listings.{Exact, WritableLoc, locAt}
+use Rattle.model.proofs.Lists.{In, any-find, any-in, getD-in, getD-map, in-map, map-same, map-two, some-inj, some-none}
+use Rattle.model.proofs.Logic.{and-both, and-l, and-r, bool-case}
+use Rattle.model.proofs.Notions.{SmallEdge, guardOn, nodesOf, worth}
+use Rattle.model.proofs.Numbers.{in-numbers, numbers-in}
 use Rattle.model.proofs.Reached.{GoodLoc, good-edge, reached-good}
-use Rattle.model.proofs.ReadBack.{WritableLoc, canon-writable, edge-branch, edge-from, edge-guard, edge-length, edge-node, edge-to, edge-updates, record-length}
+use Rattle.model.proofs.ReadBack.{canon-writable, edge-branch, edge-from, edge-guard, edge-length, edge-node, edge-to, edge-updates, record-length}
+pub use Rattle.model.proofs.Listings.{linkAt, noLink}
 
-getD-map : {A B : Type 0} (f : A → B) (l : List A) (i : ℕ) (d : A) (e : B) → i < length l → getD (map f l) i e ≡ f (getD l i d)
-getD-map f [] i d e h = absurd (omega arith)
-getD-map f (x ∷ l) zero d e h = refl
-getD-map f (x ∷ l) (suc i) d e h = getD-map f l i d e (omega arith)
-
-map-same : {A B : Type 0} (f g : A → B) (l : List A) → ((x : A) → In x l → f x ≡ g x) → map f l ≡ map g l
-map-same f g [] h = refl
-map-same f g (x ∷ l) h = ap₂ _∷_ (h x (inl refl)) (map-same f g l (λ y i. h y (inr i)))
-
-map-two : {A B C : Type 0} (f : A → B) (g : B → C) (l : List A) → map g (map f l) ≡ map (λ x. g (f x)) l
-map-two f g [] = refl
-map-two f g (x ∷ l) = ap (λ z. g (f x) ∷ z) (map-two f g l)
-
-abbrev pub noLink : Link
-noLink = record { from = 0; dest = 0; edge = record { branchNo = 0; guard = always; to = failed 0 leak; updates = [] } }
-
--- edge n of a listing
-abbrev pub linkAt : Listing → ℕ → Link
-linkAt t n = getD (t .links) n noLink
-
--- the move by-link an edge
+-- the move by an edge
 abbrev pub by-link : Config → Link → Step Config
 by-link c k = record { branchNo = k .edge .branchNo; after = record { loc = k .dest; values = map (worth (c .values)) (k .edge .updates) } }
 
@@ -80,23 +61,25 @@ module _ (r : Routine) (t : Listing) (X : Exact r t) (G : GoodStarts r) (a b : �
   link-small k L = good-edge (r .stmts) (locAt (t .locs) (k .from)) (loc-good (k .from) (L .from-below)) (k .edge) (L .edge-of)
 
   -- records of the tables
-  pub loc-record : (i : ℕ) → i < length (t .locs) → recordAt (T .locBytes) i ≡ locRecord (locAt (t .locs) i)
-  loc-record i h =
-      table-record a (map locRecord (t .locs)) i
-      (λ x q. let m = in-map locRecord x (t .locs) q in
-      ap length (m .2) ∙ record-length (m .0) (good-writable (m .0) (reached-good r G (m .0) (X .sound (m .0) (m .1)))))
-      (omega (arith, length-map (t .locs) locRecord))
-      ∙ getD-map locRecord (t .locs) i (failed 0 leak) [] h
+  pub locs-wide : (x : List ℕ) → In x (map locRecord (t .locs)) → length x ≡ 32
+  locs-wide x q =
+      let m = in-map locRecord x (t .locs) q in
+      ap length (m .2) ∙ record-length (m .0) (good-writable (m .0) (reached-good r G (m .0) (X .sound (m .0) (m .1))))
 
-  edge-record : (n : ℕ) → n < length (t .links) → recordAt (T .edgeBytes) n ≡ linkRecord (linkAt t n)
-  edge-record n h =
-      table-record b (map linkRecord (t .links)) n
-      (λ x q. let m = in-map linkRecord x (t .links) q in
+  pub links-wide : (x : List ℕ) → In x (map linkRecord (t .links)) → length x ≡ 32
+  links-wide x q =
+      let m = in-map linkRecord x (t .links) q in
       let k = m .0 in
       let s = link-small k (link-good r t X k (m .1)) in
-      ap length (m .2) ∙ edge-length (k .from) (k .dest) (k .edge) (omega (arith, s .0 .number, nodes-few (k .edge .to) (s .1))))
-      (omega (arith, length-map (t .links) linkRecord))
-      ∙ getD-map linkRecord (t .links) n noLink [] h
+      ap length (m .2) ∙ edge-length (k .from) (k .dest) (k .edge) (omega (arith, s .0 .number, nodes-few (k .edge .to) (s .1)))
+
+  pub loc-record : (i : ℕ) → i < length (t .locs) → recordAt (T .locBytes) i ≡ locRecord (locAt (t .locs) i)
+  loc-record i h =
+      table-record a (map locRecord (t .locs)) i locs-wide (omega (arith, length-map (t .locs) locRecord)) ∙ getD-map locRecord (t .locs) i (failed 0 leak) [] h
+
+  pub edge-record : (n : ℕ) → n < length (t .links) → recordAt (T .edgeBytes) n ≡ linkRecord (linkAt t n)
+  edge-record n h =
+      table-record b (map linkRecord (t .links)) n links-wide (omega (arith, length-map (t .links) linkRecord)) ∙ getD-map linkRecord (t .links) n noLink [] h
 
   edge-word : (n : ℕ) → n < length (t .links) → word (recordAt (T .edgeBytes) n) 2 ≡ linkAt t n .from
   edge-word n h = let k = linkAt t n in ap (λ x. word x 2) (edge-record n h) ∙ edge-from (k .from) (k .dest) (k .edge)
@@ -158,22 +141,13 @@ module _ (r : Routine) (t : Listing) (X : Exact r t) (G : GoodStarts r) (a b : �
       (λ e. some-none (rw e at m))
 
   -- an edge leaves a location
-  any-numbers : (p : ℕ → Bool) (i m : ℕ) → any p (numbers i m) ≡ true → (n : ℕ) × (n < i + m) × (i ≤ n) × (p n ≡ true)
-  any-numbers p i zero h = clash h refl
-  any-numbers p i (suc m) h = or-cases (p i) (any p (numbers (suc i) m)) h (λ e. (i, omega arith, omega arith, e))
-      (λ e. let q = any-numbers p (suc i) m e in (q .0, omega arith, omega arith, q .3))
-
-  numbers-any : (p : ℕ → Bool) (i m n : ℕ) → i ≤ n → n < i + m → p n ≡ true → any p (numbers i m) ≡ true
-  numbers-any p i zero n lo hi e = absurd (omega arith)
-  numbers-any p i (suc m) n lo hi e = eq-case n i (λ z. or-l (p i) (any p (numbers (suc i) m)) (ap p (sym z) ∙ e))
-      (λ z. or-r (p i) (any p (numbers (suc i) m)) (numbers-any p (suc i) m n (let ne = eqb-false n i z in omega arith) (omega arith) e))
-
   pub leaves-link : (i : ℕ) → leaves T i ≡ true → (n : ℕ) × (n < length (t .links)) × (linkAt t n .from ≡ i)
   leaves-link i h =
-      let q = any-numbers (λ n. eqb (word (recordAt (T .edgeBytes) n) 2) i) 0 (length (t .links)) h in
-      let lt : q .0 < length (t .links) = omega arith in
-      (q .0, lt, sym (edge-word (q .0) lt) ∙ eqb-true (word (recordAt (T .edgeBytes) (q .0)) 2) i (q .3))
+      let q = any-find (λ n. eqb (word (recordAt (T .edgeBytes) n) 2) i) (numbers 0 (length (t .links))) h in
+      let lt : q .0 < length (t .links) = omega (arith, in-numbers 0 (length (t .links)) (q .0) (q .1)) in
+      (q .0, lt, sym (edge-word (q .0) lt) ∙ eqb-true (word (recordAt (T .edgeBytes) (q .0)) 2) i (q .2))
 
   pub link-leaves : (n : ℕ) → n < length (t .links) → leaves T (linkAt t n .from) ≡ true
-  link-leaves n h = numbers-any (λ m. eqb (word (recordAt (T .edgeBytes) m) 2) (linkAt t n .from)) 0 (length (t .links)) n (omega arith) (omega arith)
+  link-leaves n h = any-in (λ m. eqb (word (recordAt (T .edgeBytes) m) 2) (linkAt t n .from)) (numbers 0 (length (t .links))) n
+      (numbers-in 0 (length (t .links)) n (omega arith) (omega arith))
       (eq-eqb (word (recordAt (T .edgeBytes) n) 2) (linkAt t n .from) (edge-word n h))

@@ -1,20 +1,18 @@
 -- The walk with fuel against the walk without
-
--- a list of different numbers below b has at most b of them
-use Prim.Native.Nat.{_+_, _<_, suc, zero, ℕ, _≤_}
-use mathlib.Core.Path.{_≡_, refl, subst, sym, _∙_, _≡_}
+use Prim.Native.Nat.{_+_, _<_, _≤_, suc, zero, ℕ}
+use mathlib.Core.Path.{_∙_, _≡_, refl, subst, sym}
 use mathlib.Core.Bool.{cond, false, true}
-use mathlib.Core.List.{_++_, List, [], _∷_}
+use mathlib.Core.List.{List, [], _++_, _∷_}
 use native.Mathlib.Omega.{arith}
 use lib.Dec.{eqb}
 use lib.ListN.{getD, length, length-append}
 use borrow.Author.Tests.{eqb-true}
 use Rattle.model.specs.Base.{mem}
-use Rattle.model.specs.Edges.{at}
 use Rattle.model.specs.Heap.{Heap, Slot, Val, cell, holds, next, null, order, tour, undef, unused, walk}
 use Rattle.model.proofs.Logic.{NoDup, bool-case, clash, eqb-same, eqb-sym, mem-append, mem-append-cases, mem-cases, mem-here, mem-one, mem-there, not-true, or-false-l, or-false-r}
 use Rattle.model.proofs.Walks.{AllClosed, AllUsed, Closed, ClosedHeap, Tours, Used, Walks, at-null, at-seen, at-undef, go, tour-done, tour-more}
 
+-- a list of different numbers below b has at most b of them
 del : ℕ → List ℕ → List ℕ
 del x [] = []
 del x (y ∷ l) = cond (eqb x y) l (y ∷ del x l)
@@ -102,6 +100,25 @@ module _ (nx : ℕ → Slot) (b : ℕ) (cl : (n : ℕ) (v : Val) → nx n ≡ ho
       let r = walk-total b s v (k .0) nd us (omega arith) in
       let q = tour-total (r .0) vs (k .1) (r .2) (r .3) in
       (q .0, tour-more (r .1) (q .1), q .2, q .3)
+
+-- no cell is visited twice, whatever the heap
+walk-nodup : (nx : ℕ → Slot) (f : ℕ) (s : List ℕ) (v : Val) → NoDup s → NoDup (walk nx f s v)
+walk-nodup nx zero s v nd = nd
+walk-nodup nx (suc f) s null nd = nd
+walk-nodup nx (suc f) s undef nd = nd
+walk-nodup nx (suc f) s (cell c) nd = bool-case (mem c s) (λ e. rw (e, walk) nd) (λ e. rw (e, walk) (by-slot e (nx c) refl (λ w. walk-nodup nx f (s ++ c ∷ []) w (nodup-snoc s c nd e))))
+  where
+    by-slot : mem c s ≡ false → (x : Slot) → nx c ≡ x → ((w : Val) → NoDup (walk nx f (s ++ c ∷ []) w))
+        → NoDup (elim (nx c) [ unused ↦ s | holds w ↦ walk nx f (s ++ c ∷ []) w ])
+    by-slot e unused q h = rw (q, walk) nd
+    by-slot e (holds w) q h = rw (q, walk) (h w)
+
+tour-nodup : (nx : ℕ → Slot) (f : ℕ) (s : List ℕ) (vs : List Val) → NoDup s → NoDup (tour nx f s vs)
+tour-nodup nx f s [] nd = nd
+tour-nodup nx f s (v ∷ vs) nd = tour-nodup nx f (walk nx f s v) vs (walk-nodup nx f s v nd)
+
+pub order-once : (h : Heap) → NoDup (order h)
+order-once h = tour-nodup (next h) (length (h .slots)) [] (h .ptrs) tt
 
 pub used-below : (l : List Slot) (n : ℕ) → Used (λ c. getD l c unused) n → n < length l
 used-below [] n u = let h = u .1 in let z : _≡_ {A = ℕ} 0 1 = cc in omega arith

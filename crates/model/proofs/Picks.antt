@@ -1,6 +1,4 @@
 -- What an entry's pick decides, and which entries make a step.
-
--- ops that do not choose have a branch of their own
 use Prim.Native.Nat.{_≤_, suc, zero, ℕ}
 use mathlib.Core.Path.{_∙_, _≡_, refl, sym}
 use mathlib.Core.Logic.{inl, inr}
@@ -9,13 +7,14 @@ use mathlib.Core.Bool.{false, true}
 use mathlib.Core.List.{[], _∷_}
 use native.Mathlib.Omega.{arith}
 use borrow.Author.Tests.{leb-true}
-use Rattle.model.specs.Edges.{at, picksOf}
+use Rattle.model.specs.Edges.{picksOf}
 use Rattle.model.specs.Heap.{Heap}
 use Rattle.model.specs.Machine.{Answer, Entry, Kind, Op, Stmt, accepts, allocates, answerOf, branch, choose, clear, copy, free, isNull, kind, load, new, other, picks, run, same, setNull, skip, step, stop, stops, store, unlessStop}
 use Rattle.model.specs.Runs.{State, Step, isStop, made}
 use Rattle.model.proofs.Lists.{In, some-none}
 use Rattle.model.proofs.Logic.{bool-case, clash}
 
+-- ops that do not choose have a branch of their own
 pub branch-pick : (op : Op) (p q : ℕ) (h : Heap) → (kind op ≡ picks → ⊥) → branch op p h ≡ branch op q h
 branch-pick stop p q h n = refl
 branch-pick (setNull u) p q h n = refl

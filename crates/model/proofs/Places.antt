@@ -2,7 +2,7 @@
 use Prim.Native.Nat.{_+_, _<_, _≤_, suc, zero, ℕ}
 use mathlib.Core.Path.{_∙_, _≡_, ap, refl, subst, sym}
 use mathlib.Core.Logic.{_⊎_, inl, inr, ⊎-elim}
-use mathlib.Core.List.{List, [], _++_, _∷_, map}
+use mathlib.Core.List.{List, [], _∷_, map}
 use native.Mathlib.Omega.{arith}
 use lib.Dec.{ltb}
 use lib.ListN.{length, length-map}
@@ -12,10 +12,12 @@ use Rattle.model.specs.Edges.{Edge, Loc, at, edgesOf, sameLoc}
 use Rattle.model.specs.Heap.{Heap}
 use Rattle.model.specs.Machine.{Stmt}
 use Rattle.model.specs.Translate.{Listing, Refusal, Routine, addEdges, explore, full, listed, listing, refusal}
-use Rattle.model.proofs.Listing.{Placed, add-found, add-listed, addEdge, any-loc, edge-locs, explore-end, explore-full, explore-next, explored, explored-end, explored-prefix, extend, extend-links, extend-prefix, full-listed, listing-whole, loc-place, locAt, outcome-case, placed-edge}
+use Rattle.model.proofs.Listing.{add-found, add-listed, any-loc, edge-locs, explore-end, explore-full, explore-next, explored-end, explored-prefix, extend-links, extend-prefix, full-listed, listing-whole, loc-place, outcome-case, placed-edge}
+use Rattle.model.proofs.Listings.{Placed, addEdge, explored, extend, locAt}
 use Rattle.model.proofs.Lists.{In}
 use Rattle.model.proofs.Logic.{bool-case, eq-case}
 use Rattle.model.proofs.Same.{place-le, place-none, prefix-length}
+pub use Rattle.model.proofs.Listings.{NoPlace, Refused, Why, no-edge, no-location}
 
 -- edges that have places are added
 pub add-fits : (cl ce i : ℕ) (es : List Edge) (t : Listing) → Placed cl ce (extend i es t) → addEdges cl ce i es t ≡ listed (extend i es t)
@@ -101,22 +103,6 @@ too-many r cl ce cl′ ce′ t q h =
 
 -- ---- what a refusal says
 
--- Why the edge e of location i cannot be added to listing u: 11, its target is new and every place for a location is taken; 12, its target
--- stands there or has a place, and every place for an edge is taken.
-pub data Why (cl ce i : ℕ) (e : Edge) (u : Listing) (x : Refusal) : Type 0 where
-  no-location : x ≡ refusal 11 i → (In (e .to) (u .locs) → ⊥) → length (u .locs) ≡ cl → Why cl ce i e u x
-  no-edge : x ≡ refusal 12 i → In (e .to) (u .locs) ⊎ (length (u .locs) < cl) → length (u .links) ≡ ce → Why cl ce i e u x
-
--- of the edges es of location i, those before one have places, and that one has none
-pub record NoPlace (cl ce i : ℕ) (es : List Edge) (t : Listing) (x : Refusal) : Type 0 where
-  pub earlier : List Edge
-  pub stuck : Edge
-  pub later : List Edge
-  pub edges : es ≡ earlier ++ stuck ∷ later
-  pub added : addEdges cl ce i earlier t ≡ listed (extend i earlier t)
-  pub fit : Placed cl ce (extend i earlier t)
-  pub why : Why cl ce i stuck (extend i earlier t) x
-
 place-or-room : (cl : ℕ) (ls : List Loc) (l : Loc) → placeOf (sameLoc l) ls < cl → In l ls ⊎ (length ls < cl)
 place-or-room cl ls l h = bool-case (any (sameLoc l) ls) (λ e. inl (any-loc ls l e)) (λ e. inr (let k = place-none (sameLoc l) ls e in omega arith))
 
@@ -168,13 +154,6 @@ pub why-place : (cl ce i : ℕ) (e : Edge) (u : Listing) (x : Refusal) → Why c
 why-place cl ce i e u x (no-location q a b) = ap (λ (y : Refusal). y .place) q
 why-place cl ce i e u x (no-edge q a b) = ap (λ (y : Refusal). y .place) q
 
--- The refusal at location x .place: the locations below have been explored, it stands in the listing, and one of its edges has no place.
-pub record Refused (sts : List Stmt) (hs : List Heap) (cl ce : ℕ) (x : Refusal) : Type 0 where
-  pub reached : explore sts cl ce (x .place) 0 (explored sts hs 0) ≡ listed (explored sts hs (x .place))
-  pub below : x .place < length (explored sts hs (x .place) .locs)
-  pub adding : addEdges cl ce (x .place) (edgesOf sts (locAt (explored sts hs (x .place) .locs) (x .place))) (explored sts hs (x .place)) ≡ full x
-  pub no-place : NoPlace cl ce (x .place) (edgesOf sts (locAt (explored sts hs (x .place) .locs) (x .place))) (explored sts hs (x .place)) x
-
 module _ (sts : List Stmt) (hs : List Heap) (cl ce : ℕ) (x : Refusal) where
   refused-here : (i : ℕ) → Placed cl ce (explored sts hs i) → i < length (explored sts hs i .locs)
       → addEdges cl ce i (edgesOf sts (locAt (explored sts hs i .locs) i)) (explored sts hs i) ≡ full x → x .place ≡ i → Refused sts hs cl ce x
@@ -215,3 +194,13 @@ full-says r cl ce x p =
     (λ q. let p1 = rw (q, listing) at p in inl (ltb-true cl (length (r .starts)) q, cc))
     (λ q. let le = ltb-false cl (length (r .starts)) q in
     inr (explore-refused (r .stmts) (r .starts) cl ce x cl 0 (rw (length-map (r .starts) (at 0)) le, omega arith) (rw (q, listing) at p)))
+
+-- its number is 11 or 12
+pub full-number : (r : Routine) (cl ce : ℕ) (x : Refusal) → listing r cl ce ≡ full x → (x .number ≡ 11) ⊎ (x .number ≡ 12)
+full-number r cl ce x e = ⊎-elim
+    (λ (p : (cl < length (r .starts)) × (x ≡ refusal 11 cl)). inl (ap (λ (y : Refusal). y .number) (p .1)))
+    (λ (p : Refused (r .stmts) (r .starts) cl ce x). by-why (p .no-place .why)) (full-says r cl ce x e)
+  where
+    by-why : {i : ℕ} {d : Edge} {u : Listing} → Why cl ce i d u x → (x .number ≡ 11) ⊎ (x .number ≡ 12)
+    by-why (no-location p q l) = inl (ap (λ (y : Refusal). y .number) p)
+    by-why (no-edge p q l) = inr (ap (λ (y : Refusal). y .number) p)

@@ -12,13 +12,11 @@ use Rattle.model.specs.Heap.{Heap, Slot, Val, cell, eachUsed, holds, kep
 use Rattle.model.proofs.Changes.{holds-inj}
 use Rattle.model.proofs.Facts.{kept-test, test-kept}
 use Rattle.model.proofs.Lists.{In}
-use Rattle.model.proofs.Logic.{NoDup, bool-case, clash, mem-append-cases, mem-append-l, mem-append-r, mem-here, mem-one, not-true}
+use Rattle.model.proofs.Logic.{bool-case, clash, mem-append-cases, mem-append-l, mem-append-r, mem-here, mem-one, not-true}
 use Rattle.model.proofs.Order.{toured}
 use Rattle.model.proofs.Walks.{ClosedHeap, Tours, Used, Walks, at-null, at-seen, at-undef, go, tour-done, tour-more}
-
-pub data Reaches (h : Heap) : ℕ → Type 0 where
-  from-pointer : {c : ℕ} → In (cell c) (h .ptrs) → Reaches h c
-  along : {c d : ℕ} → Reaches h c → next h c ≡ holds (cell d) → Reaches h d
+pub use Rattle.model.proofs.Notions.{Reaches, along, from-pointer}
+pub use Rattle.model.proofs.Order.{order-once}
 
 val-clash {ℓ} : {C : Type ℓ} {v : Val} {c : ℕ} → cell c ≡ v → v ≡ null ⊎ v ≡ undef → C
 val-clash {v} {c} e (inl q) = absurd (let z : _≡_ {A = ℕ} 0 1 = cc in omega arith)
@@ -97,10 +95,6 @@ order-reaches h cl = tour-only (next h) (Reaches h) (λ c d r e. along r e) (tou
 pub reaches-order : (h : Heap) → ClosedHeap h → (c : ℕ) → Reaches h c → mem c (order h) ≡ true
 reaches-order h cl c (from-pointer i) = tour-hits (next h) (toured h cl .tours) c i
 reaches-order h cl c (along {c = b} r e) = tour-whole (next h) (toured h cl .tours) (λ a d k q. clash k refl) b c (reaches-order h cl b r) e
-
--- no cell is visited twice
-pub order-once : (h : Heap) → ClosedHeap h → NoDup (order h)
-order-once h cl = toured h cl .nodup
 
 -- the test says that every cell in use is reachable
 pub kept-reaches : (h : Heap) → ClosedHeap h → (kept h ≡ true) ↔ ((c : ℕ) → Used (next h) c → Reaches h c)

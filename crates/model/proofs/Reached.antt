@@ -1,14 +1,12 @@
 -- Every edge of a shape leads to a fault or to a shape with as many pointers, and its updates are small; so every reached location can be written.
-
--- the number of pointers stays
-use Prim.Native.Nat.{_<_, _≤_, suc, zero, ℕ}
+use Prim.Native.Nat.{_<_, _≤_, ℕ}
 use mathlib.Core.Path.{_∙_, _≡_, ap, ap₂, refl, subst, sym}
 use mathlib.Core.Logic.{inl, inr}
 use mathlib.Core.Option.{some}
 use mathlib.Core.Bool.{true}
 use mathlib.Core.List.{List, map}
 use native.Mathlib.Omega.{arith}
-use lib.ListN.{List·getD-eq-default, getD, length, length-map, length-replicate, length-set, replicate}
+use lib.ListN.{List·getD-eq-default, getD, getD-replicate, length, length-map, length-replicate, length-set, replicate}
 use borrow.Author.Tests.{eq-eqb, le-leb}
 use Rattle.model.specs.Edges.{Edge, Guard, Loc, Way, access, always, at, edgeBy, edgesAt, edgesOf, failed, isMore, isOne, picksOf, stepBy, stmtAt, ways, waysAt, whole}
 use Rattle.model.specs.Heap.{Heap, Val, cell, holds, inUse, kept, next, null, ptr, undef, unused}
@@ -19,20 +17,23 @@ use Rattle.model.specs.Shape.{counters, nodeVal, segments}
 use Rattle.model.specs.Translate.{Routine}
 use Rattle.model.proofs.Canon.{Canon, fold-canon}
 use Rattle.model.proofs.Checked.{GoodStarts}
-use Rattle.model.proofs.Exact.{Reached, by-edge, from-start}
-use Rattle.model.proofs.Facts.{heap-closed, heap-kept}
-use Rattle.model.proofs.Leave.{Fit, MatchIn, SmallEdge, begin, guardOn, nodesOf, worth}
-use Rattle.model.proofs.Lists.{In, in-joined, in-map, some-inj}
+use Rattle.model.proofs.Facts.{heap-closed, heap-kept, kept-test}
+use Rattle.model.proofs.Guards.{edges-cover, edges-exclude}
+use Rattle.model.proofs.Leave.{Fit, MatchIn, begin}
+use Rattle.model.proofs.Listings.{Reached, by-edge, from-start}
+use Rattle.model.proofs.Lists.{In, Pairs, getD-default, in-joined, in-map, some-inj}
 use Rattle.model.proofs.Location.{leave-backward, way-guard}
 use Rattle.model.proofs.Logic.{bool-case}
+use Rattle.model.proofs.Notions.{Exclude, Positive, SmallEdge, guardOn, nodesOf, worth}
 use Rattle.model.proofs.Order.{used-below}
 use Rattle.model.proofs.Picks.{made-goes}
 use Rattle.model.proofs.Step.{step-go}
-use Rattle.model.proofs.Unfold.{Positive, counters-unfold, shape-unfold, unfold-is-heap}
+use Rattle.model.proofs.Unfold.{counters-unfold, shape-unfold, unfold-is-heap}
 use Rattle.model.proofs.Walks.{Closed}
 use Rattle.model.proofs.Ways.{access-closed}
 
-abbrev PtrsAre : ℕ → Effect → Type 0
+-- the number of pointers stays
+abbrev pub PtrsAre : ℕ → Effect → Type 0
 PtrsAre n (done h) = length (h .ptrs) ≡ n
 PtrsAre n (fault f) = Unit {0}
 
@@ -46,7 +47,7 @@ free-ptrs (cell c) h = length-map (h .ptrs) (wipe c)
 free-ptrs null h = refl
 free-ptrs undef h = tt
 
-effect-ptrs : (op : Op) (n : ℕ) (h : Heap) → PtrsAre (length (h .ptrs)) (effect op n h)
+pub effect-ptrs : (op : Op) (n : ℕ) (h : Heap) → PtrsAre (length (h .ptrs)) (effect op n h)
 effect-ptrs stop n h = refl
 effect-ptrs (setNull u) n h = length-set (h .ptrs) u null
 effect-ptrs (copy u w) n h = length-set (h .ptrs) u (ptr h w)
@@ -60,7 +61,7 @@ effect-ptrs (same u w) n h = refl
 effect-ptrs choose n h = refl
 effect-ptrs skip n h = refl
 
-keep-ptrs : (n : ℕ) (x : Effect) → PtrsAre n x → PtrsAre n (keep x)
+pub keep-ptrs : (n : ℕ) (x : Effect) → PtrsAre n x → PtrsAre n (keep x)
 keep-ptrs n (fault f) p = tt
 keep-ptrs n (done h) p = bool-case (kept h) (λ e. rw e p) (λ e. rw e tt)
 
@@ -86,16 +87,11 @@ ways-below op h (cell n) k y (inr (inr x)) = absurd x
 ways-below op h null k y i = let r = in-map (λ p. whole always p h) y (picksOf (kind op)) i in subst (λ (z : Way). GuardBelow (length (h .slots)) (z .guard)) (sym (r .2)) tt
 ways-below op h undef k y i = let r = in-map (λ p. whole always p h) y (picksOf (kind op)) i in subst (λ (z : Way). GuardBelow (length (h .slots)) (z .guard)) (sym (r .2)) tt
 
-getD-same : (k c n d : ℕ) → n < k → getD (replicate k c) n d ≡ c
-getD-same zero c n d h = absurd (omega arith)
-getD-same (suc k) c zero d h = refl
-getD-same (suc k) c (suc n) d h = getD-same k c n d (omega arith)
-
 -- counters for which a guard holds
 guard-met : (k : ℕ) (g : Guard) → GuardBelow k g → (c : ℕ) × (1 ≤ c) × (guardOn g (replicate k c) ≡ true)
 guard-met k always b = (1, omega arith, refl)
-guard-met k (isOne n) b = (1, omega arith, eq-eqb (getD (replicate k 1) n 0) 1 (getD-same k 1 n 0 b))
-guard-met k (isMore n) b = (2, omega arith, le-leb 2 (getD (replicate k 2) n 0) (omega (arith, getD-same k 2 n 0 b)))
+guard-met k (isOne n) b = (1, omega arith, eq-eqb (getD (replicate k 1) n 0) 1 (getD-replicate k n 1 0 b))
+guard-met k (isMore n) b = (2, omega arith, le-leb 2 (getD (replicate k 2) n 0) (omega (arith, getD-replicate {A = ℕ} k n 2 0 b)))
 
 -- a location that can be written: a shape with six pointers, or a fault
 abbrev pub GoodLoc : Loc → Type 0
@@ -122,7 +118,7 @@ module _ (s : ℕ) (st : Stmt) (h : Heap) (C : Canon h) (six : length (h .ptrs) 
       let m = guard-met k (y .guard) b in
       let cs = replicate k (m .0) in
       let len : length cs ≡ k = length-replicate k (m .0) in
-      let pos : Positive cs = λ n q. let z = getD-same k (m .0) n 1 (omega arith) in let o = m .1 in omega arith in
+      let pos : Positive cs = λ n q. let z = getD-replicate k n (m .0) 1 (omega arith) in let o = m .1 in omega arith in
       let H = unfoldHeap h cs in
       let X = unfold-is-heap h C cs len pos in
       let sh = shape-unfold h C cs len pos in
@@ -143,3 +139,17 @@ good-edge sts (failed s f) g E i = absurd i
 pub reached-good : (r : Routine) → GoodStarts r → (l : Loc) → Reached (r .stmts) (r .starts) l → GoodLoc l
 reached-good r G l (from-start {h = h} i) = G .shapes h i
 reached-good r G l (by-edge {l = k} e p i) = good-edge (r .stmts) k (reached-good r G k p) e i .1
+
+-- the guards of the edges of one branch exclude each other and leave nothing out
+pub good-exclude : (sts : List Stmt) (l : Loc) → GoodLoc l → Pairs Exclude (edgesOf sts l)
+good-exclude sts (at s h) g = edges-exclude s (stmtAt sts s) h (kept-test h (g .0 .kept))
+good-exclude sts (failed s f) g = tt
+
+pub good-cover : (sts : List Stmt) (l : Loc) → GoodLoc l → (cs : List ℕ) → length cs ≡ nodesOf l → Positive cs → (E : Edge) → In E (edgesOf sts l)
+    → (D : Edge) × In D (edgesOf sts l) × (D .branchNo ≡ E .branchNo) × (guardOn (D .guard) cs ≡ true)
+good-cover sts (failed s f) g cs len pos E i = absurd i
+good-cover sts (at s h) g cs len pos E i =
+    let op = stmtAt sts s .op in
+    edges-cover s (stmtAt sts s) h (kept-test h (g .0 .kept)) cs
+    (λ n a. let lt = used-below (h .slots) n (subst (Closed (next h)) a (access-closed h op (g .0 .closed .0))) in
+    let z = getD-default cs 0 1 n (omega arith) in let o = pos n (omega arith) in omega arith) E i

@@ -1,7 +1,6 @@
 -- Shape, location and edge records read back as what they were written from.
 use Prim.Native.Nat.{_%_, _*_, _+_, _-_, _/_, _<_, _≤_, suc, zero, ℕ}
 use mathlib.Core.Path.{_∙_, _≡_, ap, ap₂, fun-ext, refl, subst, sym}
-use mathlib.Core.Logic.{inl, inr}
 use mathlib.Core.Bool.{true}
 use mathlib.Core.List.{List, [], _++_, _∷_, append-assoc, map}
 use native.Mathlib.Omega.{arith}
@@ -15,32 +14,17 @@ use Rattle.model.specs.Records.{byte, edgeRecord, filled, guardBytes, lo
 use Rattle.model.specs.Runs.{updatesOf}
 use Rattle.model.specs.Shape.{Seg, last, nodeSlot, nodeVal, segments}
 use Rattle.model.proofs.Bound.{few-nodes}
-use Rattle.model.proofs.Bytes.{SmallVal, map-back, small-up, val-back, word-back}
+use Rattle.model.proofs.Bytes.{small-up, val-back, word-back}
 use Rattle.model.proofs.Canon.{Canon, canon-fold}
-use Rattle.model.proofs.Lists.{In, all-of, getD-in, in-getD}
+use Rattle.model.proofs.Listings.{SmallVal}
+use Rattle.model.proofs.Lists.{all-of, getD-in, in-getD, map-back}
 use Rattle.model.proofs.Logic.{and-both}
 use Rattle.model.proofs.Order.{used-below}
 use Rattle.model.proofs.Start.{end, slot-at}
-use Rattle.model.proofs.Walks.{AllClosed, Closed, Used}
+use Rattle.model.proofs.Walks.{Closed, Used, closed-in}
+pub use Rattle.model.proofs.Listings.{SmallSlot, Writable, WritableLoc}
 
 -- ---- heaps that a record holds
-
--- a slot in use whose value is small
-abbrev pub SmallSlot : ℕ → Slot → Type 0
-SmallSlot k unused = ⊥
-SmallSlot k (holds v) = SmallVal k v
-
--- six pointers, at most twelve slots, all in use, and every value a cell below their number, null or undefined
-pub record Writable (h : Heap) : Type 0 where
-  pub six : length (h .ptrs) ≡ 6
-  pub few : length (h .slots) ≤ 12
-  pub pointers : (v : Val) → In v (h .ptrs) → SmallVal (length (h .slots)) v
-  pub nexts : (s : Slot) → In s (h .slots) → SmallSlot (length (h .slots)) s
-
-closed-in : (nx : ℕ → Slot) (vs : List Val) (v : Val) → AllClosed nx vs → In v vs → Closed nx v
-closed-in nx [] v k h = absurd h
-closed-in nx (w ∷ vs) v k (inl e) = subst (Closed nx) (sym e) (k .0)
-closed-in nx (w ∷ vs) v k (inr h) = closed-in nx vs v (k .1) h
 
 closed-small : (h : Heap) (v : Val) → Closed (next h) v → SmallVal (length (h .slots)) v
 closed-small h (cell c) k = used-below (h .slots) c k
@@ -92,7 +76,7 @@ module _ (h : Heap) (W : Writable h) where
 
 -- ---- shapes and locations
 
-filled-length : (n : ℕ) (l : List ℕ) → length l ≤ n → length (filled n l) ≡ n
+pub filled-length : (n : ℕ) (l : List ℕ) → length l ≤ n → length (filled n l) ≡ n
 filled-length n l h = omega (arith, length-append l (replicate (n - length l) 0), length-replicate {A = ℕ} (n - length l) 0)
 
 body-length : (h : Heap) → length (map valByte (h .ptrs) ++ map slotByte (h .slots)) ≡ length (h .ptrs) + length (h .slots)
@@ -156,11 +140,6 @@ failed-fault s f = refl
 
 pub failed-nodes : (s : ℕ) (f : Fault) → byte (locRecord (failed s f)) 3 ≡ 0
 failed-nodes s f = refl
-
--- a location whose shape, if it has one, can be written
-abbrev pub WritableLoc : Loc → Type 0
-WritableLoc (at s h) = Writable h
-WritableLoc (failed s f) = Unit {0}
 
 pub record-length : (l : Loc) → WritableLoc l → length (locRecord l) ≡ 32
 record-length (at s h) W = location-length s h W

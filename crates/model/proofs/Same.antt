@@ -15,7 +15,8 @@ use Rattle.model.specs.Edges.{Loc, at, failed, sameLoc}
 use Rattle.model.specs.Heap.{Heap, Slot, Val, cell, holds, null, sameHeap, sameSlot, sameVal, undef, unused}
 use Rattle.model.specs.Machine.{Fault, atNull, atUndef, faultNumber, leak}
 use Rattle.model.proofs.Lists.{In, getD-in, in-append-cases, in-append-l}
-use Rattle.model.proofs.Logic.{and-both, and-l, and-r, bool-case, clash, eqb-same, or-false-l, or-false-r, or-l, or-r}
+use Rattle.model.proofs.Logic.{and-both, and-l, and-r, bool-case, clash, eqb-same, or-false-l, or-false-r}
+pub use Rattle.model.proofs.Lists.{Distinct, any-in}
 
 pub val-same : (v w : Val) → sameVal v w ≡ true → v ≡ w
 val-same (cell c) (cell d) e = ap cell (eqb-true c d e)
@@ -126,17 +127,7 @@ pub place-snoc : {A : Type 0} (p : A → Bool) (l : List A) (x : A) → any p l 
 place-snoc p [] x h e = rw e
 place-snoc p (y ∷ l) x h e = rw (or-false-l (p y) (any p l) h) (ap suc (place-snoc p l x (or-false-r (p y) (any p l) h) e))
 
-pub any-in : {A : Type 0} (p : A → Bool) (l : List A) (x : A) → In x l → p x ≡ true → any p l ≡ true
-any-in p [] x h e = absurd h
-any-in p (y ∷ l) x (inl q) e = or-l (p y) (any p l) (ap p (sym q) ∙ e)
-any-in p (y ∷ l) x (inr h) e = or-r (p y) (any p l) (any-in p l x h e)
-
 -- ---- elements by their places
-
--- no element stands twice
-abbrev pub Distinct : {A : Type 0} → List A → Type 0
-Distinct [] = Unit {0}
-Distinct (x ∷ l) = (In x l → ⊥) × Distinct l
 
 pub distinct-at : {A : Type 0} (l : List A) (d : A) (i j : ℕ) → Distinct l → i < length l → j < length l → getD l i d ≡ getD l j d → i ≡ j
 distinct-at [] d i j k h h′ e = absurd (omega arith)

@@ -12,15 +12,15 @@ use Rattle.model.specs.Image.{unfoldHeap}
 use Rattle.model.specs.Shape.{Seg, cells, counters, last, nodeSlot, segments, shape, size}
 use Rattle.model.proofs.Canon.{fold-canon}
 use Rattle.model.proofs.Changes.{holds-inj}
-use Rattle.model.proofs.Expand.{Chain, Expansion, img}
 use Rattle.model.proofs.Facts.{heap-closed, heap-kept}
 use Rattle.model.proofs.Folds.{chain-used}
-use Rattle.model.proofs.Iso.{Renames, renameVal}
+use Rattle.model.proofs.Lists.{map-two}
 use Rattle.model.proofs.Logic.{NoDup, clash, eqb-same, eqb-sym, mem-cases, mem-here, mem-one, mem-there, or-false-l, or-false-r}
+use Rattle.model.proofs.Notions.{Chain, Expansion, Positive, Renames, flat, img, renameVal, segAt}
 use Rattle.model.proofs.Order.{toured, used-below}
-use Rattle.model.proofs.Start.{flat, flat-is, segAt, start}
-use Rattle.model.proofs.Unfold.{Positive, counters-unfold, shape-unfold, unfold-is-heap}
-use Rattle.model.proofs.Walks.{AllClosed, Closed, Used}
+use Rattle.model.proofs.Start.{flat-is, start}
+use Rattle.model.proofs.Unfold.{counters-unfold, shape-unfold, unfold-is-heap}
+use Rattle.model.proofs.Walks.{AllClosed, Closed, Used, map-closed}
 
 -- a chain and the chain renamed: so is what each of its cells holds
 chain-renamed : (f : ℕ → ℕ) (na nb : ℕ → Slot) (c : ℕ) (l : List ℕ) (v : Val) → Chain na c l v → Chain nb (f c) (map f l) (renameVal f v)
@@ -52,23 +52,22 @@ map-inj f (x ∷ l) c d nd h k e =
 abbrev Along : Heap → (ℕ → Seg) → (ℕ → Seg) → (ℕ → ℕ) → Type 0
 Along W sa sb f = (n : ℕ) → Used (next W) n → map f (cells (sa n)) ≡ cells (sb n)
 
-module _ (W a b : Heap) (sa sb : ℕ → Seg) (A : Expansion W sa a) (B : Expansion W sb b) (f : ℕ → ℕ) (along : Along W sa sb f) where
+module _ (W a b : Heap) (sa sb : ℕ → Seg) (A : Expansion W sa a) (B : Expansion W sb b) (f : ℕ → ℕ) (carried : Along W sa sb f) where
   rename-val : (v : Val) → Closed (next W) v → renameVal f (img sa v) ≡ img sb v
   rename-val null k = refl
   rename-val undef k = refl
-  rename-val (cell n) k = ap cell (head-eq-of-cons-eq (along n k))
+  rename-val (cell n) k = ap cell (head-eq-of-cons-eq (carried n k))
 
   rename-vals : (vs : List Val) → AllClosed (next W) vs → map (renameVal f) (map (img sa) vs) ≡ map (img sb) vs
-  rename-vals [] k = refl
-  rename-vals (v ∷ vs) k = ap₂ _∷_ (rename-val v (k .0)) (rename-vals vs (k .1))
+  rename-vals vs k = map-two (img sa) (renameVal f) vs ∙ map-closed (next W) (λ v. renameVal f (img sa v)) (img sb) vs rename-val k
 
   chain-b : (n : ℕ) (v : Val) → next W n ≡ holds v → Chain (next b) (f (sa n .first)) (map f (sa n .rest)) (renameVal f (img sa v))
   chain-b n v e =
-      let c = along n (v, e) in
+      let c = carried n (v, e) in
       rw (head-eq-of-cons-eq c, tail-eq-of-cons-eq c, rename-val v (A .body .closed n v e)) (B .body .chain n v e)
 
   in-b : (n c : ℕ) → Used (next W) n → mem c (cells (sa n)) ≡ true → mem (f c) (cells (sb n)) ≡ true
-  in-b n c u h = subst (λ l. mem (f c) l ≡ true) (along n u) (map-mem f c (cells (sa n)) h)
+  in-b n c u h = subst (λ l. mem (f c) l ≡ true) (carried n u) (map-mem f c (cells (sa n)) h)
 
   along-renames : Renames f a b
   along-renames = record {
@@ -79,7 +78,7 @@ module _ (W a b : Heap) (sa sb : ℕ → Seg) (A : Expansion W sa a) (B : Expans
     onto = λ c u.
         let r = B .body .cover c (u .0) (u .1) in
         let n = r .0 in
-        let d = mem-map f c (cells (sa n)) (subst (λ l. mem c l ≡ true) (sym (along n (r .1))) (r .2)) in
+        let d = mem-map f c (cells (sa n)) (subst (λ l. mem c l ≡ true) (sym (carried n (r .1))) (r .2)) in
         (d .0, chain-used (next a) (sa n .first) (sa n .rest) (img sa (r .1 .0)) (d .0) (A .body .chain n (r .1 .0) (r .1 .1)) (d .1), d .2);
     oneToOne = λ c d u w e.
         let p = A .body .cover c (u .0) (u .1) in
@@ -89,7 +88,7 @@ module _ (W a b : Heap) (sa sb : ℕ → Seg) (A : Expansion W sa a) (B : Expans
         let h : mem (f d) (cells (sb n)) ≡ true = subst (λ x. mem x (cells (sb n)) ≡ true) e (in-b n c (p .1) (p .2)) in
         let s : n ≡ m = B .body .apart n m (f d) (p .1) (q .1) h (in-b m d (q .1) (q .2)) in
         let k : mem d (cells (sa n)) ≡ true = subst (λ x. mem d (cells (sa x)) ≡ true) (sym s) (q .2) in
-        map-inj f (cells (sa n)) c d (subst NoDup (sym (along n (p .1))) (B .body .nodup n (p .1))) (p .2) k e;
+        map-inj f (cells (sa n)) c d (subst NoDup (sym (carried n (p .1))) (B .body .nodup n (p .1))) (p .2) k e;
   }
 
 -- the i-th number of the first list goes to the i-th of the second

@@ -1,58 +1,27 @@
 -- Cutting the visit order before each core cell gives the segments of 01, each once, and together they hold each cell in use once.
 use Prim.Native.Nat.{_<_, _≤_, suc, ℕ}
 use mathlib.Core.Path.{_∙_, _≡_, ap, ap₂, refl, subst, sym}
-use mathlib.Core.Logic.{_↔_, _⊎_, inl, inr, ⊎-elim}
+use mathlib.Core.Logic.{_↔_}
 use mathlib.Core.Bool.{Bool, false, true}
 use mathlib.Core.List.{List, [], _∷_, map}
 use native.Mathlib.Omega.{arith}
-use lib.Dec.{leb}
-use lib.ListN.{length, length-map}
-use borrow.Author.Tests.{eqb-false, eqb-true, le-leb, leb-true}
+use lib.ListN.{length}
 use Rattle.model.specs.Base.{mem, sum}
-use Rattle.model.specs.Heap.{Heap, IsHeap, Slot, Val, cell, holds, next, null, order, undef}
-use Rattle.model.specs.Shape.{Seg, cells, core, counters, isCell, last, nodeSlot, nodeVal, segments, shape, size}
+use Rattle.model.specs.Heap.{Heap, IsHeap, Slot, Val, cell, holds, next, order}
+use Rattle.model.specs.Shape.{Seg, cells, core, counters, segments, size}
 use Rattle.model.proofs.Bound.{few-nodes, segment-is}
 use Rattle.model.proofs.Changes.{holds-inj}
-use Rattle.model.proofs.Cores.{Two, of-two, two-of}
-use Rattle.model.proofs.Expand.{Chain}
 use Rattle.model.proofs.Facts.{heap-closed, heap-kept}
 use Rattle.model.proofs.Folds.{Kept, chain-used}
-use Rattle.model.proofs.Lists.{In}
-use Rattle.model.proofs.Logic.{NoDup, clash, eq-case, eqb-same, mem-cases, mem-here, mem-there, or-cases, or-l, or-r}
-use Rattle.model.proofs.Order.{toured, used-below}
-use Rattle.model.proofs.Reach.{Reaches, along, from-pointer, kept-reaches}
-use Rattle.model.proofs.Start.{end, flat, flat-is, segAt, slot-at, start}
-use Rattle.model.proofs.Walks.{ClosedHeap, Used, holders, pointed}
-
-cell-of : (c : ℕ) (v : Val) → isCell c v ≡ true → cell c ≡ v
-cell-of c (cell d) h = ap cell (eqb-true c d h)
-cell-of c null h = clash h refl
-cell-of c undef h = clash h refl
-
-in-pointed : (c : ℕ) (vs : List Val) → pointed c vs ≡ true → In (cell c) vs
-in-pointed c [] h = clash h refl
-in-pointed c (v ∷ vs) h = or-cases (isCell c v) (pointed c vs) h (λ e. inl (cell-of c v e)) (λ e. inr (in-pointed c vs e))
-
-pointed-in : (c : ℕ) (vs : List Val) → In (cell c) vs → pointed c vs ≡ true
-pointed-in c [] i = absurd i
-pointed-in c (v ∷ vs) (inl e) = or-l (isCell c v) (pointed c vs) (subst (λ x. isCell c x ≡ true) e (eqb-same c))
-pointed-in c (v ∷ vs) (inr i) = or-r (isCell c v) (pointed c vs) (pointed-in c vs i)
-
--- "A core cell is held by a pointer or by the next of two or more cells."
-pub core-is : (h : Heap) (c : ℕ) → (core h c ≡ true) ↔ (In (cell c) (h .ptrs) ⊎ Two (next h) c)
-core-is h c =
-    let p = pointed c (h .ptrs) in
-    let n = holders c (h .slots) in (
-      (λ k. or-cases p (leb 2 n) k (λ q. inl (in-pointed c (h .ptrs) q)) (λ q. inr (two-of c (h .slots) (leb-true 2 n q)))),
-      ⊎-elim (λ i. or-l p (leb 2 n) (pointed-in c (h .ptrs) i)) (λ t. or-r p (leb 2 n) (le-leb 2 n (of-two c (h .slots) (t .0) (t .1) (t .2) (t .3) (t .4)))),
-    )
-
--- a cell that is not core is held by no pointer and by the next of one cell at most
-pub not-pointed : (h : Heap) (d : ℕ) → core h d ≡ false → In (cell d) (h .ptrs) → ⊥
-not-pointed h d n i = clash (core-is h d .1 (inl i)) n
-
-pub one-holder : (h : Heap) (d a b : ℕ) → core h d ≡ false → next h a ≡ holds (cell d) → next h b ≡ holds (cell d) → a ≡ b
-one-holder h d a b n p q = eq-case a b (λ e. e) (λ e. clash (core-is h d .1 (inr (a, b, eqb-false a b e, p, q))) n)
+use Rattle.model.proofs.Lists.{map-same}
+use Rattle.model.proofs.Logic.{NoDup, clash, mem-cases, mem-here, mem-there}
+use Rattle.model.proofs.Notions.{Chain, Reaches, along, flat, from-pointer, segAt}
+use Rattle.model.proofs.Order.{toured}
+use Rattle.model.proofs.Reach.{kept-reaches}
+use Rattle.model.proofs.Start.{flat-is, seg-apart, where-is}
+use Rattle.model.proofs.Walks.{ClosedHeap, Used}
+pub use Rattle.model.proofs.Cores.{core-is, not-pointed, one-holder}
+pub use Rattle.model.proofs.Notions.{EveryCore, IsSegment, counted, heads}
 
 no-loop : (h : Heap) (d : ℕ) → Reaches h d → core h d ≡ false → next h d ≡ holds (cell d) → ⊥
 no-loop h d (from-pointer i) n e = not-pointed h d n i
@@ -68,14 +37,6 @@ predecessor h x d u n = from d n (kept-reaches h (heap-closed h x) .0 (x .isKept
     from : (d : ℕ) → core h d ≡ false → Reaches h d → (p : ℕ) × (next h p ≡ holds (cell d)) × (p ≡ d → ⊥) × ((a : ℕ) → next h a ≡ holds (cell d) → a ≡ p)
     from d n (from-pointer i) = absurd (not-pointed h d n i)
     from d n (along {c = p} r e) = (p, e, (λ q. no-loop h d (along r e) n (subst (λ y. next h y ≡ holds (cell d)) q e)), λ a k. one-holder h d a p n k e)
-
--- "A segment is a core cell and the cells after it up to the next core cell, null, undefined, or itself again."
-pub record IsSegment (h : Heap) (s : Seg) : Type 0 where
-  pub head-core : core h (s .first) ≡ true
-  pub after : (d : ℕ) → mem d (s .rest) ≡ true → core h d ≡ false
-  pub upto : Val
-  pub chain : Chain (next h) (s .first) (s .rest) upto
-  pub upto-core : (c : ℕ) → upto ≡ cell c → core h c ≡ true
 
 -- each segment that the cut gives is one
 pub segments-are : (h : Heap) → IsHeap h → (n : ℕ) → n < length (segments h) → IsSegment h (segAt (segments h) n)
@@ -103,19 +64,13 @@ module _ (h : Heap) (x : IsHeap h) where
   kp : Kept h
   kp = heap-kept h x
 
-  node-below : (n : ℕ) → Used (next (shape h)) n → n < length (segments h)
-  node-below n u = rw (length-map (segments h) (λ (s : Seg). nodeSlot (segments h) (next h (last s)))) at (used-below (shape h .slots) n u)
-
-  node-used : (n : ℕ) → n < length (segments h) → Used (next (shape h)) n
-  node-used n q = (nodeVal (segments h) (end h cl kp n q .0), slot-at h cl kp n q)
-
   -- a cell in use stands in one segment
   pub in-segment : (c : ℕ) → Used (next h) c → (n : ℕ) × (n < length (segments h)) × (mem c (cells (segAt (segments h) n)) ≡ true)
-  in-segment c u = let r = start h cl kp .body .cover c (u .0) (u .1) in (r .0, node-below (r .0) (r .1), r .2)
+  in-segment = where-is h cl kp
 
   pub in-one-segment : (n m c : ℕ) → n < length (segments h) → m < length (segments h)
       → mem c (cells (segAt (segments h) n)) ≡ true → mem c (cells (segAt (segments h) m)) ≡ true → n ≡ m
-  in-one-segment n m c p q = start h cl kp .body .apart n m c (node-used n p) (node-used m q)
+  in-one-segment = seg-apart h cl kp
 
   -- every core cell in use is the first cell of exactly one segment
   pub core-first : (c : ℕ) → Used (next h) c → core h c ≡ true
@@ -160,10 +115,6 @@ segment-listed h x s a =
     let r = core-first h x (s .first) u (a .head-core) in
     (r .0, r .1, segment-unique h (segAt (segments h) (r .0)) s (segments-are h x (r .0) (r .1)) a (r .2))
 
--- where every cell in use is core each segment is a single cell
-abbrev pub EveryCore : Heap → Type 0
-EveryCore h = (c : ℕ) → Used (next h) c → core h c ≡ true
-
 pub single-cells : (h : Heap) → IsHeap h → EveryCore h → (n : ℕ) → n < length (segments h) → segAt (segments h) n .rest ≡ []
 single-cells h x k n q = let s = segAt (segments h) n in empty s (segments-are h x n q) (s .rest) refl
   where
@@ -172,14 +123,6 @@ single-cells h x k n q = let s = segAt (segments h) n in empty s (segments-are h
     empty s i (d ∷ l) e =
         let m : mem d (s .rest) ≡ true = rw e (mem-here d l) in
         clash (k d (chain-used (next h) (s .first) (s .rest) (i .upto) d (i .chain) (mem-there d (s .first) (s .rest) m))) (i .after d m)
-
--- the first cells of the segments
-abbrev pub heads : Heap → List ℕ
-heads h = map (λ (s : Seg). s .first) (segments h)
-
--- the counters of the segments, where each cell has a counter
-abbrev pub counted : Heap → (ℕ → ℕ) → List ℕ
-counted h w = map (λ (s : Seg). sum w (cells s)) (segments h)
 
 single-flat : (ss : List Seg) → ((n : ℕ) → n < length ss → segAt ss n .rest ≡ []) → map (λ (s : Seg). s .first) ss ≡ flat ss
 single-flat [] k = refl
@@ -201,10 +144,6 @@ sum-ones : (l : List ℕ) → sum (λ _. 1) l ≡ length l
 sum-ones [] = refl
 sum-ones (c ∷ l) = let r = sum-ones l in omega arith
 
-sizes-ones : (ss : List Seg) → map (λ (s : Seg). sum (λ _. 1) (cells s)) ss ≡ map size ss
-sizes-ones [] = refl
-sizes-ones (s ∷ ss) = ap₂ _∷_ (sum-ones (cells s)) (sizes-ones ss)
-
 -- where each cell counts 1 the counters are the sizes
 pub counted-ones : (h : Heap) → counted h (λ _. 1) ≡ counters h
-counted-ones h = sizes-ones (segments h)
+counted-ones h = map-same (λ (s : Seg). sum (λ _. 1) (cells s)) size (segments h) (λ s i. sum-ones (cells s))

@@ -11,10 +11,11 @@ use borrow.Author.Tests.{eqb-true, leb-true, ltb-true}
 use Rattle.model.specs.Base.{all}
 use Rattle.model.specs.Heap.{Slot, closed, holds, inUse}
 use Rattle.model.specs.Records.{byte, filled, isZero, layoutH, shapeOf, shapeRecord, slotByte, valByte, valOf, valueByte}
-use Rattle.model.proofs.Bytes.{SmallVal, all-zero, byte-back, map-back}
-use Rattle.model.proofs.Lists.{In, all-in, in-append-l, in-append-r, in-map}
+use Rattle.model.proofs.Bytes.{all-zero, byte-back}
+use Rattle.model.proofs.Listings.{SmallSlot, SmallVal, Writable}
+use Rattle.model.proofs.Lists.{In, all-in, in-append-l, in-append-r, in-map, map-back}
 use Rattle.model.proofs.Logic.{and-l, and-r, bool-case, clash, or-cases}
-use Rattle.model.proofs.ReadBack.{SmallSlot, Writable, writable-closed}
+use Rattle.model.proofs.ReadBack.{writable-closed}
 
 -- the bytes of a record that keeps the layout, from byte 4 on, for k nodes
 record Laid (k : ℕ) (w : List ℕ) : Type 0 where
@@ -49,12 +50,12 @@ laid-of a b c k w l h =
       },
     )
 
-laid : (r : List ℕ) → length r ≡ 32 → layoutH r ≡ true → (w : List ℕ) × (r ≡ 0x48 ∷ 0 ∷ 0 ∷ byte r 3 ∷ w) × Laid (byte r 3) w
-laid [] l h = absurd (omega arith)
-laid (a ∷ []) l h = absurd (omega arith)
-laid (a ∷ b ∷ []) l h = absurd (omega arith)
-laid (a ∷ b ∷ c ∷ []) l h = absurd (omega arith)
-laid (a ∷ b ∷ c ∷ k ∷ w) l h = let r = laid-of a b c k w (omega arith) h in (w, r .0, r .1)
+laid-out : (r : List ℕ) → length r ≡ 32 → layoutH r ≡ true → (w : List ℕ) × (r ≡ 0x48 ∷ 0 ∷ 0 ∷ byte r 3 ∷ w) × Laid (byte r 3) w
+laid-out [] l h = absurd (omega arith)
+laid-out (a ∷ []) l h = absurd (omega arith)
+laid-out (a ∷ b ∷ []) l h = absurd (omega arith)
+laid-out (a ∷ b ∷ c ∷ []) l h = absurd (omega arith)
+laid-out (a ∷ b ∷ c ∷ k ∷ w) l h = let r = laid-of a b c k w (omega arith) h in (w, r .0, r .1)
 
 module _ (k : ℕ) (w : List ℕ) (L : Laid k w) where
   nexts-long : length (take k (drop 6 w)) ≡ k
@@ -83,14 +84,14 @@ value-small k b q = bool-case (eqb b 0xfe) (λ e. rw e tt) (λ e. bool-case (eqb
 -- an accepted shape record is what its shape is written as
 module _ (r : List ℕ) (l : length r ≡ 32) (h : layoutH r ≡ true) where
   pub shape-record-back : shapeRecord (shapeOf r) ≡ r
-  shape-record-back = let q = laid r l h in subst (λ x. shapeRecord (shapeOf x) ≡ x) (sym (q .1)) (laid-back (byte r 3) (q .0) (q .2))
+  shape-record-back = let q = laid-out r l h in subst (λ x. shapeRecord (shapeOf x) ≡ x) (sym (q .1)) (laid-back (byte r 3) (q .0) (q .2))
 
   -- its shape has six pointers, the slots that byte 3 says, at most twelve, all in use
   pub layout-pointers : length (shapeOf r .ptrs) ≡ 6
   layout-pointers = length-map (take 6 (drop 4 r)) valOf ∙ length-take-le 6 (drop 4 r) (omega (arith, length-drop 4 r))
 
   pub layout-few : byte r 3 ≤ 12
-  layout-few = laid r l h .2 .few
+  layout-few = laid-out r l h .2 .few
 
   pub layout-slots : length (shapeOf r .slots) ≡ byte r 3
   layout-slots =
@@ -103,7 +104,7 @@ module _ (r : List ℕ) (l : length r ≡ 32) (h : layoutH r ≡ true) where
   -- and it can be written and is closed
   pub layout-writable : Writable (shapeOf r)
   layout-writable =
-      let q = laid r l h in
+      let q = laid-out r l h in
       let k = byte r 3 in
       let w4 : drop 4 r ≡ q .0 = ap (drop 4) (q .1) in
       let w10 : drop 10 r ≡ drop 6 (q .0) = ap (drop 10) (q .1) in

@@ -1,63 +1,30 @@
 -- One step against one edge, both ways, on the tables of a listing: each step made is one enabled edge and the only one of its branch.
-
--- pairs of a joined list, and pairs by their places
-use Prim.Native.Nat.{_+_, _<_, _≤_, suc, zero, ℕ}
+use Prim.Native.Nat.{_<_, ℕ}
 use mathlib.Core.Path.{_∙_, _≡_, ap, ap₂, refl, subst, subst₂, sym}
-use mathlib.Core.Logic.{inl, inr}
 use mathlib.Core.Option.{some}
 use mathlib.Core.Bool.{false, true}
-use mathlib.Core.List.{List, [], _∷_, map}
+use mathlib.Core.List.{List, map}
 use native.Mathlib.Omega.{arith}
 use lib.Dec.{ltb}
-use lib.ListN.{getD, length}
+use lib.ListN.{length}
 use borrow.Author.Tests.{eqb-false, ltb-false, ltb-true}
-use Rattle.model.specs.Base.{joined, numbers}
-use Rattle.model.specs.Edges.{Edge, Loc, at, edgesOf, failed, stmtAt}
+use Rattle.model.specs.Base.{numbers}
+use Rattle.model.specs.Edges.{Edge, edgesOf, stmtAt}
 use Rattle.model.specs.Heap.{inUse, next}
 use Rattle.model.specs.Machine.{Answer, Entry, Stmt, faulted, refused, step, stopped, went}
 use Rattle.model.specs.Runs.{Config, State, Status, Step, made, moveOf, past, running, stepIn, stepOf}
 use Rattle.model.specs.Translate.{Link, Listing, Routine, Tables, tablesOf}
 use Rattle.model.proofs.Checked.{GoodStarts}
-use Rattle.model.proofs.Exact.{Exact, LinkGood, edge-listed, linkOf, linksFrom}
-use Rattle.model.proofs.Facts.{kept-test}
-use Rattle.model.proofs.Guards.{Exclude, edges-exclude}
-use Rattle.model.proofs.Leave.{Fit, MatchIn, begin, guardOn, worth}
-use Rattle.model.proofs.Listing.{locAt}
-use Rattle.model.proofs.Lists.{In, Pairs, getD-in, in-getD, in-joined, in-map, pairs-append, some-none}
+use Rattle.model.proofs.Exact.{LinkGood, edge-listed}
+use Rattle.model.proofs.Leave.{Fit, MatchIn, begin}
+use Rattle.model.proofs.Listings.{Exact, linkAt, linkOf, linksFrom, locAt}
+use Rattle.model.proofs.Lists.{In, Pairs, in-getD, in-map, pairs-at, pairs-joined, pairs-map, pairs-mono, some-none}
 use Rattle.model.proofs.Location.{leave-backward, leave-forward}
 use Rattle.model.proofs.Logic.{bool-case, eq-case}
-use Rattle.model.proofs.Moves.{by-link, link-facts, linkAt, loc-good, move-of, move-some}
-use Rattle.model.proofs.Reached.{GoodLoc}
-
-pairs-joined : {A B : Type 0} (R : B → B → Type 0) (f : A → List B) (l : List A) → ((x : A) → In x l → Pairs R (f x))
-    → Pairs (λ x y. (u v : B) → In u (f x) → In v (f y) → R u v) l → Pairs R (joined (map f l))
-pairs-joined R f [] p q = tt
-pairs-joined R f (x ∷ l) p q = pairs-append R (f x) (joined (map f l)) (p x (inl refl)) (pairs-joined R f l (λ y i. p y (inr i)) (q .1))
-    (λ u v i j. let k = in-joined v (map f l) j in let m = in-map f (k .0) l (k .1) in q .0 (m .0) (m .1) u v i (subst (In v) (m .2) (k .2)))
-
-pairs-numbers : (R : ℕ → ℕ → Type 0) → ((i j : ℕ) → i < j → R i j) → (i n : ℕ) → Pairs R (numbers i n)
-pairs-numbers R h i zero = tt
-pairs-numbers R h i (suc n) = ((λ j q. h i j (later (suc i) n j q)), pairs-numbers R h (suc i) n)
-  where
-    later : (a m j : ℕ) → In j (numbers a m) → a ≤ j
-    later a zero j q = absurd q
-    later a (suc m) j (inl e) = omega arith
-    later a (suc m) j (inr q) = omega (arith, later (suc a) m j q)
-
-pairs-at : {A : Type 0} (R : A → A → Type 0) (l : List A) (d : A) (i j : ℕ) → Pairs R l → i < j → j < length l → R (getD l i d) (getD l j d)
-pairs-at R [] d i j p h k = absurd (omega arith)
-pairs-at R (x ∷ l) d zero zero p h k = absurd (omega arith)
-pairs-at R (x ∷ l) d zero (suc j) p h k = p .0 (getD l j d) (getD-in l d j (omega arith))
-pairs-at R (x ∷ l) d (suc i) zero p h k = absurd (omega arith)
-pairs-at R (x ∷ l) d (suc i) (suc j) p h k = pairs-at R l d i j (p .1) (omega arith) (omega arith)
-
-pairs-map : {A B : Type 0} (R : B → B → Type 0) (f : A → B) (l : List A) → Pairs (λ x y. R (f x) (f y)) l → Pairs R (map f l)
-pairs-map R f [] p = tt
-pairs-map R f (x ∷ l) p = ((λ y i. let m = in-map f y l i in subst (R (f x)) (sym (m .2)) (p .0 (m .0) (m .1))), pairs-map R f l (p .1))
-
-pairs-mono : {A : Type 0} (R S : A → A → Type 0) (l : List A) → ((x y : A) → R x y → S x y) → Pairs R l → Pairs S l
-pairs-mono R S [] h p = tt
-pairs-mono R S (x ∷ l) h p = ((λ y i. h x y (p .0 y i)), pairs-mono R S l h (p .1))
+use Rattle.model.proofs.Moves.{by-link, link-facts, loc-good, move-of, move-some}
+use Rattle.model.proofs.Notions.{Exclude, guardOn, worth}
+use Rattle.model.proofs.Numbers.{in-numbers, pairs-numbers}
+use Rattle.model.proofs.Reached.{good-exclude}
 
 -- a step does not look at the status
 made-begin : (q : State) (x : Answer) → made (begin (q .stmt) (q .heap)) x ≡ made q x
@@ -77,24 +44,15 @@ module _ (r : Routine) (t : Listing) (X : Exact r t) (G : GoodStarts r) (a b : �
   abbrev Apart : Link → Link → Type 0
   Apart j k = j .from ≡ k .from → Exclude (j .edge) (k .edge)
 
-  good-exclude : (l : Loc) → GoodLoc l → Pairs Exclude (edgesOf sts l)
-  good-exclude (at s h) g = edges-exclude s (stmtAt sts s) h (kept-test h (g .0 .kept))
-  good-exclude (failed s f) g = tt
-
   from-is : (i : ℕ) (k : Link) → In k (linksFrom sts (t .locs) i) → k .from ≡ i
   from-is i k q = let m = in-map (linkOf i (t .locs)) k (edgesOf sts (locAt (t .locs) i)) q in ap (λ (x : Link). x .from) (m .2)
-
-  in-numbers : (i n j : ℕ) → In j (numbers i n) → j < i + n
-  in-numbers i zero j q = absurd q
-  in-numbers i (suc n) j (inl e) = omega arith
-  in-numbers i (suc n) j (inr q) = omega (arith, in-numbers (suc i) n j q)
 
   links-apart : Pairs Apart (t .links)
   links-apart = subst (Pairs Apart) (sym (X .links))
       (pairs-joined Apart (linksFrom sts (t .locs)) (numbers 0 (length (t .locs)))
       (λ i q. pairs-map Apart (linkOf i (t .locs)) (edgesOf sts (locAt (t .locs) i))
       (pairs-mono Exclude (λ x y. Apart (linkOf i (t .locs) x) (linkOf i (t .locs) y)) (edgesOf sts (locAt (t .locs) i)) (λ x y e _. e)
-      (good-exclude (locAt (t .locs) i) (loc-good r t X G a b i (omega (arith, in-numbers 0 (length (t .locs)) i q))))))
+      (good-exclude sts (locAt (t .locs) i) (loc-good r t X G a b i (omega (arith, in-numbers 0 (length (t .locs)) i q))))))
       (pairs-numbers _ (λ i j h u v p q e. absurd (let x = from-is i u p in let y = from-is j v q in omega arith)) 0 (length (t .locs))))
 
   pub only-one : (m n : ℕ) (c : Config) (y z : Step Config) → moveOf T c m ≡ some z → moveOf T c n ≡ some y → z .branchNo ≡ y .branchNo → m ≡ n

@@ -1,26 +1,27 @@
 -- Every heap of 01 expands its shape by its segments.
-
--- a list in which each cell that is not core follows the one that holds it
 use Prim.Native.Nat.{_<_, suc, zero, ℕ}
 use mathlib.Core.Path.{_∙_, _≡_, ap, ap₂, refl, subst, sym}
+use mathlib.Core.Logic.{inl, inr}
 use mathlib.Core.Bool.{Bool, false, true}
 use mathlib.Core.List.{List, [], _++_, _∷_, append-assoc, map}
 use native.Mathlib.Omega.{arith}
 use lib.Dec.{eqb, leb}
-use lib.ListN.{getD, length, length-map}
-use borrow.Author.Tests.{eqb-false, eqb-true, le-leb}
+use lib.ListN.{length, length-map}
+use borrow.Author.Tests.{eqb-false, eqb-true}
 use Rattle.model.specs.Base.{mem}
-use Rattle.model.specs.Edges.{at}
-use Rattle.model.specs.Heap.{Heap, Slot, Val, cell, closed, holds, kept, next, null, order, undef, unused}
+use Rattle.model.specs.Heap.{Heap, Slot, Val, cell, holds, kept, next, null, order, undef, unused}
 use Rattle.model.specs.Machine.{same}
 use Rattle.model.specs.Shape.{Seg, cells, core, cut, cutFrom, isCell, last, lastFrom, node, nodeSlot, nodeVal, segments, shape}
-use Rattle.model.proofs.Cores.{mem-last, of-two}
-use Rattle.model.proofs.Expand.{Chain, Expansion, img}
+use Rattle.model.proofs.Cores.{mem-last, one-holder}
 use Rattle.model.proofs.Folds.{Alls, Kept}
-use Rattle.model.proofs.Logic.{NoDup, bool-case, clash, eq-case, eqb-same, mem-append, mem-append-cases, mem-append-l, mem-append-r, mem-cases, mem-here, mem-one, mem-there, or-false-l, or-l, or-r}
+use Rattle.model.proofs.Lists.{In, getD-in, getD-map}
+use Rattle.model.proofs.Logic.{NoDup, bool-case, clash, eqb-same, mem-append, mem-append-cases, mem-append-l, mem-append-r, mem-cases, mem-here, mem-one, mem-there, or-false-l, or-l, or-r}
+use Rattle.model.proofs.Notions.{Chain, Expansion, img}
 use Rattle.model.proofs.Order.{toured, used-below}
 use Rattle.model.proofs.Walks.{AllClosed, Closed, ClosedHeap, Tours, Used, Walks, at-null, at-seen, at-undef, go, holders, pointed, seg, tour-done, tour-more}
+pub use Rattle.model.proofs.Notions.{flat, segAt}
 
+-- a list in which each cell that is not core follows the one that holds it
 module _ (nx : ℕ → Slot) (p : ℕ → Bool) where
   abbrev Trail : ℕ → List ℕ → Type 0
   Trail c [] = Unit {0}
@@ -115,10 +116,6 @@ module _ (nx : ℕ → Slot) (p : ℕ → Bool) where
       (λ e. (c, mem-here c (x ∷ l), rw e (k .0), λ q. clash (rw q (mem-last x l)) (nd .0)))
       (λ h′. let r = inner-has x l d (k .1) (nd .1) h′ in (r .0, mem-there (r .0) c (x ∷ l) (r .1), r .2, r .3))
 
-abbrev pub flat : List Seg → List ℕ
-flat [] = []
-flat (s ∷ ss) = cells s ++ flat ss
-
 flat-cut-from : (p : ℕ → Bool) (c : ℕ) (cur l : List ℕ) → flat (cutFrom p c cur l) ≡ c ∷ (cur ++ l)
 flat-cut-from p c cur [] = refl
 flat-cut-from p c cur (d ∷ l) =
@@ -128,9 +125,6 @@ flat-cut-from p c cur (d ∷ l) =
 pub flat-cut : (p : ℕ → Bool) (l : List ℕ) → flat (cut p l) ≡ l
 flat-cut p [] = refl
 flat-cut p (c ∷ l) = flat-cut-from p c [] l
-
-abbrev pub segAt : List Seg → ℕ → Seg
-segAt ss n = getD ss n (seg 0 [])
 
 pub alls-at : (P : Seg → Type 0) (ss : List Seg) → Alls P ss → (n : ℕ) → n < length ss → P (segAt ss n)
 alls-at P [] k n h = absurd (omega arith)
@@ -145,14 +139,17 @@ pub nodup-r : (s t : List ℕ) → NoDup (s ++ t) → NoDup t
 nodup-r [] t nd = nd
 nodup-r (x ∷ s) t nd = nodup-r s t (nd .1)
 
-nodup-apart : (s t : List ℕ) (c : ℕ) → NoDup (s ++ t) → mem c s ≡ true → mem c t ≡ true → ⊥
+pub nodup-apart : (s t : List ℕ) (c : ℕ) → NoDup (s ++ t) → mem c s ≡ true → mem c t ≡ true → ⊥
 nodup-apart [] t c nd h k = clash h refl
 nodup-apart (x ∷ s) t c nd h k = mem-cases c x s h (λ e. clash (mem-append-r x s t (subst (λ z. mem z t ≡ true) e k)) (nd .0)) (λ h′. nodup-apart s t c (nd .1) h′ k)
 
+pub mem-flat-in : (ss : List Seg) (s : Seg) (c : ℕ) → In s ss → mem c (cells s) ≡ true → mem c (flat ss) ≡ true
+mem-flat-in [] s c i k = absurd i
+mem-flat-in (t ∷ ss) s c (inl e) k = mem-append-l c (cells t) (flat ss) (subst (λ (x : Seg). mem c (cells x) ≡ true) e k)
+mem-flat-in (t ∷ ss) s c (inr i) k = mem-append-r c (cells t) (flat ss) (mem-flat-in ss s c i k)
+
 mem-flat : (ss : List Seg) (n c : ℕ) → n < length ss → mem c (cells (segAt ss n)) ≡ true → mem c (flat ss) ≡ true
-mem-flat [] n c h k = absurd (omega arith)
-mem-flat (s ∷ ss) zero c h k = mem-append-l c (cells s) (flat ss) k
-mem-flat (s ∷ ss) (suc n) c h k = mem-append-r c (cells s) (flat ss) (mem-flat ss n c (omega arith) k)
+mem-flat ss n c h k = mem-flat-in ss (segAt ss n) c (getD-in ss (seg 0 []) n h) k
 
 flat-mem : (ss : List Seg) (c : ℕ) → mem c (flat ss) ≡ true → (n : ℕ) × (n < length ss) × (mem c (cells (segAt ss n)) ≡ true)
 flat-mem [] c h = clash h refl
@@ -183,19 +180,11 @@ node-head (s ∷ ss) c h =
     rest zero k q e = absurd (eqb-false c (s .first) e (sym q))
     rest (suc m) k q e = (m, omega arith, q)
 
-getD-map : (f : Seg → Slot) (ss : List Seg) (n : ℕ) → n < length ss → getD (map f ss) n unused ≡ f (segAt ss n)
-getD-map f [] n h = absurd (omega arith)
-getD-map f (s ∷ ss) zero h = refl
-getD-map f (s ∷ ss) (suc n) h = getD-map f ss n (omega arith)
-
 pub core-of-pointed : (h : Heap) (vs : List Val) → ((c : ℕ) → pointed c vs ≡ true → core h c ≡ true) → AllCore (next h) (core h) vs
 core-of-pointed h [] k = tt
 core-of-pointed h (v ∷ vs) k = ((λ c e. k c (rw (e, eqb-same c))), core-of-pointed h vs (λ c q. k c (or-r (isCell c v) (pointed c vs) q)))
 
 module _ (h : Heap) (cl : ClosedHeap h) (kept : Kept h) where
-  ss : List Seg
-  ss = segments h
-
   pub cuts-good : Alls (Cuts (next h) (core h)) (segments h)
   cuts-good = cuts-trail (next h) (core h) (order h)
       (tours-trail (next h) (core h) (toured h cl .tours) tt (core-of-pointed h (h .ptrs) (λ c q. or-l (pointed c (h .ptrs)) (leb 2 (holders c (h .slots))) q)))
@@ -203,7 +192,7 @@ module _ (h : Heap) (cl : ClosedHeap h) (kept : Kept h) where
   pub flat-is : flat (segments h) ≡ order h
   flat-is = flat-cut (core h) (order h)
 
-  where-is : (c : ℕ) → Used (next h) c → (n : ℕ) × (n < length (segments h)) × (mem c (cells (segAt (segments h) n)) ≡ true)
+  pub where-is : (c : ℕ) → Used (next h) c → (n : ℕ) × (n < length (segments h)) × (mem c (cells (segAt (segments h) n)) ≡ true)
   where-is c u = flat-mem (segments h) c (rw flat-is (kept c u))
 
   cell-used : (n c : ℕ) → n < length (segments h) → mem c (cells (segAt (segments h) n)) ≡ true → Used (next h) c
@@ -212,7 +201,7 @@ module _ (h : Heap) (cl : ClosedHeap h) (kept : Kept h) where
   seg-nodup : (n : ℕ) → n < length (segments h) → NoDup (cells (segAt (segments h) n))
   seg-nodup n k = flat-nodup (segments h) n (rw flat-is (toured h cl .nodup)) k
 
-  seg-apart : (n m c : ℕ) → n < length (segments h) → m < length (segments h) → mem c (cells (segAt (segments h) n)) ≡ true → mem c (cells (segAt (segments h) m)) ≡ true → n ≡ m
+  pub seg-apart : (n m c : ℕ) → n < length (segments h) → m < length (segments h) → mem c (cells (segAt (segments h) n)) ≡ true → mem c (cells (segAt (segments h) m)) ≡ true → n ≡ m
   seg-apart n m c = flat-apart (segments h) n m c (rw flat-is (toured h cl .nodup))
 
   core-is-head : (c : ℕ) → Used (next h) c → core h c ≡ true → Head (segments h) c
@@ -220,10 +209,6 @@ module _ (h : Heap) (cl : ClosedHeap h) (kept : Kept h) where
       let r = where-is c u in
       let s = segAt (segments h) (r .0) in
       mem-cases c (s .first) (s .rest) (r .2) (λ e. (r .0, r .1, sym e)) (λ q. clash k (alls-at (Cuts (next h) (core h)) (segments h) cuts-good (r .0) (r .1) .1 c q))
-
-  not-two : (c a b : ℕ) → core h c ≡ false → next h a ≡ holds (cell c) → next h b ≡ holds (cell c) → a ≡ b
-  not-two c a b k p q = eq-case a b (λ e. e) (λ e. clash
-      (or-r (pointed c (h .ptrs)) (leb 2 (holders c (h .slots))) (le-leb 2 (holders c (h .slots)) (of-two c (h .slots) a b (eqb-false a b e) p q))) k)
 
   -- what the last cell of a segment holds is the head of one
   pub last-head : (n c : ℕ) → n < length (segments h) → next h (last (segAt (segments h) n)) ≡ holds (cell c) → Head (segments h) c
@@ -234,7 +219,7 @@ module _ (h : Heap) (cl : ClosedHeap h) (kept : Kept h) where
       let g = alls-at (Cuts (next h) (core h)) (segments h) cuts-good m (r .1) in
       mem-cases c (s .first) (s .rest) (r .2) (λ q. (m, r .1, sym q))
       (λ q. let b = inner-has (next h) (core h) (s .first) (s .rest) c (g .0) (seg-nodup m (r .1)) q in
-      let same : b .0 ≡ last (segAt (segments h) n) = not-two c (b .0) (last (segAt (segments h) n)) (g .1 c q) (b .2) e in
+      let same : b .0 ≡ last (segAt (segments h) n) = one-holder h c (b .0) (last (segAt (segments h) n)) (g .1 c q) (b .2) e in
       let nm : n ≡ m = seg-apart n m (b .0) k (r .1)
       (subst (λ x. mem x (cells (segAt (segments h) n)) ≡ true) (sym same) (mem-last (segAt (segments h) n .first) (segAt (segments h) n .rest))) (b .1) in
       absurd (b .3 (same ∙ ap (λ x. last (segAt (segments h) x)) nm)))
@@ -248,7 +233,7 @@ module _ (h : Heap) (cl : ClosedHeap h) (kept : Kept h) where
   end n k = cell-used n (last (segAt (segments h) n)) k (mem-last (segAt (segments h) n .first) (segAt (segments h) n .rest))
 
   pub slot-at : (n : ℕ) (k : n < length (segments h)) → next (shape h) n ≡ holds (nodeVal (segments h) (end n k .0))
-  slot-at n k = getD-map (λ (s : Seg). nodeSlot (segments h) (next h (last s))) (segments h) n k ∙ ap (nodeSlot (segments h)) (end n k .1)
+  slot-at n k = getD-map (λ (s : Seg). nodeSlot (segments h) (next h (last s))) (segments h) n (seg 0 []) unused k ∙ ap (nodeSlot (segments h)) (end n k .1)
 
   below : (n : ℕ) → Used (next (shape h)) n → n < length (segments h)
   below n u = rw (length-map (segments h) (λ (s : Seg). nodeSlot (segments h) (next h (last s)))) at (used-below (shape h .slots) n u)

@@ -12,63 +12,7 @@ use Rattle.model.specs.Machine.{Op, Stmt, choose, clear, copy, free, isN
 use Rattle.model.specs.Records.{fieldsS, isS, isZero, opOf, pointerField, refusalS, stmtOf, targetField, targetsS, usesFirst, usesSecond, usesU, usesW}
 use Rattle.model.proofs.Bytes.{all-zero}
 use Rattle.model.proofs.Logic.{and-l, and-r, clash}
-
--- the number of an op in the table of ops, and its pointers u and w, 0 where it has none
-abbrev pub opNumber : Op → ℕ
-opNumber stop = 0
-opNumber (setNull u) = 1
-opNumber (copy u w) = 2
-opNumber (load u w) = 3
-opNumber (clear u) = 4
-opNumber (store u w) = 5
-opNumber (new u) = 6
-opNumber (free u) = 7
-opNumber (isNull u) = 8
-opNumber (same u w) = 9
-opNumber choose = 10
-opNumber skip = 11
-
-abbrev pub pointerU : Op → ℕ
-pointerU stop = 0
-pointerU (setNull u) = u
-pointerU (copy u w) = u
-pointerU (load u w) = u
-pointerU (clear u) = u
-pointerU (store u w) = u
-pointerU (new u) = u
-pointerU (free u) = u
-pointerU (isNull u) = u
-pointerU (same u w) = u
-pointerU choose = 0
-pointerU skip = 0
-
-abbrev pub pointerW : Op → ℕ
-pointerW stop = 0
-pointerW (setNull u) = 0
-pointerW (copy u w) = w
-pointerW (load u w) = w
-pointerW (clear u) = 0
-pointerW (store u w) = w
-pointerW (new u) = 0
-pointerW (free u) = 0
-pointerW (isNull u) = 0
-pointerW (same u w) = w
-pointerW choose = 0
-pointerW skip = 0
-
--- a field that is not used is written as zero
-abbrev pub field : Bool → ℕ → ℕ
-field used b = cond used b 0
-
-abbrev pub stmtRecord : Stmt → List ℕ
-stmtRecord st =
-    let n = opNumber (st .op) in
-    0x53 ∷ n ∷ pointerU (st .op) ∷ pointerW (st .op) ∷ field (usesFirst n) (st .first) ∷ field (usesSecond n) (st .second) ∷ replicate 26 0
-
--- the targets that the op does not use are zero
-pub record UnusedZero (st : Stmt) : Type 0 where
-  pub first : usesFirst (opNumber (st .op)) ≡ false → st .first ≡ 0
-  pub second : usesSecond (opNumber (st .op)) ≡ false → st .second ≡ 0
+pub use Rattle.model.proofs.Listings.{UnusedZero, field, opNumber, pointerU, pointerW, stmtRecord}
 
 op-back : (op : Op) → opOf (opNumber op) (pointerU op) (pointerW op) ≡ op
 op-back stop = refl

@@ -1,8 +1,6 @@
 -- One step carries over: on a heap and on its expansion the machine faults alike, or goes on alike to heaps of which one expands the other.
-
--- what is left after the test for lost cells
 use Prim.Native.Nat.{ℕ}
-use mathlib.Core.Path.{_≡_, ap, refl}
+use mathlib.Core.Path.{_∙_, _≡_, ap, refl}
 use mathlib.Core.Bool.{false, true}
 use mathlib.Core.List.{[]}
 use lib.Dec.{eqb}
@@ -13,13 +11,14 @@ use Rattle.model.specs.Machine.{Answer, Effect, Entry, Fault, Kind, Op, 
 use Rattle.model.specs.Runs.{isStop}
 use Rattle.model.specs.Shape.{Seg}
 use Rattle.model.proofs.Cores.{first-inj}
-use Rattle.model.proofs.Effects.{Alike, Room, both-bad, both-ok, effect-alike, ptr-closed, ptr-img, sg-after}
-use Rattle.model.proofs.Expand.{Expands, Expansion, img}
-use Rattle.model.proofs.Facts.{kept-test, test-kept}
-use Rattle.model.proofs.Folds.{Kept, kept-down, kept-up}
-use Rattle.model.proofs.Logic.{bool-case, bool-ext, clash, not-true}
+use Rattle.model.proofs.Effects.{effect-alike, ptr-closed, ptr-img}
+use Rattle.model.proofs.Facts.{kept-same, test-kept}
+use Rattle.model.proofs.Folds.{Kept}
+use Rattle.model.proofs.Logic.{bool-case, bool-ext, clash}
+use Rattle.model.proofs.Notions.{Alike, Expands, Expansion, Room, both-bad, both-ok, img, sg-after}
 use Rattle.model.proofs.Walks.{Closed}
 
+-- what is left after the test for lost cells
 pub data After (sg : ℕ → Seg) : Effect → Effect → Type 0 where
   fault-both : {f : Fault} → After sg (fault f) (fault f)
   done-both : {W H : Heap} → Expansion W sg H → Kept H → After sg (done W) (done H)
@@ -28,8 +27,8 @@ keep-alike : (sg : ℕ → Seg) (a b : Effect) → Alike sg a b → After sg (ke
 keep-alike sg a b both-bad = fault-both
 keep-alike sg a b (both-ok {W} {H} X) =
     bool-case (kept W)
-    (λ e. let k = kept-up W sg H X (test-kept W e) in rw (e, kept-test H k) (done-both X k))
-    (λ e. rw (e, not-true (kept H) (λ q. clash (kept-test W (kept-down W sg H X (test-kept H q))) e)) fault-both)
+    (λ e. let k = kept-same W sg H X ∙ e in rw (e, k) (done-both X (test-kept H k)))
+    (λ e. rw (e, kept-same W sg H X ∙ e) fault-both)
 
 -- tests are answered alike
 same-img : (nw : ℕ → Slot) (sg : ℕ → Seg) (nh : ℕ → Slot) → Expands nw sg nh → (v w : Val) → Closed nw v → Closed nw w

@@ -1,6 +1,6 @@
 -- Unfolding a shape with counters, one at least for each node, gives a heap; folding it gives the shape and the counters back.
 use Prim.Native.Nat.{_+_, _-_, _<_, _≤_, suc, zero, ℕ}
-use mathlib.Core.Path.{_∙_, _≡_, ap, ap₂, refl, subst, sym}
+use mathlib.Core.Path.{_∙_, _≡_, ap, ap₂, refl, sym}
 use mathlib.Core.Bool.{true}
 use mathlib.Core.List.{List, [], _∷_, map}
 use native.Mathlib.Nat.{zero-add}
@@ -8,18 +8,22 @@ use native.Mathlib.Omega.{arith}
 use lib.Dec.{ltb}
 use lib.ListN.{List·getD-append, getD, length, length-append}
 use lib.Seq.{getD-append-add}
-use borrow.Author.Tests.{eqb-false, ltb-false, ltb-true}
+use borrow.Author.Tests.{ltb-false, ltb-true}
 use Rattle.model.specs.Base.{mem, numbers, sum}
 use Rattle.model.specs.Heap.{Heap, IsHeap, Slot, Val, cell, holds, next, null, undef, unused}
 use Rattle.model.specs.Image.{firstCell, spread, spreadSlot, strand, strands, unfoldHeap}
 use Rattle.model.specs.Shape.{Seg, cells, counters, shape}
-use Rattle.model.proofs.Canon.{Canon, canon-fold, canon-segments, numbers-mem, single}
-use Rattle.model.proofs.Expand.{Chain, Expands, Expansion, img}
+use Rattle.model.proofs.Canon.{Canon, canon-fold, canon-segments, single}
 use Rattle.model.proofs.Facts.{is-heap}
-use Rattle.model.proofs.Folds.{counters-grow, fold-same, kept-up, large-closed, total}
-use Rattle.model.proofs.Logic.{NoDup, bool-case, eq-case, mem-here, mem-there, not-true}
+use Rattle.model.proofs.Folds.{counters-grow, fold-same, kept-up, large-closed}
+use Rattle.model.proofs.Lists.{map-same}
+use Rattle.model.proofs.Logic.{bool-case}
+use Rattle.model.proofs.Notions.{Chain, Expands, Expansion, img, total}
+use Rattle.model.proofs.Numbers.{mem-numbers, numbers-mem, numbers-nodup, read-all}
 use Rattle.model.proofs.Order.{toured, used-below}
 use Rattle.model.proofs.Walks.{Used, seg}
+pub use Rattle.model.proofs.Notions.{Positive}
+pub use Rattle.model.proofs.Numbers.{length-numbers}
 
 -- the cells of node n: as many as its counter says, from its first cell on
 abbrev pub laid : List ℕ → ℕ → Seg
@@ -30,11 +34,7 @@ spread-img cs (cell n) = refl
 spread-img cs null = refl
 spread-img cs undef = refl
 
-spread-ptrs : (cs : List ℕ) (vs : List Val) → map (spread cs) vs ≡ map (img (laid cs)) vs
-spread-ptrs cs [] = refl
-spread-ptrs cs (v ∷ vs) = ap₂ _∷_ (spread-img cs v) (spread-ptrs cs vs)
-
-length-strand : (b c : ℕ) (s : Slot) → length (strand b c s) ≡ c
+pub length-strand : (b c : ℕ) (s : Slot) → length (strand b c s) ≡ c
 length-strand b zero s = refl
 length-strand b (suc zero) s = refl
 length-strand b (suc (suc c)) s = ap suc (length-strand (suc b) (suc c) s)
@@ -53,19 +53,6 @@ length-strands vs b (s ∷ ss) (c ∷ cs) l = omega (
 -- an unfolded heap has as many cells as the counters say
 pub unfold-length : (h : Heap) (cs : List ℕ) → length cs ≡ length (h .slots) → length (unfoldHeap h cs .slots) ≡ sum (λ c. c) cs
 unfold-length h cs len = length-strands cs 0 (h .slots) cs len
-
-numbers-nodup : (i n : ℕ) → NoDup (numbers i n)
-numbers-nodup i zero = tt
-numbers-nodup i (suc n) = (not-true (mem i (numbers (suc i) n)) (λ h. let r = numbers-mem (suc i) n i h in omega arith), numbers-nodup (suc i) n)
-
-pub length-numbers : (i n : ℕ) → length (numbers i n) ≡ n
-length-numbers i zero = refl
-length-numbers i (suc n) = ap suc (length-numbers (suc i) n)
-
-mem-numbers : (i n c : ℕ) → i ≤ c → c < i + n → mem c (numbers i n) ≡ true
-mem-numbers i zero c h k = absurd (omega arith)
-mem-numbers i (suc n) c h k = eq-case c i (λ e. subst (λ x. mem x (i ∷ numbers (suc i) n) ≡ true) (sym e) (mem-here i (numbers (suc i) n)))
-    (λ e. mem-there c i (numbers (suc i) n) (mem-numbers (suc i) n c (let ne = eqb-false c i e in omega arith) (omega arith)))
 
 -- a strand is a chain
 strand-chain : (nx : ℕ → Slot) (b c : ℕ) (s : Slot) (v : Val) → s ≡ holds v
@@ -106,18 +93,6 @@ first-step (c ∷ cs) n zero h k = absurd (omega arith)
 first-step (c ∷ cs) zero (suc m) h k = omega arith
 first-step (c ∷ cs) (suc n) (suc m) h k = omega (arith, first-step cs n m (omega arith) (omega arith))
 
-read-shift : (c : ℕ) (cs : List ℕ) (i n : ℕ) → map (λ j. getD (c ∷ cs) j 1) (numbers (suc i) n) ≡ map (λ j. getD cs j 1) (numbers i n)
-read-shift c cs i zero = refl
-read-shift c cs i (suc n) = ap (λ z. getD cs i 1 ∷ z) (read-shift c cs (suc i) n)
-
-read-all : (cs : List ℕ) → map (λ j. getD cs j 1) (numbers 0 (length cs)) ≡ cs
-read-all [] = refl
-read-all (c ∷ cs) = ap (λ z. c ∷ z) (read-shift c cs 0 (length cs) ∙ read-all cs)
-
--- each counter is at least 1
-abbrev pub Positive : List ℕ → Type 0
-Positive cs = (n : ℕ) → n < length cs → 1 ≤ getD cs n 1
-
 module _ (h : Heap) (C : Canon h) (cs : List ℕ) (len : length cs ≡ length (h .slots)) (pos : Positive cs) where
   all-used : (n : ℕ) → n < length (h .slots) → Used (next h) n
   all-used n q = toured h (C .closed) .used n (rw (C .numbered) (mem-numbers 0 (length (h .slots)) n (omega arith) (omega arith)))
@@ -152,7 +127,7 @@ module _ (h : Heap) (C : Canon h) (cs : List ℕ) (len : length cs ≡ length (h
 
   -- the unfolded heap expands the shape by its strands
   pub unfolds : Expansion h (laid cs) (unfoldHeap h cs)
-  unfolds = record { body = expands; closed = C .closed .0; ptrs = spread-ptrs cs (h .ptrs) }
+  unfolds = record { body = expands; closed = C .closed .0; ptrs = map-same (spread cs) (img (laid cs)) (h .ptrs) (λ v i. spread-img cs v) }
 
   totals : (i n : ℕ) → i + n ≡ length cs → map (λ (s : Seg). total (laid cs) (cells s)) (map single (numbers i n)) ≡ map (λ j. getD cs j 1) (numbers i n)
   totals i zero e = refl
@@ -171,4 +146,4 @@ module _ (h : Heap) (C : Canon h) (cs : List ℕ) (len : length cs ≡ length (h
   counters-unfold =
       counters-grow h (laid cs) (unfoldHeap h cs) unfolds
       ∙ ap (map (λ (s : Seg). total (laid cs) (cells s))) (canon-segments h C ∙ ap (λ n. map single (numbers 0 n)) (sym len))
-      ∙ totals 0 (length cs) (omega arith) ∙ read-all cs
+      ∙ totals 0 (length cs) (omega arith) ∙ read-all 1 cs

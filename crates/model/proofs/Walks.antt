@@ -1,15 +1,46 @@
--- The walk as a relation, without fuel; cells in use, values that name them; short names for what the definitions say in one line.
-
--- the walk without fuel
+-- Cells in use and values that name them; the walk as a relation, without fuel; short names for what the definitions say in one line.
 use Prim.Native.Nat.{ℕ}
-use mathlib.Core.Path.{_≡_}
+use mathlib.Core.Path.{_≡_, refl, subst, sym}
+use mathlib.Core.Logic.{inl, inr}
 use mathlib.Core.Bool.{Bool, false, true}
-use mathlib.Core.List.{_++_, List, [], _∷_}
+use mathlib.Core.List.{List, [], _++_, _∷_, map}
 use Rattle.model.specs.Base.{any, count, mem}
-use Rattle.model.specs.Edges.{rest}
 use Rattle.model.specs.Heap.{Heap, Slot, Val, cell, holds, next, null, undef}
 use Rattle.model.specs.Shape.{Seg, holdsCell, isCell}
+use Rattle.model.proofs.Lists.{In, map-same}
 
+-- cell n is in use
+abbrev pub Used : (ℕ → Slot) → ℕ → Type 0
+Used nx n = (v : Val) × (nx n ≡ holds v)
+
+-- a value names a cell only if that cell is in use: of one value, of each of a list, and of all that a heap's pointers and cells hold
+abbrev pub Closed : (ℕ → Slot) → Val → Type 0
+Closed nx null = Unit {0}
+Closed nx undef = Unit {0}
+Closed nx (cell n) = Used nx n
+
+abbrev pub AllClosed : (ℕ → Slot) → List Val → Type 0
+AllClosed nx [] = Unit {0}
+AllClosed nx (v ∷ vs) = Closed nx v × AllClosed nx vs
+
+abbrev pub ClosedHeap : Heap → Type 0
+ClosedHeap h = AllClosed (next h) (h .ptrs) × ((n : ℕ) (v : Val) → next h n ≡ holds v → Closed (next h) v)
+
+abbrev pub AllUsed : (ℕ → Slot) → List ℕ → Type 0
+AllUsed nx l = (n : ℕ) → mem n l ≡ true → Used nx n
+
+-- a segment by its first cell and the cells after that
+abbrev pub seg : ℕ → List ℕ → Seg
+seg c l = record { first = c; rest = l }
+
+-- what `core` counts
+abbrev pub pointed : ℕ → List Val → Bool
+pointed c vs = any (isCell c) vs
+
+abbrev pub holders : ℕ → List Slot → ℕ
+holders c ss = count (holdsCell c) ss
+
+-- the walk without fuel, and one for each pointer in turn
 pub data Walks (nx : ℕ → Slot) : List ℕ → Val → List ℕ → Type 0 where
   at-null : {s : List ℕ} → Walks nx s null s
   at-undef : {s : List ℕ} → Walks nx s undef s
@@ -20,30 +51,24 @@ pub data Tours (nx : ℕ → Slot) : List ℕ → List Val → List ℕ → Type
   tour-done : {s : List ℕ} → Tours nx s [] s
   tour-more : {s t r : List ℕ} {v : Val} {vs : List Val} → Walks nx s v t → Tours nx t vs r → Tours nx s (v ∷ vs) r
 
-abbrev pub Used : (ℕ → Slot) → ℕ → Type 0
-Used nx n = (v : Val) × (nx n ≡ holds v)
+-- ---- values that name cells in use
 
-abbrev pub Closed : (ℕ → Slot) → Val → Type 0
-Closed nx null = Unit {0}
-Closed nx undef = Unit {0}
-Closed nx (cell n) = Used nx n
+pub closed-in : (nx : ℕ → Slot) (vs : List Val) (v : Val) → AllClosed nx vs → In v vs → Closed nx v
+closed-in nx [] v k h = absurd h
+closed-in nx (w ∷ vs) v k (inl e) = subst (Closed nx) (sym e) (k .0)
+closed-in nx (w ∷ vs) v k (inr h) = closed-in nx vs v (k .1) h
 
-abbrev pub AllUsed : (ℕ → Slot) → List ℕ → Type 0
-AllUsed nx l = (n : ℕ) → mem n l ≡ true → Used nx n
+pub in-closed : (nx : ℕ → Slot) (vs : List Val) → ((v : Val) → In v vs → Closed nx v) → AllClosed nx vs
+in-closed nx [] h = tt
+in-closed nx (v ∷ vs) h = (h v (inl refl), in-closed nx vs (λ w i. h w (inr i)))
 
-abbrev pub AllClosed : (ℕ → Slot) → List Val → Type 0
-AllClosed nx [] = Unit {0}
-AllClosed nx (v ∷ vs) = Closed nx v × AllClosed nx vs
+pub closed-up : (nx ny : ℕ → Slot) (vs : List Val) → ((x : Val) → Closed nx x → Closed ny x) → AllClosed nx vs → AllClosed ny vs
+closed-up nx ny vs f k = in-closed ny vs (λ v i. f v (closed-in nx vs v k i))
 
-abbrev pub ClosedHeap : Heap → Type 0
-ClosedHeap h = AllClosed (next h) (h .ptrs) × ((n : ℕ) (v : Val) → next h n ≡ holds v → Closed (next h) v)
+pub closed-map : (nx ny : ℕ → Slot) (g : Val → Val) (vs : List Val) → ((x : Val) → Closed nx x → Closed ny (g x)) → AllClosed nx vs → AllClosed ny (map g vs)
+closed-map nx ny g [] f k = tt
+closed-map nx ny g (v ∷ vs) f k = (f v (k .0), closed-map nx ny g vs f (k .1))
 
--- what `core` counts
-abbrev pub pointed : ℕ → List Val → Bool
-pointed c vs = any (isCell c) vs
-
-abbrev pub holders : ℕ → List Slot → ℕ
-holders c ss = count (holdsCell c) ss
-
-abbrev pub seg : ℕ → List ℕ → Seg
-seg c l = record { first = c; rest = l }
+-- maps that agree on such values
+pub map-closed : {A : Type 0} (nx : ℕ → Slot) (f g : Val → A) (vs : List Val) → ((x : Val) → Closed nx x → f x ≡ g x) → AllClosed nx vs → map f vs ≡ map g vs
+map-closed nx f g vs h k = map-same f g vs (λ v i. h v (closed-in nx vs v k i))

@@ -1,7 +1,4 @@
 -- The ways out of a location: which of them a heap takes, and that the way's heap then stands for that heap, cell by cell, with its weights.
-
--- A way fits a heap: the heap expands the way's, the node that is read, written or freed is one cell, and the weights are the chains' sizes.
--- k is the number of nodes and the cell for new on the shape, c the cell for new on the heap.
 use Prim.Native.Nat.{_<_, _≤_, suc, ℕ}
 use mathlib.Core.Path.{_∙_, _≡_, ap, refl, subst, sym}
 use mathlib.Core.Bool.{cond, false, true}
@@ -10,21 +7,24 @@ use native.Mathlib.Omega.{arith}
 use lib.Dec.{eqb}
 use lib.ListN.{List·getD-eq-default, List·getD-map, getD, length, length-map}
 use borrow.Author.Tests.{eqb-false, eqb-true}
-use Rattle.model.specs.Edges.{Guard, Way, Weight, access, addsCounter, at, counter, isOne, isOneCell, isRest, one, rest, split, splitHeap, whole}
+use Rattle.model.specs.Edges.{Guard, Way, Weight, access, addsCounter, counter, isOne, isOneCell, isRest, one, rest, split, splitHeap, whole}
 use Rattle.model.specs.Heap.{Heap, Val, cell, next, null, unused}
 use Rattle.model.specs.Machine.{Kind, Op, allocates, branch, choose, clear, copy, free, isNull, kind, load, new, other, picks, same, setNull, skip, stop, stops, store}
 use Rattle.model.specs.Shape.{Seg, counters, last, nodeSlot, segments, shape, size}
-use Rattle.model.proofs.Changes.{upd, upd-at, upd-off}
-use Rattle.model.proofs.Effects.{Room, closed-ptr, exp-split, sg-after}
-use Rattle.model.proofs.Expand.{Expansion}
+use Rattle.model.proofs.Canon.{single}
+use Rattle.model.proofs.Changes.{upd-at, upd-off}
+use Rattle.model.proofs.Effects.{closed-ptr, exp-split}
 use Rattle.model.proofs.Folds.{Kept}
 use Rattle.model.proofs.Logic.{bool-case, clash, eq-case, eqb-same}
+use Rattle.model.proofs.Notions.{Expansion, Room, segAt, sg-after, upd}
 use Rattle.model.proofs.Order.{used-below}
 use Rattle.model.proofs.Sizes.{split-short}
-use Rattle.model.proofs.Start.{segAt, start}
+use Rattle.model.proofs.Start.{start}
 use Rattle.model.proofs.Walks.{AllClosed, Closed, ClosedHeap, Used, seg}
 use Rattle.model.proofs.Weights.{Fair, weigh}
 
+-- A way fits a heap: the heap expands the way's, the node that is read, written or freed is one cell, and the weights are the chains' sizes.
+-- k is the number of nodes and the cell for new on the shape, c the cell for new on the heap.
 pub record Fits (op : Op) (k c : ℕ) (y : Way) (H : Heap) (cs : List ℕ) : Type 0 where
   pub sg : ℕ → Seg
   pub expansion : Expansion (y .heap) sg H

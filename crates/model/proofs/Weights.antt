@@ -1,6 +1,4 @@
 -- What an update says is what the cells of its segment stand for, added up.
-
--- how many cells a cell of the shape stands for, with these counters
 use Prim.Native.Nat.{_+_, _-_, _<_, _≤_, suc, zero, ℕ}
 use mathlib.Core.Path.{_∙_, _≡_, ap, ap₂, refl, subst, sym}
 use mathlib.Core.Bool.{Bool, _||_, cond, false, true}
@@ -13,10 +11,13 @@ use borrow.Author.Tests.{eq-eqb, ne-eqb}
 use Rattle.model.specs.Base.{any, count, mem, numbers, sum}
 use Rattle.model.specs.Edges.{Weight, addsCounter, counter, isOneCell, isRest, one, rest, updateOf}
 use Rattle.model.specs.Shape.{Seg, cells}
-use Rattle.model.proofs.Bytes.{flagged}
-use Rattle.model.proofs.Logic.{NoDup, bool-case, clash, eqb-same, mem-here, mem-there, not-true, or-cases}
-use Rattle.model.proofs.Unfold.{length-numbers}
+use Rattle.model.proofs.Canon.{single}
+use Rattle.model.proofs.Lists.{any-find, in-mem}
+use Rattle.model.proofs.Logic.{NoDup, bool-case, clash, eqb-same, mem-here, mem-there, not-true}
+use Rattle.model.proofs.Notions.{flagged}
+use Rattle.model.proofs.Numbers.{length-numbers}
 
+-- how many cells a cell of the shape stands for, with these counters
 abbrev pub weigh : List ℕ → Weight → ℕ
 weigh cs (counter n) = getD cs n 1
 weigh cs one = 1
@@ -80,9 +81,7 @@ module _ (k : ℕ) (cs : List ℕ) (len : length cs ≡ k) (w : ℕ → Weight) 
       let p = F .positive c n e in omega arith
 
   any-owner : (i : ℕ) (l : List ℕ) → any (λ c. addsCounter i (w c)) l ≡ true → (d : ℕ) × (mem d l ≡ true) × (addsCounter i (w d) ≡ true)
-  any-owner i [] h = clash h refl
-  any-owner i (c ∷ l) h = or-cases (addsCounter i (w c)) (any (λ c. addsCounter i (w c)) l) h
-      (λ e. (c, mem-here c l, e)) (λ e. let r = any-owner i l e in (r .0, mem-there (r .0) c l (r .1), r .2))
+  any-owner i l h = let r = any-find (λ c. addsCounter i (w c)) l h in (r .0, in-mem (r .0) l (r .1), r .2)
 
   -- the weights of a list of different cells
   balance : (l : List ℕ) → NoDup l → ((c : ℕ) → mem c l ≡ true → c < suc k)

@@ -6,25 +6,24 @@ use mathlib.Core.Bool.{false, not, true}
 use mathlib.Core.List.{List, [], _∷_}
 use native.Mathlib.Omega.{arith}
 use lib.ListN.{List·getD-eq-default, length}
-use Rattle.model.specs.Edges.{Edge, Loc, at, edgesOf, stmtAt}
+use Rattle.model.specs.Edges.{Edge, Loc, edgesOf, stmtAt}
 use Rattle.model.specs.Heap.{Heap, inUse, next, unused}
 use Rattle.model.specs.Machine.{Effect, Entry, Stmt, accepts, answerOf, branch, done, fault, kind, run, step}
 use Rattle.model.specs.Records.{byte, locRecord, shapeOf}
 use Rattle.model.specs.Runs.{Config, DescribesIn, Forced, Match, Matched, Matching, Paired, State, Status, Step, Supply, Unused, afterEntry, ended, endedIn, faultOf, fed, final, isStop, leaves, made, moveOf, past, running, stepOf, trace}
 use Rattle.model.specs.Shape.{shape}
-use Rattle.model.specs.Translate.{Link, Listing, Routine, Tables, listed, tablesOf}
+use Rattle.model.specs.Translate.{Link, Listing, Routine, Tables, tablesOf}
 use Rattle.model.proofs.Checked.{GoodStarts}
-use Rattle.model.proofs.Exact.{Exact, edge-listed, linkOf}
+use Rattle.model.proofs.Exact.{edge-listed}
 use Rattle.model.proofs.Facts.{is-heap}
 use Rattle.model.proofs.Leave.{MatchIn, accept-room, begin}
-use Rattle.model.proofs.Listing.{locAt}
+use Rattle.model.proofs.Listings.{Exact, WritableLoc, linkAt, linkOf, locAt, noLink}
 use Rattle.model.proofs.Lists.{In, in-getD}
 use Rattle.model.proofs.Location.{edge-goes, edge-way, leave-forward}
 use Rattle.model.proofs.Logic.{bool-case, clash, not-true}
-use Rattle.model.proofs.Moves.{good-writable, leaves-link, link-facts, link-leaves, linkAt, loc-good, loc-record, noLink}
-use Rattle.model.proofs.ReadBack.{WritableLoc, location-shape}
+use Rattle.model.proofs.Moves.{good-writable, leaves-link, link-facts, link-leaves, loc-good, loc-record}
+use Rattle.model.proofs.ReadBack.{location-shape}
 use Rattle.model.proofs.Single.{Both, backward, forward, only-one}
-use Rattle.model.proofs.Start.{start}
 use Rattle.model.proofs.Step.{step-go}
 use Rattle.model.proofs.Ways.{room-of}
 

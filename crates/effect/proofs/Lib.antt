@@ -1,0 +1,3 @@
+pub mod ListLaws
+pub mod Bytes
+pub mod Ops

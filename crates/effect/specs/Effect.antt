@@ -1,0 +1,59 @@
+-- What the effect of a statement on a heap image needs and answers; ps are the pointers' bytes and cs the cells' bytes.
+use Prim.Native.Nat.{ℕ, zero, suc, _≤_, _<_}
+use mathlib.Core.Path.{_≡_}
+use mathlib.Core.Bool.{true, cond}
+use mathlib.Core.List.{List}
+use lib.Dec.{eqb}
+use lib.ListN.{length, getD}
+use Rattle.model.specs.Heap.{Val, Heap, holds, next, closed}
+use Rattle.model.specs.Machine.{Effect, done, fault, atNull, atUndef, leak, through, setPtr, putSlot, held}
+use Rattle.model.specs.Records.{valOf}
+use Rattle.model.specs.Image.{heapOf}
+
+-- a known op on two of six pointers of a closed image; at new, the cell x is one of the image
+pub record EffectReady (op u w x : ℕ) (ps cs : List ℕ) : Type 0 where
+  pub known : op ≤ 11
+  pub isU : u < 6
+  pub isW : w < 6
+  pub six : length ps ≡ 6
+  pub few : length cs ≤ 240
+  pub isClosed : closed (heapOf ps cs) ≡ true
+  pub room : op ≡ 6 → x < length cs
+
+-- the effect that a number answers, with the heap afterwards: 0 is done, else a fault's number
+abbrev pub effectOf : ℕ → Heap → Effect
+effectOf zero h = done h
+effectOf (suc zero) h = fault atNull
+effectOf (suc (suc zero)) h = fault atUndef
+effectOf (suc (suc (suc n))) h = fault leak
+
+-- the answer r and the image qs, ds afterwards are the effect f on the image ps, cs; a fault leaves the image
+pub record Ran (f : Heap → Effect) (ps cs : List ℕ) (r : ℕ) (qs ds : List ℕ) : Type 0 where
+  pub outcome : effectOf r (heapOf qs ds) ≡ f (heapOf ps cs)
+  pub stays : (r ≡ 0 → ⊥) → (qs ≡ ps) × (ds ≡ cs)
+
+-- the byte b, where it is neither null nor undefined, is that of a cell in use
+abbrev pub Named : List ℕ → ℕ → Type 0
+Named cs b = (b ≡ 0xfe → ⊥) → (b ≡ 0xff → ⊥) → (b < length cs) × (getD cs b 0 ≡ 0xfd → ⊥)
+
+-- r is the fault of reading or writing through the byte v, 0 where that is a cell
+pub record Access (v r : ℕ) : Type 0 where
+  pub faults : (r ≡ 0 → ⊥) → (h : Heap) (k : ℕ → Heap) → effectOf r h ≡ through (valOf v) k
+  pub notNull : r ≡ 0 → v ≡ 0xfe → ⊥
+  pub notUndef : r ≡ 0 → v ≡ 0xff → ⊥
+
+-- pointer u becomes v
+abbrev pub assigned : ℕ → Val → Heap → Effect
+assigned u v h = done (setPtr u v h)
+
+-- pointer u becomes the next of the cell v
+abbrev pub loaded : ℕ → Val → Heap → Effect
+loaded u v h = through v (λ c. setPtr u (held (next h c)) h)
+
+-- the next of the cell a becomes v
+abbrev pub stored : Val → Val → Heap → Effect
+stored a v h = through a (λ c. putSlot c (holds v) h)
+
+-- a value's byte once cell c is freed
+abbrev pub wipeByte : ℕ → ℕ → ℕ
+wipeByte c b = cond (eqb b c) 0xff b

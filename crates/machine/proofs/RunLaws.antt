@@ -1,0 +1,151 @@
+-- A run and a fold by their parts: from what each callee ensures to what the next asks, and to what the whole ensures.
+use Prim.Native.Nat.{ℕ, _≤_}
+use native.Mathlib.Omega.{arith}
+use mathlib.Core.Path.{_≡_, _∙_, ap, subst, sym}
+use mathlib.Core.Bool.{true, false, not}
+use mathlib.Core.List.{List, [], _++_, append-nil, map}
+use lib.Dec.{eqb}
+use lib.ListN.{length, getD, take, drop, drop-of-length-le, length-map}
+use lib.Seq.{take-append-seam}
+use Rattle.model.specs.Base.{mem}
+use Rattle.model.specs.Heap.{closed, eachUsed, kept, next, order}
+use Rattle.model.specs.Image.{cellSlot, heapOf}
+use Rattle.model.specs.Machine.{effect}
+use Rattle.model.specs.Records.{opOf, slotByte}
+use Rattle.model.specs.Shape.{Seg, core, last, nodeSlot, segments, shape}
+use Rattle.model.proofs.Facts.{heap-closed, unused-of}
+use Rattle.model.proofs.Order.{toured}
+use Rattle.model.proofs.Segments.{twelve}
+use Rattle.effect.specs.Effect.{effectOf}
+use Rattle.effect.specs.Laws.{answer-done, effect-closed, image-slots}
+use Rattle.effect.proofs.Ops.{new-op}
+use Rattle.visit.specs.Laws.{kept-marked}
+use Rattle.visit.specs.Visit.{Held, VisitReady, Visited}
+use Rattle.segment.specs.Cut.{CutReady, IsCut, heldCore, segs}
+use Rattle.segment.specs.Fold.{AllIn, LastsIn, foldByte}
+use Rattle.segment.proofs.ImageLaws.{image-ready, lasts-in, pointers-in}
+use Rattle.segment.proofs.ShapeLaws.{cell-low, segs-same, shape-pointers, shape-successors}
+use Rattle.machine.specs.Laws.{run-fault, run-kept, run-lost}
+use Rattle.machine.specs.Run.{IsRun, IsShape, RunReady, ShapeReady}
+
+-- ---- a run: r and the image qs, ds are what the effect answers
+module _ {op u w x : ℕ} {ps cs o s : List ℕ} (p : RunReady op u w x ps cs o s) (qs ds : List ℕ) {r : ℕ}
+    (e : effectOf r (heapOf qs ds) ≡ effect (opOf op u w) x (heapOf ps cs)) where
+  -- a fault
+  pub run-faults : (t : List ℕ) → (r ≡ 0 → ⊥) → IsRun op u w x ps cs qs ds t r 0
+  run-faults t n = record {
+    outcome = run-fault (opOf op u w) x r (heapOf ps cs) (heapOf qs ds) e n;
+    isHeap = λ z. absurd (n z);
+    visited = λ z. absurd (n z);
+    few = λ z. absurd (n z);
+  }
+
+  module _ (z : r ≡ 0) where
+    -- the heap is closed, and has as many cells
+    done-closed : closed (heapOf qs ds) ≡ true
+    done-closed =
+        effect-closed (opOf op u w) x (heapOf ps cs) (heapOf qs ds) (p .ready .isClosed)
+        (λ a. unused-of (next (heapOf ps cs) x) (p .fresh (new-op op u w (p .ready .known) a)))
+        (answer-done r (heapOf qs ds) (effect (opOf op u w) x (heapOf ps cs)) e z)
+
+    done-cells : length ds ≡ length cs
+    done-cells =
+        sym (length-map ds cellSlot)
+        ∙ image-slots (opOf op u w) x ps cs (heapOf qs ds) (p .ready .isClosed) (λ a. p .ready .room (new-op op u w (p .ready .known) a))
+        (answer-done r (heapOf qs ds) (effect (opOf op u w) x (heapOf ps cs)) e z)
+
+    pub visit-ready : VisitReady qs ds o s
+    visit-ready =
+        let l = done-cells in
+        let q = p .ready in
+        record {
+          isClosed = done-closed;
+          few = rw l (q .few);
+          room = rw l (p .room);
+          marks = rw l (p .marks);
+          clear = λ c k. p .clear c (rw l at k);
+        }
+
+    -- n cells are visited: t is their order, and m marks them
+    module _ {t m : List ℕ} {n : ℕ} (d : Visited qs ds t m n) where
+      pub run-done : eachUsed (λ c. not (eqb (getD m c 0) 0)) 0 (map cellSlot ds) ≡ true → IsRun op u w x ps cs qs ds t 0 n
+      run-done k =
+          let i : kept (heapOf qs ds) ≡ true = sym (kept-marked d) ∙ k in
+          record {
+            outcome = run-kept (opOf op u w) x r (heapOf ps cs) (heapOf qs ds) e z i;
+            isHeap = λ _. record { isClosed = done-closed; isKept = i };
+            visited = λ _. d .visited;
+            few = λ _. d .few;
+          }
+
+      pub run-leaks : eachUsed (λ c. not (eqb (getD m c 0) 0)) 0 (map cellSlot ds) ≡ false → IsRun op u w x ps cs qs ds t 3 0
+      run-leaks k = record {
+        outcome = run-lost (opOf op u w) x r (heapOf ps cs) (heapOf qs ds) e z (sym (kept-marked d) ∙ k);
+        isHeap = λ f. absurd (omega arith);
+        visited = λ f. absurd (omega arith);
+        few = λ f. absurd (omega arith);
+      }
+
+-- ---- a fold
+module _ {ps cs o : List ℕ} {n : ℕ} {h m l z p q : List ℕ} (x : ShapeReady ps cs o n h m l z p q) where
+  few-segments : length (segments (heapOf ps cs)) ≤ 12
+  few-segments = twelve (heapOf ps cs) (x .isHeap) (length-map ps _ ∙ x .six)
+
+  -- the holders are counted in h′
+  module _ (h′ : List ℕ) (d : Held ps cs h′) where
+    held-core : (c : ℕ) → mem c (order (heapOf ps cs)) ≡ true → heldCore h′ c ≡ core (heapOf ps cs) c
+    held-core c i =
+        let g = heapOf ps cs in
+        d c (cell-low ps cs (x .isHeap) (x .few) c (toured g (heap-closed g (x .isHeap)) .used c i))
+
+    pub cut-ready : length h′ ≡ length h → CutReady o n h′ m l z
+    cut-ready k =
+        let f = few-segments in
+        let a = x .lasts in
+        let b = x .sizes in
+        image-ready ps cs (x .isHeap) (x .few) o n h′ m l z (x .long) (x .visited) held-core (rw k (x .holders)) (x .nodes) (omega arith) (omega arith)
+
+    -- the order is cut into r segments
+    module _ (m′ l′ z′ : List ℕ) (r : ℕ) (t : IsCut (segs h′ (take n o)) m′ l′ z′ r) where
+      cut-heap : IsCut (segments (heapOf ps cs)) m′ l′ z′ r
+      cut-heap = subst (λ ss. IsCut ss m′ l′ z′ r) (ap (segs h′) (x .visited) ∙ segs-same h′ (heapOf ps cs) held-core) t
+
+      few-nodes : r ≤ 12
+      few-nodes = rw (cut-heap .number) few-segments
+
+      pub values-ready : length m′ ≡ length m → (length ps ≤ length p) × AllIn m′ ps
+      values-ready k =
+          let i = x .pointers in
+          let j = x .six in
+          (omega arith, pointers-in ps cs (x .isHeap) (x .few) m′ (rw k (x .nodes)))
+
+      pub successors-ready : length m′ ≡ length m → length l′ ≡ length l → (r ≤ length l′) × (r ≤ length q) × LastsIn m′ cs l′ r
+      successors-ready k a =
+          let f = few-nodes in
+          let b = x .lasts in
+          let i = x .successors in
+          (omega arith, omega arith, lasts-in ps cs (x .isHeap) (x .few) m′ l′ r (rw k (x .nodes)) (omega arith) (cut-heap .lasts))
+
+      pub shape-is : (p′ q′ : List ℕ) → p′ ≡ map (foldByte m′) ps ++ drop (length ps) p
+          → q′ ≡ map (λ c. foldByte m′ (getD cs c 0)) (take r l′) ++ drop r q → IsShape ps cs m′ z′ p′ q′ r
+      shape-is p′ q′ a b =
+          let g = heapOf ps cs in
+          let ss = segments g in
+          let k = cut-heap in
+          let i = x .pointers in
+          let j = x .six in
+          let short : length p ≤ length ps = omega arith in
+          let nil : drop (length ps) p ≡ [] = drop-of-length-le p short in
+          let s : map (λ c. foldByte m′ (getD cs c 0)) (take r l′) ≡ map slotByte (shape g .slots) =
+          ap (map (λ c. foldByte m′ (getD cs c 0))) (k .lasts) ∙ shape-successors ps cs (x .isHeap) (x .few) m′ (k .nodes) in
+          let n : r ≡ length (map slotByte (shape g .slots)) =
+          k .number ∙ sym (length-map (shape g .slots) slotByte ∙ length-map ss (λ (t : Seg). nodeSlot ss (next g (last t)))) in
+          record {
+            number = k .number;
+            twelve = few-nodes;
+            pointers = a ∙ ap (λ y. map (foldByte m′) ps ++ y) nil ∙ append-nil (map (foldByte m′) ps) ∙ shape-pointers ps cs (x .isHeap) (x .few) m′ (k .nodes);
+            successors = ap (take r) (b ∙ ap (λ y. y ++ drop r q) s)
+                ∙ ap (λ i. take i (map slotByte (shape g .slots) ++ drop r q)) n ∙ take-append-seam (map slotByte (shape g .slots)) (drop r q);
+            sizes = k .sizes;
+            nodes = λ j c i. k .nodes j c (rw (k .number) at i);
+          }

@@ -1,0 +1,150 @@
+-- The promises: each is a type, and under it stands its proof, which cites a law. This page has demand 1; demand 2 is in PromisesShapes and
+-- PromisesListings, and demand 3 at the end of PromisesListings. The words are those of specs/, Notions and Listings.
+use Prim.Native.Nat.{_*_, _-_, _/_, _<_, _≤_, ℕ}
+use mathlib.Core.Path.{_≡_}
+use mathlib.Core.Logic.{_↔_, _⊎_}
+use mathlib.Core.Bool.{true}
+use mathlib.Core.List.{List, [], _∷_}
+use native.Mathlib.Omega.{arith}
+use lib.ListN.{drop, length, replicate}
+use Rattle.model.specs.Heap.{IsHeap}
+use Rattle.model.specs.Image.{countersFit, foldImage, heapOf, stepImage, unfoldImage}
+use Rattle.model.specs.Records.{byte, filled, layoutH, shapeOf, shapeRecord}
+use Rattle.model.specs.Shape.{canonical, counters, shape}
+use Rattle.model.specs.Translate.{Refusal, Routine, bad, check, good, translate}
+use Rattle.model.proofs.Images.{fold-gives, fold-lengths, fold-number, fold-refused, image-accepted, image-number, unfold-accepted, unfold-lengths, unfold-number, unfold-numbers, unfold-refused}
+use Rattle.model.proofs.Listings.{BadInput, GoodInput, recordsOf}
+use Rattle.model.proofs.Lists.{In}
+use Rattle.model.proofs.Outcomes.{bad-translate, fitting, places-most, refused-tables, translate-number, translate-place}
+use Rattle.model.proofs.Refusals.{accepted-input, bad-number, refused-input}
+use Rattle.model.proofs.Stepping.{step-lengths, step-number, step-stays}
+
+-- ==== demand 1: every call states its outcome for all inputs
+
+-- "The two record counts are reported, both 0 on a refusal." A refused translation leaves both tables all zero.
+abbrev pub RefusalClears : Type 0
+RefusalClears = (s : List ℕ) (a b : ℕ) → (translate s a b .refused .number ≡ 0 → ⊥)
+    → (translate s a b .tables .locBytes ≡ replicate a 0) × (translate s a b .tables .edgeBytes ≡ replicate b 0)
+    × (translate s a b .tables .locCount ≡ 0) × (translate s a b .tables .edgeCount ≡ 0)
+
+pub refusal-clears : RefusalClears
+refusal-clears = refused-tables
+
+-- the tables keep their lengths
+abbrev pub TablesKeepLength : Type 0
+TablesKeepLength = (s : List ℕ) (a b : ℕ) → (length (translate s a b .tables .locBytes) ≡ a) × (length (translate s a b .tables .edgeBytes) ≡ b)
+
+pub tables-keep-length : TablesKeepLength
+tables-keep-length s a b = let f = fitting s a b in (f .locLength, f .edgeLength)
+
+-- "at most 1,024 locations and 2,048 edges, and no more than length ÷ 32 rounded down"
+abbrev pub CountsFit : Type 0
+CountsFit = (s : List ℕ) (a b : ℕ) → (translate s a b .tables .locCount ≤ 1024) × (translate s a b .tables .locCount ≤ a / 32)
+    × (translate s a b .tables .edgeCount ≤ 2048) × (translate s a b .tables .edgeCount ≤ b / 32)
+
+pub counts-fit : CountsFit
+counts-fit s a b =
+    let f = fitting s a b in
+    let p = places-most 1024 a in
+    let q = places-most 2048 b in
+    (omega arith, omega arith, omega arith, omega arith)
+
+-- "bytes after the last are zero"
+abbrev pub RestIsZero : Type 0
+RestIsZero = (s : List ℕ) (a b : ℕ)
+    → (drop (32 * translate s a b .tables .locCount) (translate s a b .tables .locBytes) ≡ replicate (a - 32 * translate s a b .tables .locCount) 0)
+    × (drop (32 * translate s a b .tables .edgeCount) (translate s a b .tables .edgeBytes) ≡ replicate (b - 32 * translate s a b .tables .edgeCount) 0)
+
+pub rest-is-zero : RestIsZero
+rest-is-zero s a b = let f = fitting s a b in (f .locRest, f .edgeRest)
+
+-- the numbers of the table are 1 to 12, 0 for none; "for 1, 2 and 3 it is 0", and so it is where nothing is refused
+abbrev pub TranslateNumbers : Type 0
+TranslateNumbers = (s : List ℕ) (a b : ℕ) → (translate s a b .refused .number ≤ 12)
+    × (translate s a b .refused .number ≤ 3 → translate s a b .refused .place ≡ 0)
+
+pub translate-numbers : TranslateNumbers
+translate-numbers s a b = (translate-number s a b, translate-place s a b)
+
+-- "Refusals by place of check", 1 to 10: a refused input has that wrong with it which the number says, at the place given, and nothing before it
+abbrev pub InputRefused : Type 0
+InputRefused = (s : List ℕ) (x : Refusal) → check s ≡ bad x → BadInput s x × ((a b : ℕ) → translate s a b .refused ≡ x)
+
+pub input-refused : InputRefused
+input-refused s x e = (refused-input s x e, λ a b. bad-translate s a b x e)
+
+-- an accepted one has nothing wrong with it
+abbrev pub InputAccepted : Type 0
+InputAccepted = (s : List ℕ) (r : Routine) → check s ≡ good r → GoodInput s r
+
+pub input-accepted : InputAccepted
+input-accepted = accepted-input
+
+-- 5 to 7 are an S record's, 8 to 10 an H record's; "the place given is the record number from 0"
+abbrev pub InputNumbers : Type 0
+InputNumbers = (s : List ℕ) (x : Refusal) → BadInput s x → (1 ≤ x .number) × (x .number ≤ 10)
+    × (x .number ≤ 3 → x .place ≡ 0) × (4 ≤ x .number → x .place < length (recordsOf s))
+
+pub input-numbers : InputNumbers
+input-numbers = bad-number
+
+-- 13 and 14, 0 for none: "pointers not six bytes, over 240 cells, or a value naming no cell in use", "a used cell unreachable"
+abbrev pub FoldNumbers : Type 0
+FoldNumbers = (ps cs : List ℕ) → In (foldImage ps cs .refusal) (0 ∷ 13 ∷ 14 ∷ [])
+    × ((foldImage ps cs .refusal ≡ 0) ↔ ((length ps ≡ 6) × (length cs ≤ 240) × IsHeap (heapOf ps cs)))
+
+pub fold-numbers : FoldNumbers
+fold-numbers ps cs = rw (fold-number ps cs) (image-number ps cs, image-accepted ps cs)
+
+-- "A refused fold gives a zero record and zero counters"; a record has 32 bytes, and there are twelve counters
+abbrev pub FoldLeaves : Type 0
+FoldLeaves = (ps cs : List ℕ) → (length (foldImage ps cs .shapeBytes) ≡ 32) × (length (foldImage ps cs .counts) ≡ 12)
+    × ((foldImage ps cs .refusal ≡ 0 → ⊥) → (foldImage ps cs .shapeBytes ≡ replicate 32 0) × (foldImage ps cs .counts ≡ replicate 12 0))
+
+pub fold-leaves : FoldLeaves
+fold-leaves ps cs = let l = fold-lengths ps cs in (l .0, l .1, fold-refused ps cs)
+
+-- "Folding gives an H record and twelve counters of 32 bits (0 past k)."
+abbrev pub FoldGives : Type 0
+FoldGives = (ps cs : List ℕ) → foldImage ps cs .refusal ≡ 0
+    → (foldImage ps cs .shapeBytes ≡ shapeRecord (shape (heapOf ps cs))) × (foldImage ps cs .counts ≡ filled 12 (counters (heapOf ps cs)))
+    × (shapeOf (foldImage ps cs .shapeBytes) ≡ shape (heapOf ps cs)) × (length (counters (heapOf ps cs)) ≤ 12)
+
+pub fold-is : FoldGives
+fold-is = fold-gives
+
+-- "Unfolding checks the lengths (13), then 8, 9, 15"
+abbrev pub UnfoldNumbers : Type 0
+UnfoldNumbers = (r vs ps cs : List ℕ) → In (unfoldImage r vs ps cs .refusal) (0 ∷ 13 ∷ 8 ∷ 9 ∷ 15 ∷ [])
+    × ((unfoldImage r vs ps cs .refusal ≡ 0) ↔ ((length ps ≡ 6) × (length cs ≤ 240) × (length r ≡ 32) × (layoutH r ≡ true)
+    × (canonical (shapeOf r) ≡ true) × (countersFit (byte r 3) vs (length cs) ≡ true)))
+
+pub unfold-refusals : UnfoldNumbers
+unfold-refusals r vs ps cs = rw (unfold-number r vs ps cs) (unfold-numbers r vs (length ps) (length cs), unfold-accepted r vs (length ps) (length cs))
+
+-- "a refused unfolding or step leaves pointers and cells as they stood"; lengths are kept
+abbrev pub UnfoldLeaves : Type 0
+UnfoldLeaves = (r vs ps cs : List ℕ)
+    → (length (unfoldImage r vs ps cs .ptrBytes) ≡ length ps) × (length (unfoldImage r vs ps cs .cellBytes) ≡ length cs)
+    × ((unfoldImage r vs ps cs .refusal ≡ 0 → ⊥) → (unfoldImage r vs ps cs .ptrBytes ≡ ps) × (unfoldImage r vs ps cs .cellBytes ≡ cs))
+
+pub unfold-leaves : UnfoldLeaves
+unfold-leaves r vs ps cs = let l = unfold-lengths r vs ps cs in (l .0, l .1, unfold-refused r vs ps cs)
+
+-- "a plain step 13, 14, 4 (its record is no S), 5, 6, 7, 16"
+abbrev pub StepNumbers : Type 0
+StepNumbers = (r : List ℕ) (p c : ℕ) (ps cs : List ℕ) → In (stepImage r p c ps cs .refusal) (0 ∷ 13 ∷ 14 ∷ 4 ∷ 5 ∷ 6 ∷ 7 ∷ 16 ∷ [])
+
+pub step-numbers : StepNumbers
+step-numbers = step-number
+
+-- "at a fault, a stop or a refusal both numbers are 0 and the heap stays"; lengths are kept
+abbrev pub StepLeaves : Type 0
+StepLeaves = (r : List ℕ) (p c : ℕ) (ps cs : List ℕ)
+    → (length (stepImage r p c ps cs .ptrBytes) ≡ length ps) × (length (stepImage r p c ps cs .cellBytes) ≡ length cs)
+    × ((stepImage r p c ps cs .refusal ≡ 0 → ⊥) ⊎ ((stepImage r p c ps cs .faultNo ≡ 0 → ⊥) ⊎ (stepImage r p c ps cs .stop ≡ 0 → ⊥))
+    → (stepImage r p c ps cs .ptrBytes ≡ ps) × (stepImage r p c ps cs .cellBytes ≡ cs)
+    × (stepImage r p c ps cs .branchNo ≡ 0) × (stepImage r p c ps cs .nextNo ≡ 0))
+
+pub step-leaves : StepLeaves
+step-leaves r p c ps cs = let l = step-lengths r p c ps cs in (l .0, l .1, step-stays r p c ps cs)

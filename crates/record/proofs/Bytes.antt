@@ -1,0 +1,101 @@
+-- The bytes that the writers leave are those of the definitions, and those are the records of the model.
+use Prim.Native.Nat.{ℕ, suc, _+_, _-_, _*_, _/_, _%_, _≤_, _<_}
+use mathlib.Core.Path.{_≡_, refl, sym, ap, ap₂, _∙_}
+use mathlib.Core.List.{List, [], _∷_, _++_, append-assoc, map, map-map}
+use native.Mathlib.Numerals.{add-one}
+use native.Mathlib.Omega.{arith}
+use lib.ListN.{length, getD, set, take, drop, replicate, length-append, length-drop}
+use lib.Seq.{drop-append-add, drop-drop, length-take-le, paste, sets-eq, take-all, take-at, take-suc}
+use Rattle.model.specs.Base.{joined}
+use Rattle.model.specs.Heap.{Heap}
+use Rattle.model.specs.Edges.{Edge, at}
+use Rattle.model.specs.Records.{edgeRecord, filled, guardBytes, locRecord, shapeRecord, slotByte, twoBytes, updateCode, valByte}
+use Rattle.record.specs.Written.{edgeBytes, locationBytes, shapeBytesOf, taggedBytes, updateBytes}
+use Rattle.record.proofs.ListLaws.{drop-zeros, paste-seam}
+
+regrouped : (a b c d : List ℕ) → a ++ (b ++ (c ++ d)) ≡ ((a ++ b) ++ c) ++ d
+regrouped a b c d = simp append-assoc
+
+-- ---- shapes
+
+-- a record of zeros but for its first four bytes, after the pointers and the successors were copied into it
+pub tagged-is : (tag s k : ℕ) (ps ss d : List ℕ) → length ps ≡ 6 → k ≤ 12 → k ≤ length ss
+    → paste (paste (tag ∷ s ∷ 0 ∷ k ∷ (replicate 28 0 ++ d)) 4 ps 6) 10 ss k ≡ taggedBytes tag s ps ss k ++ d
+tagged-is tag s k ps ss d p h q =
+    let a : List ℕ = tag ∷ s ∷ 0 ∷ k ∷ [] in
+    let z : List ℕ = replicate 22 0 ++ d in
+    let t = take k ss in
+    let all : take 6 ps ≡ ps = take-all 6 ps (omega arith) in
+    let one : paste (a ++ (replicate 28 0 ++ d)) 4 ps 6 ≡ (a ++ ps) ++ z =
+    paste-seam a (replicate 28 0 ++ d) ps 4 6 refl ∙ rw all (sym (append-assoc a ps z)) in
+    let ten : length (a ++ ps) ≡ 10 = length-append a ps ∙ rw p in
+    let m : 28 - length (ps ++ t) ≡ 22 - k = omega (arith, length-append ps t, length-take-le k ss q) in
+    let r : ℕ → List ℕ = λ n. replicate n 0 in
+    ap (λ l. paste l 10 ss k) one ∙ paste-seam (a ++ ps) z ss 10 k ten ∙ ap (λ l. (a ++ ps) ++ (t ++ l)) (drop-zeros k 22 d (omega arith))
+    ∙ ap (λ l. tag ∷ s ∷ 0 ∷ k ∷ l) (regrouped ps t (r (22 - k)) d) ∙ ap (λ n. (a ++ ((ps ++ t) ++ r n)) ++ d) (sym m)
+
+-- what is written for a shape of the model; the first k of ss are its nodes
+module _ (h : Heap) (ps ss : List ℕ) (k : ℕ) (e : k ≡ length (h .slots)) (p : ps ≡ map valByte (h .ptrs)) (q : take k ss ≡ map slotByte (h .slots)) where
+  pub location-record : (s : ℕ) → locationBytes s ps ss k ≡ locRecord (at s h)
+  location-record s = λ i. 0x4c ∷ s ∷ 0 ∷ e i ∷ filled 28 (p i ++ q i)
+
+  pub shape-record : shapeBytesOf ps ss k ≡ shapeRecord h
+  shape-record = λ i. 0x48 ∷ 0 ∷ 0 ∷ e i ∷ filled 28 (p i ++ q i)
+
+-- ---- edges
+
+joined-snoc : (us : List ℕ) (u : ℕ) → joined (map twoBytes (us ++ u ∷ [])) ≡ joined (map twoBytes us) ++ twoBytes u
+joined-snoc [] u = refl
+joined-snoc (x ∷ us) u = ap (λ l. x % 256 ∷ x / 256 ∷ l) (joined-snoc us u)
+
+joined-length : (us : List ℕ) → length (joined (map twoBytes us)) ≡ 2 * length us
+joined-length [] = refl
+joined-length (x ∷ us) = omega (arith, joined-length us)
+
+pub updates-length : (us : List ℕ) (k : ℕ) → k ≤ length us → length (updateBytes us k) ≡ 2 * k
+updates-length us k h = joined-length (take k us) ∙ ap (λ n. 2 * n) (length-take-le k us h)
+
+-- the list p with j updates written from byte 8 on
+abbrev pub withUpdates : List ℕ → List ℕ → ℕ → List ℕ
+withUpdates p us j = take 8 p ++ (updateBytes us j ++ drop (8 + 2 * j) p)
+
+-- one update more
+pub updates-turn : (p us : List ℕ) (j : ℕ) → 8 + 2 * (j + 1) ≤ length p → j < length us
+    → set (set (withUpdates p us j) (8 + 2 * j) (getD us j 0 % 256)) (9 + 2 * j) (getD us j 0 / 256) ≡ withUpdates p us (j + 1)
+updates-turn p us j h k =
+    let u = getD us j 0 in
+    let n = 8 + 2 * j in
+    let pre = take 8 p ++ updateBytes us j in
+    let lp : length pre ≡ n =
+    length-append (take 8 p) (updateBytes us j) ∙ ap₂ _+_ (length-take-le 8 p (omega arith)) (updates-length us j (omega arith)) in
+    let lw : length (pre ++ drop n p) ≡ length p = omega (arith, length-append pre (drop n p), length-drop n p) in
+    let s = sets-eq (twoBytes u) (pre ++ drop n p) n (omega arith) in
+    let t : take n (pre ++ drop n p) ≡ pre = take-at pre (drop n p) n lp in
+    let next : n + 2 ≡ 8 + 2 * (j + 1) = omega arith in
+    let d : drop (n + 2) (pre ++ drop n p) ≡ drop (8 + 2 * (j + 1)) p =
+    ap (λ m. drop (m + 2) (pre ++ drop n p)) (sym lp) ∙ drop-append-add pre (drop n p) 2 ∙ drop-drop 2 n p ∙ ap (λ m. drop m p) next in
+    let more : updateBytes us (j + 1) ≡ updateBytes us j ++ twoBytes u =
+    ap (λ m. updateBytes us m) (add-one j) ∙ ap (λ l. joined (map twoBytes l)) (take-suc us j 0 k) ∙ joined-snoc (take j us) u in
+    let second : 9 + 2 * j ≡ suc n = omega arith in
+    rw (second, ← append-assoc (take 8 p) (updateBytes us j) (drop n p)) s
+    ∙ ap₂ (λ x y. x ++ twoBytes u ++ y) t d ∙ rw more (simp append-assoc)
+
+-- the record of an edge, its first eight bytes and then its updates in a record of zeros
+pub edge-is : (a b c d e f g h : ℕ) (us z : List ℕ) (k : ℕ) → k ≤ 12 → k ≤ length us
+    → withUpdates (a ∷ b ∷ c ∷ d ∷ e ∷ f ∷ g ∷ h ∷ (replicate 24 0 ++ z)) us k
+    ≡ (a ∷ b ∷ c ∷ d ∷ e ∷ f ∷ g ∷ h ∷ filled 24 (updateBytes us k)) ++ z
+edge-is a b c d e f g h us z k p q =
+    let n : 8 + 2 * k ≡ suc (suc (suc (suc (suc (suc (suc (suc (2 * k)))))))) = omega arith in
+    let m : 24 - length (updateBytes us k) ≡ 24 - 2 * k = ap (λ x. 24 - x) (updates-length us k q) in
+    let x : List ℕ = a ∷ b ∷ c ∷ d ∷ e ∷ f ∷ g ∷ h ∷ [] in
+    let w = updateBytes us k in
+    ap (λ i. x ++ (w ++ drop i (x ++ (replicate 24 0 ++ z)))) n ∙ ap (λ l. x ++ (w ++ l)) (drop-zeros (2 * k) 24 z (omega arith))
+    ∙ ap (λ l. x ++ l) (sym (append-assoc w (replicate (24 - 2 * k) 0) z)) ∙ ap (λ i. (x ++ (w ++ replicate i 0)) ++ z) (sym m)
+
+-- what is written for an edge of the model
+pub edge-record : (from to g n k : ℕ) (us : List ℕ) (e : Edge) → guardBytes (e .guard) ≡ g ∷ n ∷ [] → take k us ≡ map updateCode (e .updates)
+    → edgeBytes (e .branchNo) «from» to g n us k ≡ edgeRecord «from» to e
+edge-record from to g n k us e p q =
+    let u : updateBytes us k ≡ joined (map (λ x. twoBytes (updateCode x)) (e .updates)) =
+    ap (λ l. joined (map twoBytes l)) q ∙ ap joined (map-map twoBytes updateCode (e .updates)) in
+    λ i. 0x45 ∷ e .branchNo ∷ (twoBytes «from» ++ twoBytes to ++ sym p i ++ filled 24 (u i))

@@ -1,0 +1,4 @@
+pub mod ListLaws
+pub mod Tests
+pub mod Bytes
+pub mod Placed

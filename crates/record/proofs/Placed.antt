@@ -1,0 +1,43 @@
+-- A part lent from some place on, put back after its front was written; a record put behind those of a table.
+use Prim.Native.Nat.{ℕ, _+_, _-_, _*_, _≤_}
+use mathlib.Core.Path.{_≡_, refl, sym, ap, _∙_}
+use mathlib.Core.Logic.{inl, inr}
+use mathlib.Core.List.{List, [], _∷_, _++_, append-assoc, append-nil}
+use native.Mathlib.Omega.{arith}
+use lib.ListN.{length, take, drop, replicate, drop-of-length-le, length-append, length-drop}
+use lib.Seq.{drop-append-add, drop-drop, take-at}
+use borrow.Rule.Slice.PartMut.{midOf, putMid}
+use Rattle.model.specs.Base.{joined}
+use Rattle.model.specs.Translate.{tableOf}
+use Rattle.model.proofs.Lists.{In}
+use Rattle.record.specs.Written.{placed}
+use Rattle.record.proofs.ListLaws.{drop-zeros, part-from}
+
+-- What a slice xs holds once the part from a on, whose first n elements were written with r, is back.
+pub put-back : (xs r ys : List ℕ) (a n : ℕ) → a + n ≤ length xs → ys ≡ r ++ drop n (midOf a (length xs - a) xs)
+    → putMid a (length xs - a) xs ys ≡ take a xs ++ (r ++ drop (a + n) xs)
+put-back xs r ys a n h e =
+    let l : length (drop a xs) ≤ length xs - a = omega (arith, length-drop a xs) in
+    let p : drop (length xs - a) (drop a xs) ≡ [] = drop-of-length-le (drop a xs) l in
+    rw (e, part-from xs a, p, append-nil, drop-drop)
+
+joined-length : (rs : List (List ℕ)) → ((r : List ℕ) → In r rs → length r ≡ 32) → length (joined rs) ≡ 32 * length rs
+joined-length [] h = refl
+joined-length (r ∷ rs) h = length-append r (joined rs) ∙ omega (arith, h r (inl refl), joined-length rs (λ x q. h x (inr q)))
+
+joined-snoc : (rs : List (List ℕ)) (r : List ℕ) → joined (rs ++ r ∷ []) ≡ joined rs ++ r
+joined-snoc [] r = append-nil r
+joined-snoc (x ∷ rs) r = ap (λ l. x ++ l) (joined-snoc rs r) ∙ sym (append-assoc x (joined rs) r)
+
+-- The table of n bytes with records rs, with one more behind them.
+pub placed-next : (n : ℕ) (rs : List (List ℕ)) (r : List ℕ) → ((x : List ℕ) → In x rs → length x ≡ 32) → 32 * length rs + 32 ≤ n
+    → placed (tableOf n rs) (length rs) r ≡ tableOf n (rs ++ r ∷ [])
+placed-next n rs r w h =
+    let l = joined-length rs w in
+    let z : List ℕ = replicate (n - 32 * length rs) 0 in
+    let m : n - 32 * length (rs ++ r ∷ []) ≡ (n - 32 * length rs) - 32 = omega (arith, length-append rs (r ∷ [])) in
+    let t : take (32 * length rs) (joined rs ++ z) ≡ joined rs = take-at (joined rs) z (32 * length rs) l in
+    let d : drop (32 * length rs + 32) (joined rs ++ z) ≡ replicate ((n - 32 * length rs) - 32) 0 =
+    ap (λ x. drop (x + 32) (joined rs ++ z)) (sym l) ∙ drop-append-add (joined rs) z 32
+    ∙ ap (drop 32) (sym (append-nil z)) ∙ drop-zeros 32 (n - 32 * length rs) [] (omega arith) ∙ append-nil _ in
+    rw (t, d, m, joined-snoc rs r) (sym (append-assoc (joined rs) r (replicate ((n - 32 * length rs) - 32) 0)))

@@ -1,0 +1,45 @@
+-- `write_edge` meets its contract.
+use Prim.Native.Nat.{ℕ, _/_, _%_}
+use mathlib.Core.Path.{ap, _∙_}
+use mathlib.Core.List.{List, [], _∷_}
+use native.Mathlib.Omega.{arith}
+use lib.ListN.{drop, length-set}
+use lib.Seq.{sets}
+use borrow.Author.Needs.{needs}
+use Rattle.record.proofs.Bytes.{edge-is, withUpdates}
+use Rattle.record.proofs.write_edge.Statement.{statement}
+use Rattle.record.proofs.write_edge.Tie as tie
+
+same-length : tie.Need-same-length
+same-length c = omega (arith, simp length-set at (c .before .before .write-updates .kept .0))
+
+returns : tie.Need-returns
+returns c =
+    let a = c .before .before .before .before .before .before .before .before .before .before .args in
+    let low = a .from % 256 in
+    let high = a .from / 256 in
+    c .before .before .write-updates .ensures
+    ∙ ap (λ (l : List ℕ). withUpdates (sets l 0 (0x45 ∷ a .branch ∷ low ∷ high ∷ a .to % 256 ∷ a .to / 256 ∷ a .guard ∷ a .node .0 ∷ [])) (a .updates .now) (a .k))
+    (c .before .before .before .before .before .before .blank .ensures)
+    ∙ edge-is 0x45 (a .branch) low high (a .to % 256) (a .to / 256) (a .guard) (a .node .0) (a .updates .now) (drop 32 (a .part .now)) (a .k) (omega arith) (omega arith)
+
+pub write-edge-spec : {M : Type 1} → statement M
+write-edge-spec =
+    tie.close
+    (tie.spec
+    (λ c κs. search needs)
+    (λ c. search needs)
+    (λ c. simp length-set (omega arith))
+    (λ c. search needs)
+    (λ c. simp length-set (omega arith))
+    (λ c. search needs)
+    (λ c. simp length-set (omega arith))
+    (λ c. search needs)
+    (λ c. simp length-set (omega arith))
+    (λ c. search needs)
+    (λ c. simp length-set (omega arith))
+    (λ c. simp length-set (omega arith))
+    (λ c. simp length-set (omega arith))
+    (λ c κs. simp length-set (omega arith))
+    same-length
+    returns)

@@ -1,0 +1,237 @@
+// Records of 32 bytes: S and H records are checked, L, H and E records written into a lent table.
+pub mod fields;
+
+use fields::all_values;
+use fields::all_zero;
+use fields::fields_ok;
+use fields::head_ok;
+use fields::targets_ok;
+use model::Node;
+use model::Statement;
+ghost use mathlib.Core.Path.{_≡_};
+ghost use mathlib.Core.List.{_++_};
+ghost use Prim.Native.Nat.{_+_, _*_, _≤_, _<_};
+ghost use lib.Dec.{eqb};
+ghost use lib.ListN.{length, take, drop, replicate};
+ghost use lib.Seq.{paste};
+ghost use Rattle.model.specs.Base.{sameList};
+ghost use Rattle.model.specs.Records.{refusalS, layoutH};
+ghost use Rattle.record.specs.Written.{taggedBytes, locationBytes, shapeBytesOf, faultBytes, edgeBytes, updateBytes, placed};
+
+// The refusal of an S record among n statements, 0 for none.
+pub fn statement_refusal(rec: &[u8], n: usize) -> u8
+    requires { ⌜ length (now rec) ≡ 32 ⌝ }
+    ensures { λ r. ⌜ r ≡ refusalS n (now (rec .entry)) ⌝ }
+{
+    if 11 < rec[1] {
+        return 5;
+    }
+    if !fields_ok(rec) {
+        return 6;
+    }
+    if !targets_ok(n, rec) {
+        return 7;
+    }
+    0
+}
+
+// Whether an H record keeps the layout.
+pub fn layout_ok(rec: &[u8]) -> bool
+    requires { ⌜ length (now rec) ≡ 32 ⌝ }
+    ensures { λ r. ⌜ r ≡ layoutH (now (rec .entry)) ⌝ }
+{
+    let k = rec[3];
+    if !head_ok(rec[0], rec[1], rec[2], k) {
+        return false;
+    }
+    let end = 10 + k as usize;
+    all_values(&rec[4..end], k) && all_zero(&rec[end..])
+}
+
+// Whether two records are equal.
+pub fn same_record(a: &[u8], b: &[u8]) -> bool
+    requires { ⌜ (length (now a) ≡ 32) × (length (now b) ≡ 32) ⌝ }
+    ensures { λ r. ⌜ r ≡ sameList eqb (now (a .entry)) (now (b .entry)) ⌝ }
+{
+    let mut i = 0;
+    while i < 32 {
+        if a[i] != b[i] {
+            return false;
+        }
+        i += 1;
+    }
+    true
+}
+
+// ---- writing: each writer is lent the part of a table that starts at its record
+
+// Makes the first 32 bytes zero.
+fn blank(part: &mut [u8])
+    requires { ⌜ 32 ≤ length (now part) ⌝ }
+    ensures { λ _. ⌜ now (part .exit) ≡ replicate 32 0 ++ drop 32 (now (part .entry)) ⌝ }
+{
+    let mut i = 0;
+    while i < 32 {
+        part[i] = 0;
+        i += 1;
+    }
+}
+
+// Copies the first n bytes of `bytes` to place `at` and on.
+fn copy_at(part: &mut [u8], at: usize, bytes: &[u8], n: usize)
+    requires { ⌜ (at + n ≤ length (now part)) × (n ≤ length (now bytes)) ⌝ }
+    ensures { λ _. ⌜ now (part .exit) ≡ paste (now (part .entry)) at (now (bytes .entry)) n ⌝ }
+{
+    let mut i = 0;
+    while i < n {
+        part[at + i] = bytes[i];
+        i += 1;
+    }
+}
+
+// An L or H record without fault, by its tag: the statement, the node count, the six pointers and k successors.
+fn write_tagged(
+    part: &mut [u8],
+    tag: u8,
+    statement: Statement,
+    pointers: &[u8],
+    successors: &[u8],
+    k: usize,
+)
+    requires { ⌜ (32 ≤ length (now part)) × (length (now pointers) ≡ 6) × (k ≤ 12) × (k ≤ length (now successors)) ⌝ }
+    ensures { λ _. ⌜ now (part .exit) ≡ taggedBytes tag (statement .0) (now (pointers .entry)) (now (successors .entry)) k ++ drop 32 (now (part .entry)) ⌝ }
+{
+    blank(part);
+    part[0] = tag;
+    part[1] = statement.0;
+    part[3] = k as u8;
+    copy_at(part, 4, pointers, 6);
+    copy_at(part, 10, successors, k);
+}
+
+// An L record without fault: the statement and the shape of k nodes.
+pub fn write_location(
+    part: &mut [u8],
+    statement: Statement,
+    pointers: &[u8],
+    successors: &[u8],
+    k: usize,
+)
+    requires { ⌜ (32 ≤ length (now part)) × (length (now pointers) ≡ 6) × (k ≤ 12) × (k ≤ length (now successors)) ⌝ }
+    ensures { λ _. ⌜ now (part .exit) ≡ locationBytes (statement .0) (now (pointers .entry)) (now (successors .entry)) k ++ drop 32 (now (part .entry)) ⌝ }
+{
+    write_tagged(part, 0x4c, statement, pointers, successors, k);
+}
+
+// An H record: the shape of k nodes.
+pub fn write_shape(part: &mut [u8], pointers: &[u8], successors: &[u8], k: usize)
+    requires { ⌜ (32 ≤ length (now part)) × (length (now pointers) ≡ 6) × (k ≤ 12) × (k ≤ length (now successors)) ⌝ }
+    ensures { λ _. ⌜ now (part .exit) ≡ shapeBytesOf (now (pointers .entry)) (now (successors .entry)) k ++ drop 32 (now (part .entry)) ⌝ }
+{
+    write_tagged(part, 0x48, Statement(0), pointers, successors, k);
+}
+
+// An L record with a fault: the statement that faulted.
+pub fn write_fault(part: &mut [u8], statement: Statement, fault: u8)
+    requires { ⌜ 32 ≤ length (now part) ⌝ }
+    ensures { λ _. ⌜ now (part .exit) ≡ faultBytes (statement .0) fault ++ drop 32 (now (part .entry)) ⌝ }
+{
+    blank(part);
+    part[0] = 0x4c;
+    part[1] = statement.0;
+    part[2] = fault;
+}
+
+// The first k updates, two bytes each, the low byte first, from byte 8 on.
+fn write_updates(part: &mut [u8], updates: &[u16], k: usize)
+    requires { ⌜ (8 + 2 * k ≤ length (now part)) × (k ≤ length (now updates)) ⌝ }
+    ensures { λ _. ⌜ now (part .exit) ≡ take 8 (now (part .entry)) ++ (updateBytes (now (updates .entry)) k ++ drop (8 + 2 * k) (now (part .entry))) ⌝ }
+{
+    let mut j = 0;
+    while j < k {
+        let update = updates[j];
+        part[8 + 2 * j] = (update % 256) as u8;
+        part[9 + 2 * j] = (update / 256) as u8;
+        j += 1;
+    }
+}
+
+// An E record with k updates.
+pub fn write_edge(
+    part: &mut [u8],
+    branch: u8,
+    from: usize,
+    to: usize,
+    guard: u8,
+    node: Node,
+    updates: &[u16],
+    k: usize,
+)
+    requires { ⌜ (32 ≤ length (now part)) × (from < 65536) × (to < 65536) × (k ≤ 12) × (k ≤ length (now updates)) ⌝ }
+    ensures { λ _. ⌜ now (part .exit) ≡ edgeBytes branch from to guard (node .0) (now (updates .entry)) k ++ drop 32 (now (part .entry)) ⌝ }
+{
+    blank(part);
+    part[0] = 0x45;
+    part[1] = branch;
+    part[2] = (from % 256) as u8;
+    part[3] = (from / 256) as u8;
+    part[4] = (to % 256) as u8;
+    part[5] = (to / 256) as u8;
+    part[6] = guard;
+    part[7] = node.0;
+    write_updates(part, updates, k);
+}
+
+// ---- records in their place: the part of the table from 32 times the record number on is lent to the writer
+
+pub fn put_location(
+    table: &mut [u8],
+    n: usize,
+    statement: Statement,
+    pointers: &[u8],
+    successors: &[u8],
+    k: usize,
+)
+    requires { ⌜ (32 * n + 32 ≤ length (now table)) × (length (now pointers) ≡ 6) × (k ≤ 12) × (k ≤ length (now successors)) ⌝ }
+    ensures { λ _. ⌜ now (table .exit) ≡ placed (now (table .entry)) n (locationBytes (statement .0) (now (pointers .entry)) (now (successors .entry)) k) ⌝ }
+{
+    let at = 32 * n;
+    write_location(&mut table[at..], statement, pointers, successors, k);
+}
+
+pub fn put_fault(table: &mut [u8], n: usize, statement: Statement, fault: u8)
+    requires { ⌜ 32 * n + 32 ≤ length (now table) ⌝ }
+    ensures { λ _. ⌜ now (table .exit) ≡ placed (now (table .entry)) n (faultBytes (statement .0) fault) ⌝ }
+{
+    let at = 32 * n;
+    write_fault(&mut table[at..], statement, fault);
+}
+
+pub fn put_edge(
+    table: &mut [u8],
+    n: usize,
+    branch: u8,
+    from: usize,
+    to: usize,
+    guard: u8,
+    node: Node,
+    updates: &[u16],
+    k: usize,
+)
+    requires { ⌜ (32 * n + 32 ≤ length (now table)) × (from < 65536) × (to < 65536) × (k ≤ 12) × (k ≤ length (now updates)) ⌝ }
+    ensures { λ _. ⌜ now (table .exit) ≡ placed (now (table .entry)) n (edgeBytes branch from to guard (node .0) (now (updates .entry)) k) ⌝ }
+{
+    let at = 32 * n;
+    write_edge(&mut table[at..], branch, from, to, guard, node, updates, k);
+}
+
+// Clears a table.
+pub fn clear(table: &mut [u8])
+    ensures { λ _. ⌜ now (table .exit) ≡ replicate (length (now (table .entry))) 0 ⌝ }
+{
+    let mut i = 0;
+    while i < table.len() {
+        table[i] = 0;
+        i += 1;
+    }
+}

@@ -1,0 +1,4 @@
+pub mod ListLaws
+pub mod Keys
+pub mod Table
+pub mod Found

@@ -1,0 +1,75 @@
+// Looking for a known location among the records of the location table.
+ghost use mathlib.Core.Path.{_≡_};
+ghost use Prim.Native.Nat.{_+_, _*_, _≤_};
+ghost use lib.Dec.{eqb};
+ghost use lib.ListN.{length, take, drop};
+ghost use Rattle.model.specs.Base.{sameList};
+ghost use Rattle.model.specs.Records.{word};
+ghost use Rattle.search.specs.Search.{foundAt, fourAt, keyAt};
+
+// Two bytes as a number, the low byte first.
+fn two(t: &[u8], at: usize) -> u16
+    requires { ⌜ at + 2 ≤ length (now t) ⌝ }
+    ensures { λ r. ⌜ r ≡ word (now (t .entry)) at ⌝ }
+{
+    t[at] as u16 + 0x100 * (t[at + 1] as u16)
+}
+
+// Four bytes as a number, the low byte first.
+fn four(t: &[u8], at: usize) -> u32
+    requires { ⌜ at + 4 ≤ length (now t) ⌝ }
+    ensures { λ r. ⌜ r ≡ fourAt (now (t .entry)) at ⌝ }
+{
+    two(t, at) as u32 + 0x1_0000 * (two(t, at + 2) as u32)
+}
+
+// The key of the record at `at`: bytes 1 to 8, in which most locations differ (statement, fault, node count, five pointers).
+// The compiler makes one load of it, so that most records are passed by one comparison.
+fn key(t: &[u8], at: usize) -> u64
+    requires { ⌜ at + 9 ≤ length (now t) ⌝ }
+    ensures { λ r. ⌜ r ≡ keyAt (now (t .entry)) at ⌝ }
+{
+    four(t, at + 1) as u64 + 0x1_0000_0000 * (four(t, at + 5) as u64)
+}
+
+// Whether the 32 bytes at `at` are those of rec; it stops at the first that differs.
+fn same_at(table: &[u8], at: usize, rec: &[u8]) -> bool
+    requires { ⌜ (at + 32 ≤ length (now table)) × (length (now rec) ≡ 32) ⌝ }
+    ensures { λ r. ⌜ r ≡ sameList eqb (take 32 (drop at (now (table .entry)))) (now (rec .entry)) ⌝ }
+{
+    let mut i = 0;
+    while i < 32 {
+        if table[at + i] != rec[i] {
+            return false;
+        }
+        i += 1;
+    }
+    true
+}
+
+// The same, with the keys compared first.
+fn same_by_key(table: &[u8], at: usize, rec: &[u8], k: u64) -> bool
+    requires { ⌜ (at + 32 ≤ length (now table)) × (length (now rec) ≡ 32) × (k ≡ keyAt (now rec) 0) ⌝ }
+    ensures { λ r. ⌜ r ≡ sameList eqb (take 32 (drop at (now (table .entry)))) (now (rec .entry)) ⌝ }
+{
+    if key(table, at) != k {
+        return false;
+    }
+    same_at(table, at, rec)
+}
+
+// The first of the table's `count` records that equals rec, or `count`.
+pub fn find(table: &[u8], count: usize, rec: &[u8]) -> usize
+    requires { ⌜ (32 * count ≤ length (now table)) × (length (now rec) ≡ 32) ⌝ }
+    ensures { λ r. ⌜ r ≡ foundAt (now (table .entry)) (now (rec .entry)) count ⌝ }
+{
+    let k = key(rec, 0);
+    let mut i = 0;
+    while i < count {
+        if same_by_key(table, 32 * i, rec, k) {
+            return i;
+        }
+        i += 1;
+    }
+    count
+}

@@ -1,0 +1,80 @@
+// The visit order cut into segments, and the values of the folded shape.
+ghost use mathlib.Core.Path.{_≡_};
+ghost use mathlib.Core.List.{_++_, map};
+ghost use Prim.Native.Nat.{_<_, _≤_};
+ghost use lib.ListN.{length, getD, take, drop};
+ghost use Rattle.segment.specs.Cut.{CutReady, IsCut, Put, PutReady, heldCore, segs};
+ghost use Rattle.segment.specs.Fold.{foldByte, AllIn, LastsIn};
+
+// One cell more, where k segments have begun: a core cell begins one, any other goes behind the last.
+fn put(c: u8, k: usize, held: &[u8], node: &mut [u8], last: &mut [u8], size: &mut [u32]) -> usize
+    requires { ⌜ PutReady c k (now held) (now node) (now last) (now size) ⌝ }
+    ensures { λ r. ⌜ Put (heldCore (now (held .entry)) c) c k (now (node .entry)) (now (last .entry)) (now (size .entry)) (now (node .exit)) (now (last .exit)) (now (size .exit)) r ⌝ }
+{
+    if 2 <= held[c as usize] {
+        node[c as usize] = k as u8;
+        last[k] = c;
+        size[k] = 1;
+        return k + 1;
+    }
+    let j = k - 1;
+    node[c as usize] = j as u8;
+    last[j] = c;
+    size[j] += 1;
+    k
+}
+
+// Cuts the first n cells of the order before each core cell. Of each segment it keeps the last cell and the size, of each
+// cell the number of its segment, and it answers how many segments there are.
+pub fn cut(
+    order: &[u8],
+    n: usize,
+    held: &[u8],
+    node: &mut [u8],
+    last: &mut [u8],
+    size: &mut [u32],
+) -> usize
+    requires { ⌜ CutReady (now order) n (now held) (now node) (now last) (now size) ⌝ }
+    ensures { λ r. ⌜ IsCut (segs (now (held .entry)) (take n (now (order .entry)))) (now (node .exit)) (now (last .exit)) (now (size .exit)) r ⌝ }
+{
+    let mut k = 0;
+    let mut i = 0;
+    while i < n {
+        k = put(order[i], k, held, node, last, size);
+        i += 1;
+    }
+    k
+}
+
+// A byte in terms of nodes: a cell becomes its node.
+pub fn fold_byte(b: u8, node: &[u8]) -> u8
+    requires { ⌜ (b < 0xfd → b < length (now node)) ⌝ }
+    ensures { λ r. ⌜ r ≡ foldByte (now (node .entry)) b ⌝ }
+{
+    if b < 0xfd { node[b as usize] } else { b }
+}
+
+// The values, each in terms of nodes.
+pub fn fold_values(values: &[u8], node: &[u8], to: &mut [u8])
+    requires { ⌜ (length (now values) ≤ length (now to)) × AllIn (now node) (now values) ⌝ }
+    ensures { λ _. ⌜ now (to .exit) ≡ map (foldByte (now (node .entry))) (now (values .entry)) ++ drop (length (now (values .entry))) (now (to .entry)) ⌝ }
+{
+    let mut i = 0;
+    while i < values.len() {
+        to[i] = fold_byte(values[i], node);
+        i += 1;
+    }
+}
+
+// What the first k of the cells `last` hold, in terms of nodes.
+pub fn fold_successors(cells: &[u8], last: &[u8], k: usize, node: &[u8], to: &mut [u8])
+    requires { ⌜ (k ≤ length (now last)) × (k ≤ length (now to)) × LastsIn (now node) (now cells) (now last) k ⌝ }
+    ensures { λ _. ⌜ now (to .exit) ≡ map (λ c. foldByte (now (node .entry)) (getD (now (cells .entry)) c 0)) (take k (now (last .entry))) ++ drop k (now (to .entry)) ⌝ }
+{
+    let mut i = 0;
+    while i < k {
+        let c = last[i] as usize;
+        to[i] = fold_byte(cells[c], node);
+        i += 1;
+    }
+}

@@ -1,0 +1,4 @@
+pub mod Walking
+pub mod Losing
+pub mod Holding
+pub mod Numbering

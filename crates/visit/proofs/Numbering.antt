@@ -1,0 +1,53 @@
+-- The test `canonical` from a visit and the counts of holders.
+use Prim.Native.Nat.{ℕ, _<_, _≤_}
+use native.Mathlib.Nat.{zero-add}
+use native.Mathlib.Omega.{arith}
+use mathlib.Core.Path.{_≡_, refl, sym, ap, ap₂, _∙_}
+use mathlib.Core.Bool.{Bool, true, false, _&&_}
+use mathlib.Core.List.{List, map}
+use lib.Dec.{eqb, leb}
+use lib.ListN.{length, getD, take, length-map}
+use lib.Seq.{getD-take, length-take-le}
+use Rattle.model.specs.Base.{all, numbers, sameList}
+use Rattle.model.specs.Heap.{kept, order}
+use Rattle.model.specs.Image.{cellSlot, heapOf}
+use Rattle.model.specs.Shape.{allCore, canonical, core, numbered}
+use Rattle.visit.specs.Laws.{visited-length}
+use Rattle.visit.specs.ListLaws.{all-both, numbered-by, numbered-length, numbers-same}
+use Rattle.visit.specs.Steps.{placed}
+use Rattle.visit.specs.Visit.{Held, Visited}
+
+and-false : (a : Bool) → a && false ≡ false
+and-false true = refl
+and-false false = refl
+
+-- the order leaves a cell out
+pub not-numbered : {ps cs o s : List ℕ} {r : ℕ} → Visited ps cs o s r → length cs ≤ length o → (r ≡ length cs → ⊥) → canonical (heapOf ps cs) ≡ false
+not-numbered {ps = ps} {cs = cs} {r = r} x k ne =
+    let n : length (order (heapOf ps cs)) ≡ length (map cellSlot cs) → ⊥ = λ e. ne (sym (visited-length x k) ∙ e ∙ length-map cs cellSlot) in
+    ap (λ b. (kept (heapOf ps cs) && allCore (heapOf ps cs)) && b) (numbered-length (order (heapOf ps cs)) (length (map cellSlot cs)) n)
+    ∙ and-false (kept (heapOf ps cs) && allCore (heapOf ps cs))
+
+pub not-kept : (ps cs : List ℕ) → kept (heapOf ps cs) ≡ false → canonical (heapOf ps cs) ≡ false
+not-kept ps cs e = ap (λ b. (b && allCore (heapOf ps cs)) && numbered (heapOf ps cs)) e
+
+module _ {ps cs o s : List ℕ} {r : ℕ} (x : Visited ps cs o s r) (k : length cs ≤ length o) (e : r ≡ length cs) where
+  count-is : length (map cellSlot cs) ≡ r
+  count-is = length-map cs cellSlot ∙ sym e
+
+  core-held : (h : List ℕ) → Held ps cs h → allCore (heapOf ps cs) ≡ all (λ c. leb 2 (getD h c 0)) (numbers 0 r)
+  core-held h d =
+      ap (λ n. all (core (heapOf ps cs)) (numbers 0 n)) count-is
+      ∙ numbers-same (core (heapOf ps cs)) (λ c. leb 2 (getD h c 0)) 0 r (λ c lo hi. sym (d c (omega arith)))
+
+  numbered-placed : numbered (heapOf ps cs) ≡ all (λ c. eqb (getD o c 0) c) (numbers 0 r)
+  numbered-placed =
+      let l : length (take r o) ≡ r = length-take-le r o (omega arith) in
+      ap₂ (λ a n. sameList eqb a (numbers 0 n)) (sym (x .visited)) (count-is ∙ sym l)
+      ∙ numbered-by (λ c. getD o c 0) (take r o) 0 (λ j q. let i : j < r = omega arith in rw (zero-add j) (getD-take r o j 0 i))
+      ∙ ap (λ n. all (λ c. eqb (getD o c 0) c) (numbers 0 n)) l
+
+  pub canonical-placed : (h : List ℕ) → Held ps cs h → kept (heapOf ps cs) ≡ true → canonical (heapOf ps cs) ≡ all (placed o h) (numbers 0 r)
+  canonical-placed h d t =
+      ap (λ b. (b && allCore (heapOf ps cs)) && numbered (heapOf ps cs)) t ∙ ap₂ _&&_ (core-held h d) numbered-placed
+      ∙ sym (all-both (λ c. leb 2 (getD h c 0)) (λ c. eqb (getD o c 0) c) (numbers 0 r))

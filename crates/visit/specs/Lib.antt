@@ -1,0 +1,5 @@
+pub mod Visit
+pub mod Steps
+pub mod ListLaws
+pub mod ByteLaws
+pub mod Laws

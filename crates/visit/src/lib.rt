@@ -1,0 +1,245 @@
+// The visit of a heap image: the cells in order of first visit, the test for lost cells, and the core cells.
+// A heap image is pointer bytes and cell bytes: a cell number, 0xfe null, 0xff undefined, for a cell 0xfd not in use.
+// Each is linear in the number of cells: a cell is marked when seen, its holders are counted once.
+ghost use mathlib.Core.Path.{_≡_};
+ghost use mathlib.Core.Bool.{true, not};
+ghost use mathlib.Core.List.{map};
+ghost use Prim.Native.Nat.{_≤_, _<_};
+ghost use lib.Dec.{eqb};
+ghost use lib.ListN.{length, getD, take};
+ghost use Rattle.model.specs.Base.{all, numbers};
+ghost use Rattle.model.specs.Heap.{closed, eachUsed, named, slotNamed};
+ghost use Rattle.model.specs.Image.{cellSlot, heapOf};
+ghost use Rattle.model.specs.Records.{valOf};
+ghost use Rattle.model.specs.Shape.{canonical};
+ghost use Rattle.visit.specs.Visit.{VisitReady, Visited, HoldReady, Held};
+ghost use Rattle.visit.specs.Steps.{slotAt, WalkReady, Walked, lostAt, heldOnce, heldTwice, CellsCounted, PointersCounted, placed};
+
+// ---- values name cells in use
+
+// Whether a value is null, undefined or a cell in use.
+fn is_named(cells: &[u8], v: u8) -> bool
+    ensures { λ r. ⌜ r ≡ named (slotAt (now (cells .entry))) (valOf v) ⌝ }
+{
+    if v == 0xfe {
+        return true;
+    }
+    if v == 0xff {
+        return true;
+    }
+    let c = v as usize;
+    if c < cells.len() {
+        cells[c] != 0xfd
+    } else {
+        false
+    }
+}
+
+// The same of what a cell byte holds; a cell that is not in use holds nothing.
+fn slot_named(cells: &[u8], b: u8) -> bool
+    ensures { λ r. ⌜ r ≡ slotNamed (slotAt (now (cells .entry))) (cellSlot b) ⌝ }
+{
+    if b == 0xfd {
+        return true;
+    }
+    is_named(cells, b)
+}
+
+fn pointers_named(pointers: &[u8], cells: &[u8]) -> bool
+    ensures { λ r. ⌜ r ≡ all (named (slotAt (now (cells .entry)))) (map valOf (now (pointers .entry))) ⌝ }
+{
+    let mut i = 0;
+    while i < pointers.len() {
+        if !is_named(cells, pointers[i]) {
+            return false;
+        }
+        i += 1;
+    }
+    true
+}
+
+fn cells_named(cells: &[u8]) -> bool
+    ensures { λ r. ⌜ r ≡ all (slotNamed (slotAt (now (cells .entry)))) (map cellSlot (now (cells .entry))) ⌝ }
+{
+    let mut i = 0;
+    while i < cells.len() {
+        if !slot_named(cells, cells[i]) {
+            return false;
+        }
+        i += 1;
+    }
+    true
+}
+
+// Whether every pointer, and every cell in use, names only cells in use.
+pub fn is_closed(pointers: &[u8], cells: &[u8]) -> bool
+    requires { ⌜ length (now cells) ≤ 240 ⌝ }
+    ensures { λ r. ⌜ r ≡ closed (heapOf (now (pointers .entry)) (now (cells .entry))) ⌝ }
+{
+    if pointers_named(pointers, cells) {
+        cells_named(cells)
+    } else {
+        false
+    }
+}
+
+// ---- the order of first visit
+
+// Follows nexts from the value start until null, undefined or a cell seen before. A new cell is marked and put behind the
+// count cells of the order; the answer is how many there are then.
+fn walk_from(cells: &[u8], order: &mut [u8], seen: &mut [u8], count: usize, start: u8) -> usize
+    requires { ⌜ WalkReady (now cells) (now order) (now seen) count start ⌝ }
+    ensures { λ r. ⌜ Walked (now (cells .entry)) (take count (now (order .entry))) start (now (order .exit)) (now (seen .exit)) r ⌝ }
+{
+    let mut n = count;
+    let mut v = start as usize;
+    // null and undefined are past the last cell
+    while v < cells.len() {
+        if seen[v] != 0 {
+            return n;
+        }
+        seen[v] = 1;
+        order[n] = v as u8;
+        n += 1;
+        v = cells[v] as usize;
+    }
+    n
+}
+
+// The cells in order of first visit, one walk for each pointer in turn; `seen` then marks exactly these.
+pub fn visit(pointers: &[u8], cells: &[u8], order: &mut [u8], seen: &mut [u8]) -> usize
+    requires { ⌜ VisitReady (now pointers) (now cells) (now order) (now seen) ⌝ }
+    ensures { λ r. ⌜ Visited (now (pointers .entry)) (now (cells .entry)) (now (order .exit)) (now (seen .exit)) r ⌝ }
+{
+    let mut n: usize = 0;
+    let mut i = 0;
+    while i < pointers.len() {
+        n = walk_from(cells, order, seen, n, pointers[i]);
+        i += 1;
+    }
+    n
+}
+
+// ---- lost cells
+
+// Whether a cell that holds the byte b is lost: in use and without a mark.
+fn is_lost(b: u8, mark: u8) -> bool
+    ensures { λ r. ⌜ r ≡ lostAt b mark ⌝ }
+{
+    if b == 0xfd {
+        return false;
+    }
+    mark == 0
+}
+
+// Whether every cell in use has a mark.
+pub fn nothing_lost(cells: &[u8], seen: &[u8]) -> bool
+    requires { ⌜ length (now cells) ≤ length (now seen) ⌝ }
+    ensures { λ r. ⌜ r ≡ eachUsed (λ c. not (eqb (getD (now (seen .entry)) c 0) 0)) 0 (map cellSlot (now (cells .entry))) ⌝ }
+{
+    let mut i = 0;
+    while i < cells.len() {
+        if is_lost(cells[i], seen[i]) {
+            return false;
+        }
+        i += 1;
+    }
+    true
+}
+
+// ---- core cells
+
+// A cell holds the value v: its count goes up by one, and stands at 2.
+fn hold_once(held: &mut [u8], n: usize, v: u8)
+    requires { ⌜ n ≤ length (now held) ⌝ }
+    ensures { λ _. ⌜ now (held .exit) ≡ heldOnce n v (now (held .entry)) ⌝ }
+{
+    let c = v as usize;
+    if c < n {
+        if held[c] < 2 {
+            held[c] += 1;
+        }
+    }
+}
+
+// A pointer holds the value v: that alone makes a cell core.
+fn hold_twice(held: &mut [u8], n: usize, v: u8)
+    requires { ⌜ n ≤ length (now held) ⌝ }
+    ensures { λ _. ⌜ now (held .exit) ≡ heldTwice n v (now (held .entry)) ⌝ }
+{
+    let c = v as usize;
+    if c < n {
+        held[c] = 2;
+    }
+}
+
+fn count_cells(cells: &[u8], held: &mut [u8])
+    requires { ⌜ (length (now cells) ≤ 240) × (length (now cells) ≤ length (now held)) ⌝ }
+    ensures { λ _. ⌜ CellsCounted (now (cells .entry)) (now (held .entry)) (now (held .exit)) ⌝ }
+{
+    let n = cells.len();
+    let mut i = 0;
+    while i < n {
+        hold_once(held, n, cells[i]);
+        i += 1;
+    }
+}
+
+fn count_pointers(pointers: &[u8], n: usize, held: &mut [u8])
+    requires { ⌜ (n ≤ 240) × (n ≤ length (now held)) ⌝ }
+    ensures { λ _. ⌜ PointersCounted n (now (pointers .entry)) (now (held .entry)) (now (held .exit)) ⌝ }
+{
+    let mut i = 0;
+    while i < pointers.len() {
+        hold_twice(held, n, pointers[i]);
+        i += 1;
+    }
+}
+
+// Counts the holders of each cell, to 2 at most: 2 for a core cell, less for any other.
+pub fn count_holders(pointers: &[u8], cells: &[u8], held: &mut [u8])
+    requires { ⌜ HoldReady (now pointers) (now cells) (now held) ⌝ }
+    ensures { λ _. ⌜ Held (now (pointers .entry)) (now (cells .entry)) (now (held .exit)) ⌝ }
+{
+    count_cells(cells, held);
+    count_pointers(pointers, cells.len(), held);
+}
+
+// ---- canonical heaps
+
+// Whether each of n cells is core and stands in the order at its own place.
+fn all_placed(order: &[u8], held: &[u8], n: usize) -> bool
+    requires { ⌜ (n ≤ length (now order)) × (n ≤ length (now held)) ⌝ }
+    ensures { λ r. ⌜ r ≡ all (placed (now (order .entry)) (now (held .entry))) (numbers 0 n) ⌝ }
+{
+    let mut i = 0;
+    while i < n {
+        if held[i] < 2 {
+            return false;
+        }
+        if order[i] as usize != i {
+            return false;
+        }
+        i += 1;
+    }
+    true
+}
+
+// Whether every cell is reachable and core, and the cells are numbered as the walks visit them.
+pub fn is_canonical(pointers: &[u8], cells: &[u8]) -> bool
+    requires { ⌜ (closed (heapOf (now pointers) (now cells)) ≡ true) × (length (now cells) ≤ 12) ⌝ }
+    ensures { λ r. ⌜ r ≡ canonical (heapOf (now (pointers .entry)) (now (cells .entry))) ⌝ }
+{
+    let mut order = [0u8; 16];
+    let mut seen = [0u8; 16];
+    let n = visit(pointers, cells, &mut order, &mut seen);
+    if n != cells.len() {
+        return false;
+    }
+    if !nothing_lost(cells, &seen) {
+        return false;
+    }
+    let mut held = [0u8; 16];
+    count_holders(pointers, cells, &mut held);
+    all_placed(&order, &held, n)
+}

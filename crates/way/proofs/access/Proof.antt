@@ -1,0 +1,50 @@
+-- `way::access` meets its contract: each op that reads, writes or frees does so through its pointer, and no other op does.
+use mathlib.Core.Path.{_≡_}
+use borrow.Author.Needs.{needs}
+use Rattle.model.specs.Image.{heapOf}
+use Rattle.way.proofs.Through.{access-none}
+use Rattle.way.proofs.access.Statement.{statement}
+use Rattle.way.proofs.access.Tie as tie
+
+returns : tie.Need-returns
+returns c cs =
+    let a = c .before .before .before .args in
+    let e : a .op ≡ 3 = search needs in
+    rw e (c .held-by .ensures cs)
+
+returns-2 : tie.Need-returns-2
+returns-2 c cs =
+    let a = c .before .before .before .args in
+    let e : a .op ≡ 4 = search needs in
+    rw e (c .held-by2 .ensures cs)
+
+returns-3 : tie.Need-returns-3
+returns-3 c cs =
+    let a = c .before .before .before .args in
+    let e : a .op ≡ 5 = search needs in
+    rw e (c .held-by3 .ensures cs)
+
+returns-4 : tie.Need-returns-4
+returns-4 c cs =
+    let a = c .before .before .before .args in
+    let e : a .op ≡ 7 = search needs in
+    rw e (c .held-by4 .ensures cs)
+
+returns-5 : tie.Need-returns-5
+returns-5 c cs =
+    let a = c .before .before .args in
+    access-none (a .op) (a .u .0) (a .w .0) (heapOf (a .pointers .now) cs) (search needs) (search needs) (search needs) (search needs)
+
+pub access-spec : {M : Type 1} → statement M
+access-spec =
+    tie.close
+    (tie.spec
+    (λ c κs. search needs)
+    (λ c κs. search needs)
+    (λ c κs. search needs)
+    (λ c κs. search needs)
+    returns
+    returns-2
+    returns-3
+    returns-4
+    returns-5)

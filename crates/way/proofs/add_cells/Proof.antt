@@ -1,0 +1,107 @@
+-- `way::add_cells` meets its contract: after i cells each entry has grown by what those of its node add, and is at most 4096 for each.
+use Prim.Native.Nat.{_+_, _-_, _<_, _≤_}
+use mathlib.Core.Path.{_≡_, refl, ap, _∙_}
+use native.Mathlib.Omega.{arith}
+use lib.ListN.{getD, length, length-set}
+use lib.Seq.{take-all}
+use borrow.Author.Needs.{needs}
+use Rattle.way.specs.Way.{plusOf, sumAt}
+use Rattle.way.proofs.ListLaws.{mem-at}
+use Rattle.way.proofs.Sums.{Added, added-more, added-none}
+use Rattle.way.proofs.add_cells.Statement.{statement}
+use Rattle.way.proofs.add_cells.Tie as tie
+
+abbrev Inv-loop : tie.InvT-loop
+Inv-loop cells node k split at updates₀ i₀ updates i =
+    (i ≤ length cells) × (length updates ≡ length updates₀) × Added node (plusOf split (at .0) k) cells updates₀ updates i
+
+abbrev μ-loop : tie.MeasureT-loop
+μ-loop cells node k split at updates₀ i₀ updates i = length cells - i
+
+loop-holds : tie.Need-loop-holds Inv-loop μ-loop
+loop-holds c =
+    let s = c .before .before .before in
+    let a = s .args in
+    (omega arith, refl, added-none (a .node .now) (plusOf (a .split) (a .at .0) (a .k)) (a .cells .now) (a .updates .now) (s .pre .1))
+
+shared-slice-read-j : tie.Need-shared-slice-read-j Inv-loop μ-loop
+shared-slice-read-j c =
+    let s = c .before .before .before .before .before .before .before in
+    let i = c .before .before .before .loop .i in
+    let cells = s .args .cells .now in
+    s .pre .0 .1 .tabled (getD cells i 0) (mem-at cells i (search needs))
+
+cell-plus-requires : tie.Need-cell-plus-requires Inv-loop μ-loop
+cell-plus-requires c κs =
+    let s = c .before .before .before .before .before .before .before in
+    let i = c .before .before .before .loop .i in
+    let cells = s .args .cells .now in
+    let r = s .pre .0 .1 in
+    (r .below (getD cells i 0) (mem-at cells i (search needs)), r .fewOld, r .isNode)
+
+mul-updates : tie.Need-mul-updates Inv-loop μ-loop
+mul-updates c =
+    omega (arith, c .before .shared-slice-known4 .given (getD (c .before .before .before .before .before .before .before .before .args .cells .now) (c .before .before .before .before .loop .i) 0))
+
+-- the cell's node has an entry
+node-below : (c : tie.After-slice-known2 Inv-loop μ-loop)
+    → getD (c .before .before .before .before .before .before .before .before .before .args .node .now) (getD (c .before .before .before .before .before .before .before .before .before .args .cells .now) (c .before .before .before .before .before .loop .i) 0) 0 < length (c .before .before .before .before .before .loop .updates)
+node-below c =
+    let s = c .before .before .before .before .before .before .before .before .before in
+    let i = c .before .before .before .before .before .loop .i in
+    let cells = s .args .cells .now in
+    omega (arith, s .pre .0 .1 .nodes (getD cells i 0) (mem-at cells i (search needs)))
+
+slice-read-updates : tie.Need-slice-read-updates Inv-loop μ-loop
+slice-read-updates c = node-below c
+
+add-updates : tie.Need-add-updates Inv-loop μ-loop
+add-updates c =
+    let s = c .before .before .before .before .before .before .before .before .before in
+    let l = c .before .before .before .before .before .loop in
+    let t = getD (s .args .node .now) (getD (s .args .cells .now) (l .i) 0) 0 in
+    let lt : t < length (s .args .updates .now) = omega (arith, node-below c) in
+    omega (arith, l .inv .2 t lt .1, s .pre .0 .0, c .before .cell-plus .ensures .1)
+
+slice-write-updates : tie.Need-slice-write-updates Inv-loop μ-loop
+slice-write-updates c = node-below c
+
+loop-again : tie.Need-loop-again Inv-loop μ-loop
+loop-again c =
+    let a = c .before .before .before .before .before .before .before .before .before .args in
+    let l = c .before .before .before .before .before .loop in
+    let p = c .before .cell-plus in (
+      omega arith,
+      simp length-set (l .inv .1),
+      added-more (a .node .now) (plusOf (a .split) (a .at .0) (a .k)) (a .cells .now) (a .updates .now) (l .updates) (l .i) (p .result)
+          (omega arith) (l .inv .1) (node-below c) (p .ensures .0) (p .ensures .1) (l .inv .2),
+    )
+
+returns : tie.Need-returns Inv-loop μ-loop
+returns c j lt =
+    let a = c .before .before .before .before .before .args in
+    let l = c .before .loop in
+    l .inv .2 j lt .0
+    ∙ ap (λ t. getD (a .updates .now) j 0 + sumAt (a .node .now) (plusOf (a .split) (a .at .0) (a .k)) j t) (take-all (l .i) (a .cells .now) (omega arith))
+
+pub add-cells-spec : {M : Type 1} → statement M
+add-cells-spec =
+    tie.close
+    (tie.spec
+    Inv-loop
+    μ-loop
+    loop-holds
+    (λ c. search needs)
+    (λ c. omega (arith, c .shared-slice-known3 .given (c .before .before .loop .i)))
+    shared-slice-read-j
+    (λ c. omega (arith, c .shared-slice-known4 .given (getD (c .before .before .before .before .before .before .before .args .cells .now) (c .before .before .before .loop .i) 0)))
+    cell-plus-requires
+    mul-updates
+    slice-read-updates
+    add-updates
+    slice-write-updates
+    (λ c. search needs)
+    (λ c. search needs)
+    loop-again
+    (λ c. search needs)
+    returns)

@@ -1,0 +1,13 @@
+-- `way::flag` meets its contract: the bit does not leave the 16.
+use borrow.Author.Needs.{needs}
+use Rattle.way.proofs.Sums.{power-most, shifted}
+use Rattle.way.proofs.flag.Statement.{statement}
+use Rattle.way.proofs.flag.Tie as tie
+
+returns : tie.Need-returns
+returns c =
+    let e = shifted (c .args .c) (c .pre) in
+    (e, rw e (power-most (c .args .c) (c .pre)))
+
+pub flag-spec : {M : Type 1} → statement M
+flag-spec = tie.close (tie.spec (λ c. search needs) returns)

@@ -1,0 +1,51 @@
+-- `way::open_way` meets its contract: the copies are the record's pointers and successors, opened as the way asks.
+use mathlib.Core.Path.{ap, ap₂, _∙_}
+use native.Mathlib.Omega.{arith}
+use lib.ListN.{take}
+use borrow.Author.Needs.{needs}
+use Rattle.model.specs.Image.{heapOf}
+use Rattle.model.specs.Records.{byte}
+use Rattle.way.specs.Way.{openedBytes}
+use Rattle.way.proofs.Opened.{count-most, ready-cells, ready-heap, ready-pointers}
+use Rattle.way.proofs.open_way.Statement.{statement}
+use Rattle.way.proofs.open_way.Tie as tie
+
+returns : tie.Need-returns
+returns c =
+    let s = c .before .before .before .before .before .before .before .before .before .before .before .before .before .before .before .before .before .before in
+    let a = s .args in
+    let r = a .rec .now in
+    let o = c .before .before .open-cells in
+    let k = byte r 3 in
+    let ps = c .before .before .before .before .before .before .before .before .before .before .before .copy-front .ensures ∙ ready-pointers r (a .pointers .now) (a .cells .now) (a .op) (a .node .0) (a .split) (s .pre) in
+    let cs = ap (take k) (c .before .before .before .before .before .before .copy-front2 .ensures) ∙ ready-cells r (a .pointers .now) (a .cells .now) (a .op) (a .node .0) (a .split) (s .pre) in (
+      ps,
+      (
+        o .ensures .0,
+        (
+          omega (arith, o .ensures .0, count-most (a .split) (a .op) k, s .pre .few),
+          ap₂ heapOf ps (o .ensures .1 ∙ ap (openedBytes (a .split) (a .op) (a .node .0)) cs)
+              ∙ ready-heap r (a .pointers .now) (a .cells .now) (a .op) (a .node .0) (a .split) (s .pre),
+        ),
+      ),
+    )
+
+pub open-way-spec : {M : Type 1} → statement M
+open-way-spec =
+    tie.close
+    (tie.spec
+    (λ c. search needs)
+    (λ c. search needs)
+    (λ c. search needs)
+    (λ c. search needs)
+    (λ c. search needs)
+    (λ c. search needs)
+    (λ c κs. search needs)
+    (λ c. search needs)
+    (λ c. search needs)
+    (λ c. search needs)
+    (λ c κs. search needs)
+    (λ c κs. search needs)
+    (λ c. search needs)
+    (λ c. search needs)
+    returns)

@@ -1,0 +1,122 @@
+//! Random heap images, statements and counters, valid and damaged.
+
+/// xorshift64*: small, fast, and the same everywhere.
+pub struct Draw(u64);
+
+impl Draw {
+    pub fn new(seed: u64) -> Draw {
+        Draw(seed.wrapping_mul(0x9e37_79b9_7f4a_7c15) | 1)
+    }
+
+    pub fn next(&mut self) -> u64 {
+        self.0 ^= self.0 >> 12;
+        self.0 ^= self.0 << 25;
+        self.0 ^= self.0 >> 27;
+        self.0.wrapping_mul(0x2545_f491_4f6c_dd1d) >> 16
+    }
+
+    pub fn below(&mut self, n: usize) -> usize {
+        (self.next() % n.max(1) as u64) as usize
+    }
+
+    pub fn one_in(&mut self, n: usize) -> bool {
+        self.below(n) == 0
+    }
+}
+
+/// A value: a cell below n, or null or undefined.
+fn value(d: &mut Draw, n: usize) -> u8 {
+    match d.below(8) {
+        0 => 0xfe,
+        1 => 0xff,
+        _ if n == 0 => 0xfe,
+        _ => d.below(n) as u8,
+    }
+}
+
+/// Mostly lists: a cell's next is often the cell after it.
+fn next_value(d: &mut Draw, i: usize, n: usize) -> u8 {
+    if i + 1 < n && !d.one_in(4) {
+        (i + 1) as u8
+    } else {
+        value(d, n)
+    }
+}
+
+/// An image without lost cells and without a value that names no cell in use.
+pub fn image(d: &mut Draw, most: usize) -> (Vec<u8>, Vec<u8>) {
+    let n = d.below(most + 1);
+    let mut cells: Vec<u8> = (0..n).map(|i| if d.one_in(12) { 0xfd } else { next_value(d, i, n) }).collect();
+    let mut pointers: Vec<u8> = (0..6).map(|_| value(d, n)).collect();
+    if n > 0 && !d.one_in(4) {
+        pointers[0] = 0;
+    }
+    let used: Vec<bool> = cells.iter().map(|&b| b != 0xfd).collect();
+    let mend = |b: u8| if (b as usize) < n && !used[b as usize] { 0xff } else { b };
+    pointers.iter_mut().for_each(|b| *b = mend(*b));
+    cells.iter_mut().filter(|b| **b != 0xfd).for_each(|b| *b = mend(*b));
+    let mut seen = vec![false; n];
+    for &p in &pointers {
+        let mut b = p as usize;
+        while b < n && !seen[b] {
+            seen[b] = true;
+            b = cells[b] as usize;
+        }
+    }
+    (0..n).filter(|&c| !seen[c]).for_each(|c| cells[c] = 0xfd);
+    (pointers, cells)
+}
+
+/// The same, now and then with a byte changed, a byte added or cut off.
+pub fn damaged_image(d: &mut Draw, most: usize) -> (Vec<u8>, Vec<u8>) {
+    let (mut pointers, mut cells) = image(d, most);
+    match d.below(10) {
+        0 => pointers[d.below(6)] = d.next() as u8,
+        1 if !cells.is_empty() => {
+            let at = d.below(cells.len());
+            cells[at] = d.next() as u8;
+        }
+        2 if !cells.is_empty() => {
+            let at = d.below(cells.len());
+            cells[at] = 0xfe;
+        }
+        3 if d.one_in(4) => pointers.truncate(d.below(6)),
+        4 if d.one_in(4) => pointers.push(0xfe),
+        5 if d.one_in(4) => cells.resize(241 + d.below(20), 0xfd),
+        _ => {}
+    }
+    (pointers, cells)
+}
+
+/// An S record, now and then damaged; targets below 64.
+pub fn statement(d: &mut Draw) -> Vec<u8> {
+    let op = d.below(12) as u8;
+    let mut r = vec![0; 32];
+    r[0] = 0x53;
+    r[1] = op;
+    if (1..=9).contains(&op) {
+        r[2] = d.below(6) as u8;
+    }
+    if matches!(op, 2 | 3 | 5 | 9) {
+        r[3] = d.below(6) as u8;
+    }
+    if op != 0 {
+        r[4] = d.below(64) as u8;
+    }
+    if (8..=10).contains(&op) {
+        r[5] = d.below(64) as u8;
+    }
+    damage_record(d, &mut r);
+    r
+}
+
+/// One byte changed in about one record of ten, another length in one of forty.
+pub fn damage_record(d: &mut Draw, r: &mut Vec<u8>) {
+    if d.one_in(10) {
+        let at = if d.one_in(3) { d.below(32) } else { d.below(14) };
+        r[at] = d.next() as u8;
+    } else if d.one_in(40) {
+        let n = d.below(40);
+        r.resize(n, 0);
+    }
+}

@@ -1,0 +1,151 @@
+//! Fold, unfold and step of the proved library against the second translator's, on valid and damaged images, records and statements.
+//! Every refusal and every fault must have been met: the tests count them.
+
+use native::draw::{damage_record, damaged_image, image, statement, Draw};
+use reference::Stepped;
+
+const ROUNDS: usize = 50_000;
+
+fn sizes(i: usize) -> usize {
+    [3, 8, 16, 60, 240][i % 5]
+}
+
+fn all_met(what: &str, met: &[u64], wanted: &[usize]) {
+    for &n in wanted {
+        assert!(met[n] > 0, "{what} {n} never came");
+    }
+    println!("{what}: {:?}", wanted.iter().map(|&n| (n, met[n])).collect::<Vec<_>>());
+}
+
+fn compare_fold(pointers: &[u8], cells: &[u8]) -> u8 {
+    let ours = native::fold(pointers, cells);
+    let theirs = reference::fold(pointers, cells);
+    assert_eq!(ours, (theirs.refusal, theirs.record, theirs.counters), "fold of {pointers:x?} {cells:x?}");
+    ours.0
+}
+
+fn compare_unfold(record: &[u8], counters: &[u32; 12], np: usize, nc: usize, fill: u8) -> u8 {
+    let (mut p, mut c) = (vec![fill; np], vec![fill ^ 0x55; nc]);
+    let (mut q, mut d) = (p.clone(), c.clone());
+    let ours = native::unfold(record, counters, &mut p, &mut c);
+    let theirs = reference::unfold(record, counters, &mut q, &mut d);
+    assert_eq!((ours, &p, &c), (theirs, &q, &d), "unfold of {record:x?} {counters:?}");
+    ours
+}
+
+fn compare_step(pointers: &[u8], cells: &[u8], record: &[u8], pick: u8, cell: usize) -> (u8, [u8; 4]) {
+    let (mut p, mut c) = (pointers.to_vec(), cells.to_vec());
+    let (mut q, mut d) = (p.clone(), c.clone());
+    let ours = native::step(&mut p, &mut c, record, pick, cell);
+    let theirs = match reference::step(&mut q, &mut d, record, pick as u64, cell as u64) {
+        Stepped::Refused(n) => (n, [0; 4]),
+        Stepped::Stop => (0, [0, 1, 0, 0]),
+        Stepped::Fault(f) => (0, [f, 0, 0, 0]),
+        Stepped::Moved { branch, next } => (0, [0, 0, branch, next]),
+    };
+    assert_eq!((ours, &p, &c), (theirs, &q, &d), "step {record:x?} on {pointers:x?} {cells:x?}");
+    ours
+}
+
+#[test]
+fn folds_agree() {
+    let (mut d, mut met) = (Draw::new(1), [0u64; 17]);
+    for i in 0..ROUNDS {
+        let (p, c) = damaged_image(&mut d, sizes(i));
+        met[compare_fold(&p, &c) as usize] += 1;
+    }
+    all_met("fold refusal", &met, &[0, 13, 14]);
+}
+
+#[test]
+fn unfolds_agree_and_fold_back() {
+    let (mut d, mut met) = (Draw::new(2), [0u64; 17]);
+    for i in 0..ROUNDS {
+        let (p, c) = image(&mut d, sizes(i));
+        let (_, record, mut counters) = native::fold(&p, &c);
+        let mut record = record.to_vec();
+        let whole = counters;
+        let sum: u32 = counters.iter().sum();
+        damage_record(&mut d, &mut record);
+        match d.below(12) {
+            0 => counters[d.below(12)] = d.below(3) as u32,
+            1 => counters[d.below(12)] = u32::MAX - d.below(2) as u32,
+            _ => {}
+        }
+        let nc = sum as usize + [0, 0, 1, 3][d.below(4)];
+        let nc = if d.one_in(30) { nc.saturating_sub(1) } else if d.one_in(60) { 241 } else { nc.min(240) };
+        let np = if d.one_in(60) { d.below(9) } else { 6 };
+        let refusal = compare_unfold(&record, &counters, np, nc, d.next() as u8);
+        met[refusal as usize] += 1;
+        if refusal == 0 && counters == whole {
+            let (mut q, mut e) = (vec![0; np], vec![0; nc]);
+            native::unfold(&record, &counters, &mut q, &mut e);
+            let (again, shape, sizes) = native::fold(&q, &e);
+            assert_eq!((again, &shape[..], sizes), (0, &record[..], counters));
+        }
+    }
+    all_met("unfold refusal", &met, &[0, 8, 9, 13, 15]);
+}
+
+#[test]
+fn steps_agree() {
+    let (mut d, mut met, mut faults) = (Draw::new(3), [0u64; 17], [0u64; 4]);
+    let (mut stops, mut second) = (0, 0);
+    for i in 0..ROUNDS {
+        let (p, c) = if d.one_in(6) { damaged_image(&mut d, sizes(i)) } else { image(&mut d, sizes(i)) };
+        let r = statement(&mut d);
+        let pick = if d.one_in(5) { d.next() as u8 } else { d.below(2) as u8 };
+        let cell = if d.one_in(20) { usize::MAX - d.below(2) } else { d.below(c.len() + 2) };
+        let (refusal, answer) = compare_step(&p, &c, &r, pick, cell);
+        met[refusal as usize] += 1;
+        faults[answer[0] as usize] += 1;
+        stops += answer[1] as u64;
+        second += answer[2] as u64;
+    }
+    all_met("step refusal", &met, &[0, 4, 5, 6, 7, 13, 14, 16]);
+    all_met("fault", &faults, &[0, 1, 2, 3]);
+    assert!(stops > 0 && second > 0);
+}
+
+fn record_of(k: u8, pointers: [u8; 6], successors: &[u8]) -> Vec<u8> {
+    let mut r = vec![0; 32];
+    r[0] = 0x48;
+    r[3] = k;
+    r[4..10].copy_from_slice(&pointers);
+    r[10..10 + successors.len()].copy_from_slice(successors);
+    r
+}
+
+fn counters(values: &[u32]) -> [u32; 12] {
+    let mut c = [0; 12];
+    c[..values.len()].copy_from_slice(values);
+    c
+}
+
+#[test]
+fn limits_of_images() {
+    // a list of 240 cells, and 241
+    let list: Vec<u8> = (0..240).map(|i| if i == 239 { 0xfe } else { i as u8 + 1 }).collect();
+    assert_eq!(compare_fold(&[0, 0xfe, 0xfe, 0xfe, 0xfe, 0xfe], &list), 0);
+    let mut longer = list.clone();
+    longer.push(0xfd);
+    assert_eq!(compare_fold(&[0, 0xfe, 0xfe, 0xfe, 0xfe, 0xfe], &longer), 13);
+    // counters that sum to 240 and 241, and past 32 bits
+    let two = record_of(2, [0, 1, 0xfe, 0xfe, 0xfe, 0xfe], &[0xfe, 0xff]);
+    assert_eq!(compare_unfold(&two, &counters(&[200, 40]), 6, 240, 7), 0);
+    assert_eq!(compare_unfold(&two, &counters(&[200, 41]), 6, 240, 7), 15);
+    assert_eq!(compare_unfold(&two, &counters(&[u32::MAX, 2]), 6, 240, 7), 15);
+    assert_eq!(compare_unfold(&two, &counters(&[u32::MAX, u32::MAX]), 6, 240, 7), 15);
+    assert_eq!(compare_unfold(&two, &counters(&[1, 1]), 6, 241, 7), 13);
+}
+
+#[test]
+fn odd_lengths() {
+    for n in 0..9 {
+        for m in [0, 1, 31, 33, 64, 241, 300] {
+            compare_fold(&vec![0xfe; n], &vec![0xfd; m]);
+            compare_unfold(&vec![0; m], &[0; 12], n, m, 3);
+            compare_step(&vec![0xfe; n], &vec![0xfd; m], &vec![0x53; n * 4], 0, 0);
+        }
+    }
+}
