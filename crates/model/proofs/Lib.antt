@@ -48,6 +48,7 @@ pub mod Stepping
 pub mod Single
 pub mod Whole
 pub mod Demand
+pub mod FullListing
 pub mod Promises
 pub mod PromisesShapes
 pub mod PromisesListings

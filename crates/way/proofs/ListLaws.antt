@@ -1,4 +1,4 @@
--- Laws on lists: below the length the default makes no difference, a store after map, and what a store at the end of the front makes of it.
+-- Laws on lists: the default past the end, a store under map, the front and what follows it after a store, and membership by place.
 use Prim.Native.Nat.{ℕ, zero, suc, _+_, _<_}
 use mathlib.Core.Bool.{true}
 use mathlib.Core.List.{List, [], _∷_, _++_, map}

@@ -14,7 +14,8 @@ use Rattle.model.specs.Heap.{Heap}
 use Rattle.model.specs.Records.{updateCode}
 use Rattle.model.specs.Shape.{Seg, cells}
 use Rattle.model.proofs.Logic.{NoDup, bool-ext, clash, mem-append-cases, mem-append-l, mem-append-r, mem-here, mem-there}
-use Rattle.model.proofs.Start.{flat, nodup-l, nodup-r, segAt}
+use Rattle.model.proofs.Notions.{flat, segAt}
+use Rattle.model.proofs.Start.{nodup-l, nodup-r}
 use Rattle.model.proofs.Walks.{seg}
 use Rattle.way.specs.Way.{codeAt, plusOf, sumAt, weightAt}
 use Rattle.way.proofs.Codes.{segment-update}

@@ -31,6 +31,11 @@ shared-slice-read-j c =
     let cells = s .args .cells .now in
     s .pre .0 .1 .tabled (getD cells i 0) (mem-at cells i (search needs))
 
+cast-j : tie.Need-cast-j Inv-loop μ-loop
+cast-j c =
+    let cells = c .before .before .before .before .before .before .before .args .cells .now in
+    omega (arith, c .shared-slice-known4 .given (getD cells (c .before .before .before .loop .i) 0))
+
 cell-plus-requires : tie.Need-cell-plus-requires Inv-loop μ-loop
 cell-plus-requires c κs =
     let s = c .before .before .before .before .before .before .before in
@@ -41,11 +46,14 @@ cell-plus-requires c κs =
 
 mul-updates : tie.Need-mul-updates Inv-loop μ-loop
 mul-updates c =
-    omega (arith, c .before .shared-slice-known4 .given (getD (c .before .before .before .before .before .before .before .before .args .cells .now) (c .before .before .before .before .loop .i) 0))
+    let cells = c .before .before .before .before .before .before .before .before .args .cells .now in
+    omega (arith, c .before .shared-slice-known4 .given (getD cells (c .before .before .before .before .loop .i) 0))
 
 -- the cell's node has an entry
 node-below : (c : tie.After-slice-known2 Inv-loop μ-loop)
-    → getD (c .before .before .before .before .before .before .before .before .before .args .node .now) (getD (c .before .before .before .before .before .before .before .before .before .args .cells .now) (c .before .before .before .before .before .loop .i) 0) 0 < length (c .before .before .before .before .before .loop .updates)
+    → let a = c .before .before .before .before .before .before .before .before .before .args in
+    let l = c .before .before .before .before .before .loop in
+    getD (a .node .now) (getD (a .cells .now) (l .i) 0) 0 < length (l .updates)
 node-below c =
     let s = c .before .before .before .before .before .before .before .before .before in
     let i = c .before .before .before .before .before .loop .i in
@@ -94,7 +102,7 @@ add-cells-spec =
     (λ c. search needs)
     (λ c. omega (arith, c .shared-slice-known3 .given (c .before .before .loop .i)))
     shared-slice-read-j
-    (λ c. omega (arith, c .shared-slice-known4 .given (getD (c .before .before .before .before .before .before .before .args .cells .now) (c .before .before .before .loop .i) 0)))
+    cast-j
     cell-plus-requires
     mul-updates
     slice-read-updates

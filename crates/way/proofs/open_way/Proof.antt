@@ -17,8 +17,10 @@ returns c =
     let r = a .rec .now in
     let o = c .before .before .open-cells in
     let k = byte r 3 in
-    let ps = c .before .before .before .before .before .before .before .before .before .before .before .copy-front .ensures ∙ ready-pointers r (a .pointers .now) (a .cells .now) (a .op) (a .node .0) (a .split) (s .pre) in
-    let cs = ap (take k) (c .before .before .before .before .before .before .copy-front2 .ensures) ∙ ready-cells r (a .pointers .now) (a .cells .now) (a .op) (a .node .0) (a .split) (s .pre) in (
+    let first = c .before .before .before .before .before .before .before .before .before .before .before .copy-front .ensures in
+    let second = c .before .before .before .before .before .before .copy-front2 .ensures in
+    let ps = first ∙ ready-pointers r (a .pointers .now) (a .cells .now) (a .op) (a .node .0) (a .split) (s .pre) in
+    let cs = ap (take k) second ∙ ready-cells r (a .pointers .now) (a .cells .now) (a .op) (a .node .0) (a .split) (s .pre) in (
       ps,
       (
         o .ensures .0,
