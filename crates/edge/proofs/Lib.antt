@@ -1,0 +1,5 @@
+pub mod Ready
+pub mod Heaps
+pub mod Running
+pub mod Leaving
+pub mod Edges

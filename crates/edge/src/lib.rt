@@ -1,0 +1,162 @@
+// One edge of a location: the statement is run on the location's shape, opened for the way, and the result is folded.
+use model::Node;
+use model::Pointer;
+use model::Statement;
+ghost use mathlib.Core.Path.{_≡_};
+ghost use lib.ListN.{length};
+ghost use Rattle.model.specs.Machine.{target};
+ghost use Rattle.model.specs.Records.{stmtOf};
+ghost use Rattle.edge.specs.Edge.{EdgeReady, LeavesBy};
+ghost use Rattle.edge.specs.Parts.{IsLeft, LeaveReady, RunsReady, WayRan};
+
+// What leaving gives beside the target's record and the updates: the branch, and how many new nodes there are.
+pub struct Left {
+    pub branch: u8,
+    pub nodes: usize,
+}
+
+// What the run by a way gives beside the heap image: the fault (0 for none), the branch, how many cells there are, and how many were visited.
+struct Gone {
+    fault: u8,
+    branch: u8,
+    cells: usize,
+    visited: usize,
+}
+
+// Opens the location's shape for the way and runs the statement on it.
+fn run_way(
+    location: &[u8],
+    statement: &[u8],
+    split: bool,
+    node: Node,
+    pick: u8,
+    pointers: &mut [u8],
+    cells: &mut [u8],
+    order: &mut [u8],
+) -> Gone
+    requires { ⌜ RunsReady (now location) (now statement) split (node .0) pick (now pointers) (now cells) (now order) ⌝ }
+    ensures { λ r. ⌜ WayRan (now (location .entry)) (now (statement .entry)) split (node .0) pick (now (pointers .exit)) (now (cells .exit)) (now (order .exit)) (r .fault) (r .branch) (r .cells) (r .visited) ⌝ }
+{
+    let op = statement[1];
+    let u = Pointer(statement[2]);
+    let w = Pointer(statement[3]);
+    let k = location[3] as usize;
+    let n = way::open_way(location, op, split, node, pointers, cells);
+    let branch = effect::branch_of(op, u, w, pick, &pointers[..]);
+    let mut seen = [0u8; 16];
+    let ran = machine::run(op, u, w, k, pointers, &mut cells[..n], order, &mut seen);
+    Gone {
+        fault: ran.fault,
+        branch: branch,
+        cells: n,
+        visited: ran.visited,
+    }
+}
+
+// Where a branch of a statement goes.
+fn target_of(statement: &[u8], branch: u8) -> Statement
+    requires { ⌜ length (now statement) ≡ 32 ⌝ }
+    ensures { λ r. ⌜ r .0 ≡ target (stmtOf (now (statement .entry))) branch ⌝ }
+{
+    if branch == 0 {
+        Statement(statement[4])
+    } else {
+        Statement(statement[5])
+    }
+}
+
+// Folds what a run left: the target's record, and an update for each new node. Answers how many there are.
+fn leave(
+    pointers: &[u8],
+    cells: &[u8],
+    order: &[u8],
+    visited: usize,
+    k: usize,
+    split: bool,
+    at: Node,
+    to: Statement,
+    target: &mut [u8],
+    updates: &mut [u16],
+) -> usize
+    requires { ⌜ LeaveReady (now pointers) (now cells) (now order) visited k split (at .0) (now target) (now updates) ⌝ }
+    ensures { λ r. ⌜ IsLeft (now (pointers .entry)) (now (cells .entry)) k split (at .0) (to .0) (now (target .exit)) (now (updates .exit)) r ⌝ }
+{
+    let mut held = [0u8; 16];
+    let mut node = [0u8; 16];
+    let mut last = [0u8; 16];
+    let mut size = [0u32; 16];
+    let mut folded = [0u8; 6];
+    let mut successors = [0u8; 16];
+    let m = machine::shape_of(
+        pointers,
+        cells,
+        order,
+        visited,
+        &mut held,
+        &mut node,
+        &mut last,
+        &mut size,
+        &mut folded,
+        &mut successors,
+    );
+    way::sum_updates(order, visited, &node, k, split, at, m, updates);
+    record::write_location(target, to, &folded, &successors, m);
+    m
+}
+
+// The edge by one way out of a location: its target's record, its updates, its branch, and how many new nodes there are.
+pub fn one_edge(
+    location: &[u8],
+    statement: &[u8],
+    split: bool,
+    node: Node,
+    pick: u8,
+    target: &mut [u8],
+    updates: &mut [u16],
+) -> Left
+    requires { ⌜ EdgeReady (now location) (now statement) split (node .0) pick (now target) (now updates) ⌝ }
+    ensures { λ r. ⌜ LeavesBy (now (location .entry)) (now (statement .entry)) split (node .0) pick (now (target .exit)) (now (updates .exit)) (r .branch) (r .nodes) ⌝ }
+{
+    let mut pointers = [0u8; 6];
+    let mut cells = [0u8; 16];
+    let mut order = [0u8; 16];
+    let gone = run_way(
+        location,
+        statement,
+        split,
+        node,
+        pick,
+        &mut pointers,
+        &mut cells,
+        &mut order,
+    );
+    let fault = gone.fault;
+    if fault != 0 {
+        record::write_fault(target, Statement(location[1]), fault);
+        return Left {
+            branch: 0,
+            nodes: 0,
+        };
+    }
+    let branch = gone.branch;
+    let n = gone.cells;
+    let visited = gone.visited;
+    let k = location[3] as usize;
+    let to = target_of(statement, branch);
+    let m = leave(
+        &pointers,
+        &cells[..n],
+        &order,
+        visited,
+        k,
+        split,
+        node,
+        to,
+        target,
+        updates,
+    );
+    Left {
+        branch: branch,
+        nodes: m,
+    }
+}

@@ -1,0 +1,76 @@
+-- The shape of an H record that keeps the layout, as the heap image of its pointer and successor bytes; the refusals' numbers.
+use Prim.Native.Nat.{ℕ, _<_, _≤_}
+use native.Mathlib.Omega.{arith}
+use mathlib.Core.Path.{_≡_, sym, ap, subst, _∙_}
+use mathlib.Core.Bool.{Bool, true, false, cond}
+use mathlib.Core.List.{List, map}
+use lib.Dec.{eqb, ltb}
+use lib.ListN.{length, take, drop}
+use borrow.Author.Tests.{ne-eqb}
+use Rattle.model.specs.Base.{any, sameList}
+use Rattle.model.specs.Heap.{closed, holds}
+use Rattle.model.specs.Image.{cellSlot, heapOf}
+use Rattle.model.specs.Records.{byte, fieldsS, isS, layoutH, refusalH, refusalS, shapeOf, targetsS, valOf}
+use Rattle.model.specs.Shape.{canonical}
+use Rattle.model.proofs.Lists.{In, map-in}
+use Rattle.model.proofs.Logic.{bool-case}
+use Rattle.model.proofs.ReadBack.{SmallSlot}
+use Rattle.model.proofs.ShapeBack.{layout-closed, layout-few, layout-slots, layout-writable}
+use Rattle.input.proofs.ListLaws.{map-same}
+
+module _ (r : List ℕ) (l : length r ≡ 32) (h : layoutH r ≡ true) where
+  -- a successor byte is never the mark of a cell that is not in use
+  used : (b : ℕ) → In b (take (byte r 3) (drop 10 r)) → b ≡ 0xfd → ⊥
+  used b i e =
+      let few = layout-few r l h in
+      let n = layout-slots r l h in
+      let z : SmallSlot (length (shapeOf r .slots)) (holds (valOf b)) = layout-writable r l h .nexts _ (map-in (λ x. holds (valOf x)) b (take (byte r 3) (drop 10 r)) i) in
+      let y : 0xfd < length (shapeOf r .slots) = subst (λ x. SmallSlot (length (shapeOf r .slots)) (holds (valOf x))) e z in
+      omega arith
+
+  pub shape-image : shapeOf r ≡ heapOf (take 6 (drop 4 r)) (take (byte r 3) (drop 10 r))
+  shape-image = λ j. record {
+    ptrs = map valOf (take 6 (drop 4 r));
+    slots = map-same (λ b. holds (valOf b)) cellSlot (take (byte r 3) (drop 10 r)) (λ b i. rw (ne-eqb b 0xfd (used b i))) j;
+  }
+
+  pub image-closed : closed (heapOf (take 6 (drop 4 r)) (take (byte r 3) (drop 10 r))) ≡ true
+  image-closed = ap closed (sym shape-image) ∙ layout-closed r l h
+
+-- ---- the refusals of an H record after the records e, in the order of its tests
+
+module _ (e : List (List ℕ)) (r : List ℕ) where
+  pub refusal-8 : layoutH r ≡ false → 8 ≡ refusalH e r
+  refusal-8 l = rw (l, refusalH)
+
+  pub refusal-9 : layoutH r ≡ true → canonical (shapeOf r) ≡ false → 9 ≡ refusalH e r
+  refusal-9 l c = rw (l, refusalH) (rw (c, refusalH))
+
+  pub refusal-10 : layoutH r ≡ true → canonical (shapeOf r) ≡ true → any (sameList eqb r) e ≡ true → 10 ≡ refusalH e r
+  refusal-10 l c a = rw (l, refusalH) (rw (c, refusalH) (rw a))
+
+  pub refusal-none : layoutH r ≡ true → canonical (shapeOf r) ≡ true → any (sameList eqb r) e ≡ false → 0 ≡ refusalH e r
+  refusal-none l c a = rw (l, refusalH) (rw (c, refusalH) (rw a))
+
+  -- and of any record, by its kind
+  pub refusal-by-s : (n : ℕ) → isS r ≡ true → refusalS n r ≡ cond (isS r) (refusalS n r) (refusalH e r)
+  refusal-by-s n h = rw h
+
+  pub refusal-by-h : (n : ℕ) → isS r ≡ false → refusalH e r ≡ cond (isS r) (refusalS n r) (refusalH e r)
+  refusal-by-h n h = rw h
+
+-- ---- no number is above 10
+
+number-s : (a b c : Bool) → cond a 5 (cond b (cond c 0 7) 6) ≤ 10
+number-s true b c = omega arith
+number-s false true true = omega arith
+number-s false true false = omega arith
+number-s false false c = omega arith
+
+number-h : (e : List (List ℕ)) (r : List ℕ) → refusalH e r ≤ 10
+number-h e r = bool-case (layoutH r)
+    (λ a. rw (a, refusalH) (bool-case (canonical (shapeOf r)) (λ b. rw (b, refusalH) (bool-case (any (sameList eqb r) e) (λ c. rw c (omega arith)) (λ c. rw c (omega arith)))) (λ b. rw (b, refusalH) (omega arith))))
+    (λ a. rw (a, refusalH) (omega arith))
+
+pub number-few : (n : ℕ) (e : List (List ℕ)) (r : List ℕ) → cond (isS r) (refusalS n r) (refusalH e r) ≤ 10
+number-few n e r = bool-case (isS r) (λ a. rw a (number-s (ltb 11 (byte r 1)) (fieldsS r) (targetsS n r))) (λ a. rw a (number-h e r))

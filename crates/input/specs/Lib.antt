@@ -1,0 +1,3 @@
+pub mod Input
+pub mod Parts
+pub mod Accepted

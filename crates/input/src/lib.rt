@@ -1,0 +1,223 @@
+// The checks of the translator's input: S records, then H records, 32 bytes each. The first that fails gives the refusal.
+use record::layout_ok;
+use record::same_record;
+use record::statement_refusal;
+use visit::is_canonical;
+ghost use mathlib.Core.Path.{_≡_};
+ghost use mathlib.Core.Bool.{true, false};
+ghost use mathlib.Core.Option.{none};
+ghost use Prim.Native.Nat.{_+_, _*_, _≤_};
+ghost use lib.Dec.{eqb};
+ghost use lib.ListN.{length};
+ghost use Rattle.model.specs.Base.{any, count, sameList};
+ghost use Rattle.model.specs.Records.{isS, layoutH, recordAt, refusalH, shapeOf};
+ghost use Rattle.model.specs.Shape.{canonical};
+ghost use Rattle.model.specs.Translate.{badKind, between, check, checkCounts, checkKinds, checkRecords};
+ghost use Rattle.input.specs.Input.{recordsOf, checkedOf, GoodCounts};
+ghost use Rattle.input.specs.Parts.{kindFits, kindFound, earlier, recordRefusal};
+
+// A routine with its numbers of statements and of starting shapes, or the refusal's number and place.
+pub enum Checked {
+    Good { statements: usize, shapes: usize },
+    Bad { number: u8, place: usize },
+}
+
+// ---- the kinds of the records, by their tags
+
+// Whether a tag may stand here: H anywhere, S only before the first H.
+fn kind_fits(after: bool, tag: u8) -> bool
+    ensures { λ r. ⌜ r ≡ kindFits after tag ⌝ }
+{
+    if tag == 0x48 {
+        return true;
+    }
+    if tag == 0x53 {
+        return !after;
+    }
+    false
+}
+
+// The first record of a wrong kind; the number of records where there is none.
+fn wrong_kind(input: &[u8], records: usize) -> usize
+    requires { ⌜ 32 * records ≡ length (now input) ⌝ }
+    ensures { λ r. ⌜ kindFound records r ≡ badKind false 0 (recordsOf (now (input .entry))) ⌝ }
+{
+    let mut after = false;
+    let mut i = 0;
+    while i < records {
+        let tag = input[32 * i];
+        if !kind_fits(after, tag) {
+            return i;
+        }
+        after = tag == 0x48;
+        i += 1;
+    }
+    records
+}
+
+// How many records are statements.
+fn count_statements(input: &[u8], records: usize) -> usize
+    requires { ⌜ 32 * records ≡ length (now input) ⌝ }
+    ensures { λ r. ⌜ r ≡ count isS (recordsOf (now (input .entry))) ⌝ }
+{
+    let mut n: usize = 0;
+    let mut i = 0;
+    while i < records {
+        if input[32 * i] == 0x53 {
+            n += 1;
+        }
+        i += 1;
+    }
+    n
+}
+
+// ---- a single record
+
+// Whether the shape of an H record, which keeps the layout, is canonical.
+fn canonical_shape(rec: &[u8]) -> bool
+    requires { ⌜ (length (now rec) ≡ 32) × (layoutH (now rec) ≡ true) ⌝ }
+    ensures { λ r. ⌜ r ≡ canonical (shapeOf (now (rec .entry))) ⌝ }
+{
+    let end = 10 + rec[3] as usize;
+    is_canonical(&rec[4..10], &rec[10..end])
+}
+
+// Whether a record equals record j of the input.
+fn same_as(input: &[u8], j: usize, rec: &[u8]) -> bool
+    requires { ⌜ (32 * (j + 1) ≤ length (now input)) × (length (now rec) ≡ 32) ⌝ }
+    ensures { λ r. ⌜ r ≡ sameList eqb (now (rec .entry)) (recordAt (now (input .entry)) j) ⌝ }
+{
+    let at = 32 * j;
+    let end = at + 32;
+    same_record(rec, &input[at..end])
+}
+
+// Whether a record equals one of the first i records of the input.
+fn repeats(input: &[u8], i: usize, rec: &[u8]) -> bool
+    requires { ⌜ (32 * i ≤ length (now input)) × (length (now rec) ≡ 32) ⌝ }
+    ensures { λ r. ⌜ r ≡ any (sameList eqb (now (rec .entry))) (earlier (now (input .entry)) i) ⌝ }
+{
+    let mut j = i;
+    while 0 < j {
+        j -= 1;
+        if same_as(input, j, rec) {
+            return true;
+        }
+    }
+    false
+}
+
+// The refusal of an H record after the first i records of the input, 0 for none.
+fn shape_refusal(input: &[u8], i: usize, rec: &[u8]) -> u8
+    requires { ⌜ (32 * i ≤ length (now input)) × (length (now rec) ≡ 32) ⌝ }
+    ensures { λ r. ⌜ r ≡ refusalH (earlier (now (input .entry)) i) (now (rec .entry)) ⌝ }
+{
+    if !layout_ok(rec) {
+        return 8;
+    }
+    if !canonical_shape(rec) {
+        return 9;
+    }
+    if repeats(input, i, rec) {
+        return 10;
+    }
+    0
+}
+
+// The refusal of record i where there are so many statements, 0 for none.
+fn record_refusal(input: &[u8], i: usize, statements: usize) -> u8
+    requires { ⌜ 32 * (i + 1) ≤ length (now input) ⌝ }
+    ensures { λ r. ⌜ r ≡ recordRefusal statements (now (input .entry)) i ⌝ }
+{
+    let at = 32 * i;
+    let end = at + 32;
+    let rec = &input[at..end];
+    if rec[0] == 0x53 {
+        return statement_refusal(rec, statements);
+    }
+    shape_refusal(input, i, rec)
+}
+
+// ---- the whole input
+
+// The records one after the other.
+fn check_records(input: &[u8], statements: usize, shapes: usize) -> Checked
+    requires { ⌜ GoodCounts (Checked.Good statements shapes) (now input) ⌝ }
+    ensures outcome { λ r. ⌜ checkedOf r (now (input .entry)) ≡ checkRecords statements (recordsOf (now (input .entry))) ⌝ }
+    ensures counts { λ r. ⌜ GoodCounts r (now (input .entry)) ⌝ }
+{
+    let records = statements + shapes;
+    let mut i = 0;
+    while i < records {
+        let number = record_refusal(input, i, statements);
+        if number != 0 {
+            return Checked::Bad { number, place: i };
+        }
+        i += 1;
+    }
+    Checked::Good { statements, shapes }
+}
+
+// Whether n lies between two bounds.
+fn within(low: usize, high: usize, n: usize) -> bool
+    ensures { λ r. ⌜ r ≡ between low high n ⌝ }
+{
+    low <= n && n <= high
+}
+
+// The numbers of statements and of shapes, then the records.
+fn check_counts(input: &[u8], records: usize) -> Checked
+    requires { ⌜ (32 * records ≡ length (now input)) × (badKind false 0 (recordsOf (now input)) ≡ none) ⌝ }
+    ensures outcome { λ r. ⌜ checkedOf r (now (input .entry)) ≡ checkCounts (recordsOf (now (input .entry))) ⌝ }
+    ensures counts { λ r. ⌜ GoodCounts r (now (input .entry)) ⌝ }
+{
+    let statements = count_statements(input, records);
+    if !within(1, 64, statements) {
+        return Checked::Bad {
+            number: 2,
+            place: 0,
+        };
+    }
+    let shapes = records - statements;
+    if !within(1, 16, shapes) {
+        return Checked::Bad {
+            number: 3,
+            place: 0,
+        };
+    }
+    check_records(input, statements, shapes)
+}
+
+// The kinds of the records, then all else.
+fn check_kinds(input: &[u8], records: usize) -> Checked
+    requires { ⌜ 32 * records ≡ length (now input) ⌝ }
+    ensures outcome { λ r. ⌜ checkedOf r (now (input .entry)) ≡ checkKinds (recordsOf (now (input .entry))) ⌝ }
+    ensures counts { λ r. ⌜ GoodCounts r (now (input .entry)) ⌝ }
+{
+    let place = wrong_kind(input, records);
+    if place < records {
+        return Checked::Bad { number: 4, place };
+    }
+    check_counts(input, records)
+}
+
+// The whole check of an input: its routine, or the first refusal.
+pub fn check(input: &[u8]) -> Checked
+    ensures outcome { λ r. ⌜ checkedOf r (now (input .entry)) ≡ check (now (input .entry)) ⌝ }
+    ensures counts { λ r. ⌜ GoodCounts r (now (input .entry)) ⌝ }
+{
+    let length = input.len();
+    if length == 0 {
+        return Checked::Bad {
+            number: 1,
+            place: 0,
+        };
+    }
+    if length % 32 != 0 {
+        return Checked::Bad {
+            number: 1,
+            place: 0,
+        };
+    }
+    check_kinds(input, length / 32)
+}
