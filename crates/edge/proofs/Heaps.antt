@@ -11,12 +11,13 @@ use Rattle.model.specs.Heap.{Heap, Slot, Val, cell, closed, holds, inUse, kept,
 use Rattle.model.specs.Machine.{Effect, Op, choose, clear, copy, done, effect, fault, free, isNull, keep, load, new, putSlot, run, same, setNull, skip, stop, store, wipe}
 use Rattle.model.specs.Edges.{Guard, access, splitHeap}
 use Rattle.model.specs.Records.{opOf}
-use Rattle.model.proofs.Changes.{holds-inj, upd, upd-at, upd-off}
+use Rattle.model.proofs.Changes.{holds-inj, upd-at, upd-off}
 use Rattle.model.proofs.Effects.{next-free, next-put}
 use Rattle.model.proofs.Facts.{closed-test}
 use Rattle.model.proofs.Logic.{bool-case, eq-case}
-use Rattle.model.proofs.Walks.{AllClosed, Closed, ClosedHeap, Used}
+use Rattle.model.proofs.Walks.{AllClosed, Closed, ClosedHeap, Used, closed-up}
 use Rattle.model.proofs.Ways.{no-access}
+use Rattle.model.proofs.Notions.{upd}
 use Rattle.way.specs.Way.{openedHeap, withUnused}
 use Rattle.way.proofs.Opened.{run-opened}
 use Rattle.edge.specs.Edge.{wayOf}
@@ -44,10 +45,6 @@ splitNext nx n k = upd (upd nx k (nx n)) n (holds (cell k))
 next-split : (n k : ℕ) (h : Heap) → next (splitHeap n k h) ≡ splitNext (next h) n k
 next-split n k h = next-put (putSlot k (next h n) h) n (holds (cell k)) ∙ ap (λ f. upd f n (holds (cell k))) (next-put h k (next h n))
 
-all-closed : (nx ny : ℕ → Slot) (vs : List Val) → ((x : Val) → Closed nx x → Closed ny x) → AllClosed nx vs → AllClosed ny vs
-all-closed nx ny [] f k = tt
-all-closed nx ny (v ∷ vs) f k = (f v (k .0), all-closed nx ny vs f (k .1))
-
 module _ (nx : ℕ → Slot) (n k : ℕ) (u : Used nx n) where
   tail-in : Used (splitNext nx n k) k
   tail-in = eq-case k n (λ e. (cell k, upd-at (upd nx k (nx n)) n (holds (cell k)) k e))
@@ -73,7 +70,7 @@ module _ (nx : ℕ → Slot) (n k : ℕ) (u : Used nx n) where
 split-closed : (n k : ℕ) (h : Heap) → Used (next h) n → ClosedHeap h → ClosedHeap (splitHeap n k h)
 split-closed n k h u c =
     subst (λ nx. AllClosed nx (h .ptrs) × ((i : ℕ) (v : Val) → nx i ≡ holds v → Closed nx v)) (sym (next-split n k h))
-    (all-closed (next h) (splitNext (next h) n k) (h .ptrs) (still-closed (next h) n k u) (c .0), slots-closed (next h) n k u (c .1))
+    (closed-up (next h) (splitNext (next h) n k) (h .ptrs) (still-closed (next h) n k u) (c .0), slots-closed (next h) n k u (c .1))
 
 -- ---- the opened heap
 

@@ -12,13 +12,13 @@ use Rattle.model.specs.Base.{all}
 use Rattle.model.specs.Heap.{Heap, Slot, Val, cell, holds, next, null, undef, unused}
 use Rattle.model.specs.Edges.{at}
 use Rattle.model.specs.Records.{byte, fieldsS, isZero, locRecord, pointerField, refusalS, shapeOf, slotByte, stmtOf, targetField, targetsS, usesFirst, usesSecond, usesU, usesW, valByte, valueByte}
-use Rattle.model.proofs.Bytes.{SmallVal}
 use Rattle.model.proofs.Lists.{all-of, in-append-cases, in-map}
 use Rattle.model.proofs.Logic.{and-l, and-r, or-l, or-r}
 use Rattle.model.proofs.Order.{used-below}
-use Rattle.model.proofs.ReadBack.{SmallSlot, Writable, canon-writable, location-length, location-shape}
+use Rattle.model.proofs.ReadBack.{canon-writable, location-length, location-shape}
 use Rattle.model.proofs.Walks.{Closed, Used}
 use Rattle.model.proofs.Ways.{access-closed}
+use Rattle.model.proofs.Listings.{SmallSlot, SmallVal, Writable}
 use Rattle.way.specs.Way.{OpenReady}
 use Rattle.edge.specs.Edge.{WayReady}
 

@@ -10,14 +10,14 @@ use lib.Seq.{take-append-seam}
 use Rattle.model.specs.Base.{mem}
 use Rattle.model.specs.Heap.{closed, eachUsed, kept, next, order}
 use Rattle.model.specs.Image.{cellSlot, heapOf}
-use Rattle.model.specs.Machine.{effect}
+use Rattle.model.specs.Machine.{Fault, atNull, atUndef, effect, faultNumber, leak}
 use Rattle.model.specs.Records.{opOf, slotByte}
 use Rattle.model.specs.Shape.{Seg, core, last, nodeSlot, segments, shape}
 use Rattle.model.proofs.Facts.{heap-closed, unused-of}
 use Rattle.model.proofs.Order.{toured}
 use Rattle.model.proofs.Segments.{twelve}
 use Rattle.effect.specs.Effect.{effectOf}
-use Rattle.effect.specs.Laws.{answer-done, effect-closed, image-slots}
+use Rattle.effect.specs.Laws.{answer-done, answer-fault, effect-closed, image-slots}
 use Rattle.effect.proofs.Ops.{new-op}
 use Rattle.visit.specs.Laws.{kept-marked}
 use Rattle.visit.specs.Visit.{Held, VisitReady, Visited}
@@ -27,6 +27,11 @@ use Rattle.segment.proofs.ImageLaws.{image-ready, lasts-in, pointers-in}
 use Rattle.segment.proofs.ShapeLaws.{cell-low, segs-same, shape-pointers, shape-successors}
 use Rattle.machine.specs.Laws.{run-fault, run-kept, run-lost}
 use Rattle.machine.specs.Run.{IsRun, IsShape, RunReady, ShapeReady}
+
+fault-most : (f : Fault) → faultNumber f ≤ 3
+fault-most atNull = omega arith
+fault-most atUndef = omega arith
+fault-most leak = omega arith
 
 -- ---- a run: r and the image qs, ds are what the effect answers
 module _ {op u w x : ℕ} {ps cs o s : List ℕ} (p : RunReady op u w x ps cs o s) (qs ds : List ℕ) {r : ℕ}
@@ -38,6 +43,7 @@ module _ {op u w x : ℕ} {ps cs o s : List ℕ} (p : RunReady op u w x ps cs o 
     isHeap = λ z. absurd (n z);
     visited = λ z. absurd (n z);
     few = λ z. absurd (n z);
+    known = let a = answer-fault (opOf op u w) x (heapOf ps cs) r (heapOf qs ds) e n in omega (arith, fault-most (a .0), a .2);
   }
 
   module _ (z : r ≡ 0) where
@@ -76,6 +82,7 @@ module _ {op u w x : ℕ} {ps cs o s : List ℕ} (p : RunReady op u w x ps cs o 
             isHeap = λ _. record { isClosed = done-closed; isKept = i };
             visited = λ _. d .visited;
             few = λ _. d .few;
+            known = omega arith;
           }
 
       pub run-leaks : eachUsed (λ c. not (eqb (getD m c 0) 0)) 0 (map cellSlot ds) ≡ false → IsRun op u w x ps cs qs ds t 3 0
@@ -84,6 +91,7 @@ module _ {op u w x : ℕ} {ps cs o s : List ℕ} (p : RunReady op u w x ps cs o 
         isHeap = λ f. absurd (omega arith);
         visited = λ f. absurd (omega arith);
         few = λ f. absurd (omega arith);
+        known = omega arith;
       }
 
 -- ---- a fold

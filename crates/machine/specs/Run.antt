@@ -27,6 +27,7 @@ pub record IsRun (op u w x : ℕ) (ps cs qs ds o : List ℕ) (f n : ℕ) : Type 
   pub isHeap : f ≡ 0 → IsHeap (heapOf qs ds)
   pub visited : f ≡ 0 → take n o ≡ order (heapOf qs ds)
   pub few : f ≡ 0 → n ≤ length ds
+  pub known : f ≤ 3
 
 -- a heap image with its visit order, and room for its shape: holders h, nodes m, last cells l, sizes z, pointers p, successors q
 pub record ShapeReady (ps cs o : List ℕ) (n : ℕ) (h m l z p q : List ℕ) : Type 0 where

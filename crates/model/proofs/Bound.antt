@@ -1,4 +1,4 @@
--- A shape has at most twice as many nodes as pointers; folding a shape changes nothing
+-- A shape has at most twice as many nodes as pointers; folding a shape changes nothing; segments are what 01 says.
 use Prim.Native.Nat.{_*_, _+_, _<_, _≤_, suc, zero, ℕ}
 use mathlib.Core.Path.{_∙_, _≡_, ap, refl, subst, sym}
 use mathlib.Core.Bool.{Bool, cond, false, true}
@@ -8,14 +8,15 @@ use lib.Dec.{eqb, leb}
 use lib.ListN.{length, length-map}
 use borrow.Author.Tests.{leb-true, ne-eqb}
 use Rattle.model.specs.Base.{mem}
-use Rattle.model.specs.Heap.{Heap, Slot, Val, cell, holds, kept, next, null, order, undef, unused}
+use Rattle.model.specs.Heap.{Heap, Slot, Val, cell, holds, next, null, order, undef, unused}
 use Rattle.model.specs.Shape.{Seg, core, cut, cutFrom, holdsCell, isCell, last, nodeSlot, nodeVal, segments, shape}
 use Rattle.model.proofs.Cores.{core-head}
+use Rattle.model.proofs.Cuts.{AllCore, Cuts, alls-at, core-of-pointed, linked-chain}
 use Rattle.model.proofs.Folds.{Alls, Kept, fold-same}
 use Rattle.model.proofs.Logic.{bool-case, clash, eq-case, eqb-same, or-cases, or-l, tsum}
 use Rattle.model.proofs.Notions.{Chain, segAt}
 use Rattle.model.proofs.Order.{toured}
-use Rattle.model.proofs.Start.{AllCore, Cuts, alls-at, core-of-pointed, cuts-good, end, last-head, linked-chain, slot-at, start}
+use Rattle.model.proofs.Start.{cuts-good, end, last-head, slot-at, start}
 use Rattle.model.proofs.Walks.{ClosedHeap, Tours, Walks, at-null, at-seen, at-undef, go, holders, pointed, tour-done, tour-more}
 
 pub fold-fold : (h : Heap) → ClosedHeap h → Kept h → shape (shape h) ≡ shape h
@@ -74,7 +75,8 @@ delta-zero (suc b) d h = rw (ne-eqb b d (λ e. omega arith)) (let r = delta-zero
 
 delta-one : (b d : ℕ) → tsum b (λ i. one-if (eqb i d)) ≤ 1
 delta-one zero d = omega arith
-delta-one (suc b) d = eq-case b d (λ e. let r = delta-zero b d (omega arith) in let q : eqb b d ≡ true = subst (λ x. eqb x d ≡ true) (sym e) (eqb-same d) in rw q (omega arith)) (λ e. rw e (let r = delta-one b d in omega arith))
+delta-one (suc b) d = eq-case b d (λ e. let r = delta-zero b d (omega arith) in
+    let q : eqb b d ≡ true = subst (λ x. eqb x d ≡ true) (sym e) (eqb-same d) in rw q (omega arith)) (λ e. rw e (let r = delta-one b d in omega arith))
 
 abbrev pcount : ℕ → List Val → ℕ
 pcount n [] = 0
@@ -102,7 +104,8 @@ pointed-count n [] h = clash h refl
 pointed-count n (v ∷ vs) h = or-cases (isCell n v) (pointed n vs) h (λ e. rw e (omega arith)) (λ e. omega (arith, pointed-count n vs e))
 
 core-count : (h : Heap) (n : ℕ) → core h n ≡ true → 2 ≤ (pcount n (h .ptrs) + pcount n (h .ptrs)) + holders n (h .slots)
-core-count h n c = or-cases (pointed n (h .ptrs)) (leb 2 (holders n (h .slots))) c (λ e. omega (arith, pointed-count n (h .ptrs) e)) (λ e. omega (arith, leb-true 2 (holders n (h .slots)) e))
+core-count h n c = or-cases (pointed n (h .ptrs)) (leb 2 (holders n (h .slots))) c (λ e. omega (arith, pointed-count n (h .ptrs) e))
+    (λ e. omega (arith, leb-true 2 (holders n (h .slots)) e))
 
 core-bound : (h : Heap) → ((n : ℕ) → n < length (h .slots) → core h n ≡ true) → length (h .slots) ≤ length (h .ptrs) + length (h .ptrs)
 core-bound h c =
@@ -117,7 +120,7 @@ core-bound h c =
       hcounts b (h .slots),
     )
 
-module _ (h : Heap) (cl : ClosedHeap h) (kept : Kept h) where
+module _ (h : Heap) (cl : ClosedHeap h) (kp : Kept h) where
   heads-core : Alls (λ s. core h (s .first) ≡ true) (segments h)
   heads-core = cuts-heads (next h) (core h) (order h)
       (tours-first (next h) (core h) (toured h cl .tours) tt (core-of-pointed h (h .ptrs) (λ c q. or-l (pointed c (h .ptrs)) (leb 2 (holders c (h .slots))) q)))
@@ -125,7 +128,7 @@ module _ (h : Heap) (cl : ClosedHeap h) (kept : Kept h) where
   -- each node of a shape is core
   pub nodes-core : (n : ℕ) → n < length (segments h) → core (shape h) n ≡ true
   nodes-core n q =
-      sym (core-head (shape h) (segAt (segments h)) h (start h cl kept) n (nodeVal (segments h) (end h cl kept n q .0), slot-at h cl kept n q))
+      sym (core-head (shape h) (segAt (segments h)) h (start h cl kp) n (nodeVal (segments h) (end h cl kp n q .0), slot-at h cl kp n q))
       ∙ alls-at (λ s. core h (s .first) ≡ true) (segments h) heads-core n q
 
   pub few-nodes : length (segments h) ≤ length (h .ptrs) + length (h .ptrs)
@@ -135,15 +138,17 @@ module _ (h : Heap) (cl : ClosedHeap h) (kept : Kept h) where
       omega (arith, core-bound (shape h) (λ n q. nodes-core n (omega arith)))
 
   -- segments are what the paper says: a core cell, and the cells after it up to the next core cell, null, undefined or itself again
-  pub segment-is : (n : ℕ) → n < length (segments h) → (v : Val) × (core h (segAt (segments h) n .first) ≡ true) × ((d : ℕ) → mem d (segAt (segments h) n .rest) ≡ true → core h d ≡ false)
+  pub segment-is : (n : ℕ) → n < length (segments h)
+      → (v : Val) × (core h (segAt (segments h) n .first) ≡ true) × ((d : ℕ) → mem d (segAt (segments h) n .rest) ≡ true → core h d ≡ false)
       × Chain (next h) (segAt (segments h) n .first) (segAt (segments h) n .rest) v × ((c : ℕ) → v ≡ cell c → core h c ≡ true)
   segment-is n q =
       let s = segAt (segments h) n in
-      let g = alls-at (Cuts (next h) (core h)) (segments h) (cuts-good h cl kept) n q in
-      let e = end h cl kept n q in (
+      let g = alls-at (Cuts (next h) (core h)) (segments h) (cuts-good h cl kp) n q in
+      let e = end h cl kp n q in (
         e .0,
         alls-at (λ s. core h (s .first) ≡ true) (segments h) heads-core n q,
         g .1,
         linked-chain (next h) (core h) (s .first) (s .rest) (e .0) (g .0) (e .1),
-        λ c p. let r = last-head h cl kept n c q (e .1 ∙ ap holds p) in ap (core h) (sym (r .2)) ∙ alls-at (λ s. core h (s .first) ≡ true) (segments h) heads-core (r .0) (r .1),
+        λ c p. let r = last-head h cl kp n c q (e .1 ∙ ap holds p) in
+            ap (core h) (sym (r .2)) ∙ alls-at (λ s. core h (s .first) ≡ true) (segments h) heads-core (r .0) (r .1),
       )

@@ -1,4 +1,4 @@
--- Bytes and two-byte numbers read back: values, words, updates, and the records of a table; elements of a list by place.
+-- Bytes and two-byte numbers are read back: values, words, updates, and the records of a table.
 use Prim.Native.Nat.{_%_, _*_, _+_, _-_, _/_, _<_, _^_, _≤_, suc, zero, ℕ}
 use mathlib.Core.Path.{_∙_, _≡_, ap, ap₂, refl, sym}
 use mathlib.Core.Logic.{inl, inr}
@@ -13,7 +13,7 @@ use borrow.Author.Tests.{eqb-true, ne-eqb}
 use Rattle.model.specs.Base.{all, joined}
 use Rattle.model.specs.Edges.{Update}
 use Rattle.model.specs.Heap.{Val, cell, null, undef}
-use Rattle.model.specs.Records.{bits, isZero, recordAt, twoBytes, updateCode, valByte, valOf, word}
+use Rattle.model.specs.Records.{bits, filled, isZero, recordAt, twoBytes, updateCode, valByte, valOf, word}
 use Rattle.model.specs.Runs.{added, applied}
 use Rattle.model.specs.Translate.{tableOf}
 use Rattle.model.proofs.Lists.{In}
@@ -112,6 +112,10 @@ table-length n rs h k = omega (
 pub table-rest : (n : ℕ) (rs : List (List ℕ)) → ((r : List ℕ) → In r rs → length r ≡ 32)
     → drop (32 * length rs) (tableOf n rs) ≡ replicate (n - 32 * length rs) 0
 table-rest n rs h = drop-at (joined rs) (replicate (n - 32 * length rs) 0) (32 * length rs) (joined-length rs h)
+
+-- a list made n long by zeros
+pub filled-length : (n : ℕ) (l : List ℕ) → length l ≤ n → length (filled n l) ≡ n
+filled-length n l h = omega (arith, length-append l (replicate (n - length l) 0), length-replicate {A = ℕ} (n - length l) 0)
 
 -- bytes that are all zero
 pub all-zero : (l : List ℕ) → all isZero l ≡ true → l ≡ replicate (length l) 0

@@ -1,4 +1,4 @@
--- Shapes: a heap all of whose slots are used, whose cells are all core and are visited in the order of their numbers
+-- Shapes: heaps all of whose slots are used, whose cells are all core and are visited in the order of their numbers. What folding gives is one.
 use Prim.Native.Nat.{_+_, _<_, _≤_, suc, zero, ℕ}
 use mathlib.Core.Path.{_∙_, _≡_, ap, ap₂, refl, sym}
 use mathlib.Core.Bool.{Bool, true}
@@ -52,9 +52,16 @@ fold-canon h cl k =
     let len = length-map (segments h) (λ (s : Seg). nodeSlot (segments h) (next h (last s))) in
     let C : ClosedHeap (shape h) = (X .closed, X .body .closed) in
     let e : order (shape h) ≡ numbers 0 (length (segments h)) =
-    cat-inj (next (shape h)) (segAt (segments h)) (next h) (X .body) (order (shape h)) (numbers 0 (length (segments h))) (toured (shape h) C .used) (λ n q. let lt : n < length (segments h) = (let r = numbers-mem 0 (length (segments h)) n q in omega arith) in (nodeVal (segments h) (end h cl k n lt .0), slot-at h cl k n lt))
+    cat-inj (next (shape h)) (segAt (segments h)) (next h) (X .body) (order (shape h)) (numbers 0 (length (segments h))) (toured (shape h) C .used)
+    (λ n q. let lt : n < length (segments h) = (let r = numbers-mem 0 (length (segments h)) n q in omega arith) in
+    (nodeVal (segments h) (end h cl k n lt .0), slot-at h cl k n lt))
     (sym (order-cat (shape h) (segAt (segments h)) h X) ∙ sym (flat-is h cl k) ∙ flat-cat (segments h)) in
-    record { closed = C; kept = kept-down (shape h) (segAt (segments h)) h X k; numbered = e ∙ ap (numbers 0) (sym len); all-core = λ n q. nodes-core h cl k n (omega arith) }
+    record {
+      closed = C;
+      kept = kept-down (shape h) (segAt (segments h)) h X k;
+      numbered = e ∙ ap (numbers 0) (sym len);
+      all-core = λ n q. nodes-core h cl k n (omega arith);
+    }
 
 -- and a shape is its own shape, each node a segment of its own
 abbrev pub single : ℕ → Seg
@@ -79,7 +86,8 @@ module _ (h : Heap) (C : Canon h) where
   nodes = map single (numbers 0 (length (h .slots)))
 
   pub canon-segments : segments h ≡ map single (numbers 0 (length (h .slots)))
-  canon-segments = rw (C .numbered) (cuts-single (core h) (numbers 0 (length (h .slots))) (λ n q. C .all-core n (let r = numbers-mem 0 (length (h .slots)) n q in omega arith)))
+  canon-segments = rw (C .numbered) (cuts-single (core h) (numbers 0 (length (h .slots)))
+      (λ n q. C .all-core n (let r = numbers-mem 0 (length (h .slots)) n q in omega arith)))
 
   val-id : (v : Val) → Closed (next h) v → nodeVal nodes v ≡ v
   val-id null k = refl

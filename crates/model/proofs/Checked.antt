@@ -62,7 +62,8 @@ accepted-h : (earlier : List (List ℕ)) (r : List ℕ) → refusalH earlier r �
     → (layoutH r ≡ true) × (canonical (shapeOf r) ≡ true) × (any (sameList eqb r) earlier ≡ false)
 accepted-h earlier r e = bool-case (layoutH r)
     (λ l. bool-case (canonical (shapeOf r))
-    (λ c. bool-case (any (sameList eqb r) earlier) (λ a. absurd (let z = rw (l, refusalH) at e in let y = rw (c, refusalH) at z in let x = rw a at y in omega arith)) (λ a. (l, c, a)))
+    (λ c. bool-case (any (sameList eqb r) earlier)
+    (λ a. absurd (let z = rw (l, refusalH) at e in let y = rw (c, refusalH) at z in let x = rw a at y in omega arith)) (λ a. (l, c, a)))
     (λ c. absurd (let z = rw (l, refusalH) at e in let y = rw (c, refusalH) at z in omega arith)))
     (λ l. absurd (let z = rw (l, refusalH) at e in omega arith))
 
@@ -73,7 +74,8 @@ Accepted n earlier (r ∷ rs) = (cond (isS r) (refusalS n r) (refusalH earlier r
 
 records-accepted : (n i : ℕ) (earlier rs : List (List ℕ)) → badRecord n i earlier rs ≡ none → Accepted n earlier rs
 records-accepted n i earlier [] e = tt
-records-accepted n i earlier (r ∷ rs) e = by-refusal (cond (isS r) (refusalS n r) (refusalH earlier r)) refl (λ z. records-accepted n (suc i) (r ∷ earlier) rs z)
+records-accepted n i earlier (r ∷ rs) e =
+    by-refusal (cond (isS r) (refusalS n r) (refusalH earlier r)) refl (λ z. records-accepted n (suc i) (r ∷ earlier) rs z)
   where
     by-refusal : (m : ℕ) → cond (isS r) (refusalS n r) (refusalH earlier r) ≡ m
         → (badRecord n (suc i) (r ∷ earlier) rs ≡ none → Accepted n (r ∷ earlier) rs) → Accepted n earlier (r ∷ rs)
@@ -95,7 +97,8 @@ not-again n earlier (r ∷ rs) x y a h i (inl p) e =
     clash (any-in (sameList eqb r) earlier r w (same-bytes-refl r)) z
 not-again n earlier (r ∷ rs) x y a h i (inr j) e = not-again n (r ∷ earlier) rs x y (a .1) (and-r (isH r) (all isH rs) h) (inr i) j e
 
-good-h : (n : ℕ) (earlier rs : List (List ℕ)) → Accepted n earlier rs → all isH rs ≡ true → ((r : List ℕ) → In r rs → length r ≡ 32) → (r : List ℕ) → In r rs → GoodH r
+good-h : (n : ℕ) (earlier rs : List (List ℕ)) → Accepted n earlier rs → all isH rs ≡ true → ((r : List ℕ) → In r rs → length r ≡ 32) → (r : List ℕ)
+    → In r rs → GoodH r
 good-h n earlier [] a h w r i = absurd i
 good-h n earlier (x ∷ rs) a h w r (inl e) =
     let q = accepted-h earlier x (rw (not-both x (and-l (isH x) (all isH rs) h)) at (a .0)) in
@@ -129,7 +132,8 @@ bad-good {x = x} {r = r} e = absurd (let z : _≡_ {A = ℕ} 0 1 = cc in omega a
 pub good-inj : {q r : Routine} → good q ≡ good r → q ≡ r
 good-inj {q} {r} e = cc
 
-records-good : (n : ℕ) (rs : List (List ℕ)) (r : Routine) → ((x : List ℕ) → In x rs → length x ≡ 32) → all isH (drop n rs) ≡ true → checkRecords n rs ≡ good r → GoodStarts r
+records-good : (n : ℕ) (rs : List (List ℕ)) (r : Routine) → ((x : List ℕ) → In x rs → length x ≡ 32) → all isH (drop n rs) ≡ true
+    → checkRecords n rs ≡ good r → GoodStarts r
 records-good n rs r w h e = by-bad (badRecord n 0 [] rs) refl
   where
     by-bad : (o : Option Refusal) → badRecord n 0 [] rs ≡ o → GoodStarts r
@@ -141,12 +145,15 @@ records-good n rs r w h e = by-bad (badRecord n 0 [] rs) refl
         subst GoodStarts k (record {
           shapes = λ x i. let m = in-map shapeOf x (drop n rs) i in
               let z = g (m .0) (m .1) in
-              subst (λ y. Canon y × (length (y .ptrs) ≡ 6)) (sym (m .2))
-              (canonical-canon (shapeOf (m .0)) (test-closed (shapeOf (m .0)) (layout-closed (m .0) (z .wide) (z .isLayout))) (z .isCanonical), layout-pointers (m .0) (z .wide) (z .isLayout));
+              subst (λ y. Canon y × (length (y .ptrs) ≡ 6)) (sym (m .2)) (
+                canonical-canon (shapeOf (m .0)) (test-closed (shapeOf (m .0)) (layout-closed (m .0) (z .wide) (z .isLayout))) (z .isCanonical),
+                layout-pointers (m .0) (z .wide) (z .isLayout),
+              );
           distinct = distinct-h n (a .0) (drop n rs) (a .1) h g;
         })
 
-counts-good : (rs : List (List ℕ)) (r : Routine) → ((x : List ℕ) → In x rs → length x ≡ 32) → all isH (drop (count isS rs) rs) ≡ true → checkCounts rs ≡ good r → GoodStarts r
+counts-good : (rs : List (List ℕ)) (r : Routine) → ((x : List ℕ) → In x rs → length x ≡ 32) → all isH (drop (count isS rs) rs) ≡ true
+    → checkCounts rs ≡ good r → GoodStarts r
 counts-good rs r w h e = bool-case (between 1 64 (count isS rs))
     (λ a. let e1 = rw (a, checkCounts) at e in bool-case (between 1 16 (count isH rs))
     (λ b. records-good (count isS rs) rs r w h (rw (b, checkCounts) at e1))
@@ -165,7 +172,8 @@ pub check-good : (s : List ℕ) (r : Routine) → check s ≡ good r → GoodSta
 unfolding check
 check-good s r e = bool-case (eqb (length s) 0 || not (eqb (length s % 32) 0))
     (λ a. bad-good (rw (a, check) at e))
-    (λ a. kinds-good (chunks (length s / 32) s) r (chunks-wide (length s / 32) s (whole-part (or-false-r (eqb (length s) 0) (not (eqb (length s % 32) 0)) a))) (rw (a, check) at e))
+    (λ a. kinds-good (chunks (length s / 32) s) r (chunks-wide (length s / 32) s
+    (whole-part (or-false-r (eqb (length s) 0) (not (eqb (length s % 32) 0)) a))) (rw (a, check) at e))
   where
     whole-part : not (eqb (length s % 32) 0) ≡ false → length s ≡ 32 * (length s / 32)
     whole-part h = bool-case (eqb (length s % 32) 0) (λ z. let m = eqb-true (length s % 32) 0 z in omega arith) (λ z. clash refl (sym (ap not z) ∙ h))

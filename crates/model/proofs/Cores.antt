@@ -1,4 +1,4 @@
--- Core cells carry over: the head of a chain is core as its node is; the other cells of a chain never are
+-- Core cells: what the test says; and they carry over to an expansion: the head of a chain is core as its node is, the other cells never are.
 use Prim.Native.Nat.{_≤_, suc, zero, ℕ}
 use mathlib.Core.Path.{_∙_, _≡_, ap, ap₂, refl, subst, sym}
 use mathlib.Core.Logic.{_↔_, _⊎_, inl, inr, ⊎-elim}
@@ -96,7 +96,8 @@ mem-last c [] = mem-here c []
 mem-last c (d ∷ l) = mem-there (lastFrom d l) c (d ∷ l) (mem-last d l)
 
 -- in a chain one cell at most holds d, if the chain does not end in d
-pub one-in : (nx : ℕ → Slot) (c : ℕ) (l : List ℕ) (v : Val) (a b d : ℕ) → Chain nx c l v → NoDup (c ∷ l) → (v ≡ cell d → ⊥) → mem a (c ∷ l) ≡ true → mem b (c ∷ l) ≡ true
+pub one-in : (nx : ℕ → Slot) (c : ℕ) (l : List ℕ) (v : Val) (a b d : ℕ) → Chain nx c l v → NoDup (c ∷ l) → (v ≡ cell d → ⊥) → mem a (c ∷ l) ≡ true
+    → mem b (c ∷ l) ≡ true
     → nx a ≡ holds (cell d) → nx b ≡ holds (cell d) → a ≡ b
 one-in nx c [] v a b d ch nd nv ha hb ea eb = mem-cases a c [] ha (λ p. mem-cases b c [] hb (λ q. p ∙ sym q) (λ k. clash k refl)) (λ k. clash k refl)
 one-in nx c (x ∷ l) v a b d ch nd nv ha hb ea eb =
@@ -117,7 +118,8 @@ module _ (nw : ℕ → Slot) (sg : ℕ → Seg) (nh : ℕ → Slot) (E : Expands
       clash (subst (λ x. mem (sg n .first) (sg x .rest) ≡ true) (sym e) h) (E .nodup n u .0)
 
   pub first-inj : (n m : ℕ) → Used nw n → Used nw m → sg n .first ≡ sg m .first → n ≡ m
-  first-inj n m u w e = E .apart n m (sg n .first) u w (mem-here (sg n .first) (sg n .rest)) (subst (λ x. mem x (cells (sg m)) ≡ true) (sym e) (mem-here (sg m .first) (sg m .rest)))
+  first-inj n m u w e = E .apart n m (sg n .first) u w (mem-here (sg n .first) (sg n .rest))
+      (subst (λ x. mem x (cells (sg m)) ≡ true) (sym e) (mem-here (sg m .first) (sg m .rest)))
 
   img-cell : (v : Val) (n : ℕ) → Used nw n → Closed nw v → img sg v ≡ cell (sg n .first) → v ≡ cell n
   img-cell null n u k e = cc
@@ -148,7 +150,8 @@ module _ (nw : ℕ → Slot) (sg : ℕ → Seg) (nh : ℕ → Slot) (E : Expands
       let ends : (m : ℕ) → mem (last (sg m)) (cells (sg m)) ≡ true = λ m. mem-last (sg m .first) (sg m .rest) in (
         last (sg (t .0)),
         last (sg (t .1)),
-        (λ e. t .2 (E .apart (t .0) (t .1) (last (sg (t .0))) (cell n, t .3) (cell n, t .4) (ends (t .0)) (subst (λ x. mem x (cells (sg (t .1))) ≡ true) (sym e) (ends (t .1))))),
+        (λ e. t .2 (E .apart (t .0) (t .1) (last (sg (t .0))) (cell n, t .3) (cell n, t .4) (ends (t .0))
+            (subst (λ x. mem x (cells (sg (t .1))) ≡ true) (sym e) (ends (t .1))))),
         chain-last nh (sg (t .0) .first) (sg (t .0) .rest) (cell (sg n .first)) (E .chain (t .0) (cell n) (t .3)),
         chain-last nh (sg (t .1) .first) (sg (t .1) .rest) (cell (sg n .first)) (E .chain (t .1) (cell n) (t .4)),
       )
@@ -159,7 +162,8 @@ module _ (nw : ℕ → Slot) (sg : ℕ → Seg) (nh : ℕ → Slot) (E : Expands
       let m = r .0 in
       let v = r .1 .0 in
       next-in nh (sg m .first) (sg m .rest) (img sg v) a d (E .chain m v (r .1 .1)) (r .2) e
-      (λ k. subst (λ x. mem a (cells (sg x)) ≡ true) (E .apart m n d (r .1) u (mem-there d (sg m .first) (sg m .rest) k) (mem-there d (sg n .first) (sg n .rest) h)) (r .2))
+      (λ k. subst (λ x. mem a (cells (sg x)) ≡ true)
+      (E .apart m n d (r .1) u (mem-there d (sg m .first) (sg m .rest) k) (mem-there d (sg n .first) (sg n .rest) h)) (r .2))
       (λ q p. absurd (img-inner v n d u (E .closed m v (r .1 .1)) h p))
 
   inner-two : (n d : ℕ) → Used nw n → mem d (sg n .rest) ≡ true → Two nh d → ⊥
@@ -180,14 +184,17 @@ module _ (nw : ℕ → Slot) (sg : ℕ → Seg) (nh : ℕ → Slot) (E : Expands
   pointed-inner n d [] u h k = refl
   pointed-inner n d (null ∷ vs) u h k = pointed-inner n d vs u h (k .1)
   pointed-inner n d (undef ∷ vs) u h k = pointed-inner n d vs u h (k .1)
-  pointed-inner n d (cell m ∷ vs) u h k = rw (ne-eqb d (sg m .first) (λ e. img-inner (cell m) n d u (k .0) h (ap cell (sym e)))) (pointed-inner n d vs u h (k .1))
+  pointed-inner n d (cell m ∷ vs) u h k =
+      rw (ne-eqb d (sg m .first) (λ e. img-inner (cell m) n d u (k .0) h (ap cell (sym e)))) (pointed-inner n d vs u h (k .1))
 
 module _ (W : Heap) (sg : ℕ → Seg) (H : Heap) (X : Expansion W sg H) where
   pub core-head : (n : ℕ) → Used (next W) n → core H (sg n .first) ≡ core W n
   core-head n u = rw (X .ptrs) (ap₂ _||_ (pointed-head (next W) sg (next H) (X .body) n (W .ptrs) u (X .closed))
       (bool-ext (leb 2 (holders (sg n .first) (H .slots))) (leb 2 (holders n (W .slots)))
-      (λ e. let t = two-head (next W) sg (next H) (X .body) n u (two-of (sg n .first) (H .slots) (leb-true 2 _ e)) in le-leb 2 _ (of-two n (W .slots) (t .0) (t .1) (t .2) (t .3) (t .4)))
-      (λ e. let t = head-two (next W) sg (next H) (X .body) n (two-of n (W .slots) (leb-true 2 _ e)) in le-leb 2 _ (of-two (sg n .first) (H .slots) (t .0) (t .1) (t .2) (t .3) (t .4)))))
+      (λ e. let t = two-head (next W) sg (next H) (X .body) n u (two-of (sg n .first) (H .slots) (leb-true 2 _ e)) in
+      le-leb 2 _ (of-two n (W .slots) (t .0) (t .1) (t .2) (t .3) (t .4)))
+      (λ e. let t = head-two (next W) sg (next H) (X .body) n (two-of n (W .slots) (leb-true 2 _ e)) in
+      le-leb 2 _ (of-two (sg n .first) (H .slots) (t .0) (t .1) (t .2) (t .3) (t .4)))))
 
   pub core-inner : (n d : ℕ) → Used (next W) n → mem d (sg n .rest) ≡ true → core H d ≡ false
   core-inner n d u h = rw (X .ptrs, pointed-inner (next W) sg (next H) (X .body) n d (W .ptrs) u h (X .closed))

@@ -9,12 +9,13 @@ use Rattle.model.specs.Edges.{access, splitHeap}
 use Rattle.model.specs.Heap.{Heap, Slot, Val, cell, holds, next, null, ptr, undef, unused}
 use Rattle.model.specs.Machine.{Op, choose, clear, copy, effect, free, freeCell, freeVal, held, isNull, kind, load, new, put, putSlot, same, setNull, setPtr, skip, stop, store, through, wipe, wipeSlot}
 use Rattle.model.specs.Shape.{Seg, lastFrom}
-use Rattle.model.proofs.Changes.{expands-free, expands-new, expands-split, expands-write, f-closed, f-img, freed, n-closed, n-img, s-closed, s-img, upd-at, w-closed}
+use Rattle.model.proofs.Changes.{expands-free, expands-split, f-closed, f-img, freed, s-closed, s-img}
 use Rattle.model.proofs.Cores.{chain-last}
 use Rattle.model.proofs.Lists.{map-two}
 use Rattle.model.proofs.Logic.{eqb-same}
 use Rattle.model.proofs.Notions.{Expands, Expansion, img, upd}
 use Rattle.model.proofs.Walks.{AllClosed, Closed, Used, closed-map, closed-up, map-closed, seg}
+use Rattle.model.proofs.Writes.{expands-new, expands-write, n-closed, n-img, upd-at, w-closed}
 pub use Rattle.model.proofs.Notions.{Alike, Room, both-bad, both-ok, sg-after}
 
 getD-put : (l : List Slot) (c : ℕ) (s : Slot) (i : ℕ) → getD (put l c s) i unused ≡ cond (eqb i c) s (getD l i unused)
@@ -31,7 +32,8 @@ pub next-put : (h : Heap) (c : ℕ) (s : Slot) → next (putSlot c s h) ≡ upd 
 next-put h c s = fun-ext (λ i. getD-put (h .slots) c s i)
 
 pub next-free : (h : Heap) (c : ℕ) → next (freeCell c h) ≡ freed (next h) c
-next-free h c = fun-ext (λ i. getD-put (map (wipeSlot c) (h .slots)) c unused i ∙ ap (λ s. cond (eqb i c) unused s) (List·getD-map (wipeSlot c) (h .slots) i unused))
+next-free h c =
+    fun-ext (λ i. getD-put (map (wipeSlot c) (h .slots)) c unused i ∙ ap (λ s. cond (eqb i c) unused s) (List·getD-map (wipeSlot c) (h .slots) i unused))
 
 pub closed-ptr : (nx : ℕ → Slot) (vs : List Val) (u : ℕ) → AllClosed nx vs → Closed nx (getD vs u undef)
 closed-ptr nx [] u k = tt
@@ -62,9 +64,11 @@ module _ (W : Heap) (sg : ℕ → Seg) (H : Heap) (X : Expansion W sg H) where
     ptrs = rw (X .ptrs) (sym (map-set (img sg) (W .ptrs) u v));
   }
 
-  exp-write : (n h : ℕ) (v : Val) → sg n ≡ seg h [] → Used (next W) n → Closed (next W) v → Expansion (putSlot n (holds v) W) sg (putSlot h (holds (img sg v)) H)
+  exp-write : (n h : ℕ) (v : Val) → sg n ≡ seg h [] → Used (next W) n → Closed (next W) v
+      → Expansion (putSlot n (holds v) W) sg (putSlot h (holds (img sg v)) H)
   exp-write n h v single u k = record {
-    body = subst₂ (λ a b. Expands a sg b) (sym (next-put W n (holds v))) (sym (next-put H h (holds (img sg v)))) (expands-write (next W) sg (next H) (X .body) n h single u v k);
+    body = subst₂ (λ a b. Expands a sg b) (sym (next-put W n (holds v))) (sym (next-put H h (holds (img sg v))))
+        (expands-write (next W) sg (next H) (X .body) n h single u v k);
     closed = subst (λ a. AllClosed a (W .ptrs)) (sym (next-put W n (holds v)))
         (closed-up (next W) (upd (next W) n (holds v)) (W .ptrs) (w-closed (next W) sg (next H) (X .body) n h single u v k) (X .closed));
     ptrs = X .ptrs;
@@ -72,7 +76,8 @@ module _ (W : Heap) (sg : ℕ → Seg) (H : Heap) (X : Expansion W sg H) where
 
   exp-new : (n h : ℕ) → next W n ≡ unused → next H h ≡ unused → Expansion (putSlot n (holds undef) W) (upd sg n (seg h [])) (putSlot h (holds undef) H)
   exp-new n h fw fh = record {
-    body = subst₂ (λ a b. Expands a (upd sg n (seg h [])) b) (sym (next-put W n (holds undef))) (sym (next-put H h (holds undef))) (expands-new (next W) sg (next H) (X .body) n h fw fh);
+    body = subst₂ (λ a b. Expands a (upd sg n (seg h [])) b) (sym (next-put W n (holds undef))) (sym (next-put H h (holds undef)))
+        (expands-new (next W) sg (next H) (X .body) n h fw fh);
     closed = subst (λ a. AllClosed a (W .ptrs)) (sym (next-put W n (holds undef)))
         (closed-up (next W) (upd (next W) n (holds undef)) (W .ptrs) (n-closed (next W) sg (next H) (X .body) n h fw fh) (X .closed));
     ptrs = X .ptrs ∙ sym (map-closed (next W) (img (upd sg n (seg h []))) (img sg) (W .ptrs) (n-img (next W) sg (next H) (X .body) n h fw fh) (X .closed));
@@ -88,15 +93,19 @@ module _ (W : Heap) (sg : ℕ → Seg) (H : Heap) (X : Expansion W sg H) where
         ∙ map-closed (next W) (λ x. img sg (wipe n x)) (λ x. wipe h (img sg x)) (W .ptrs) (f-img (next W) sg (next H) (X .body) n h single u) (X .closed));
   }
 
-  pub exp-split : (n k h t : ℕ) (ts : List ℕ) → sg n ≡ seg h (t ∷ ts) → Used (next W) n → next W k ≡ unused → Expansion (splitHeap n k W) (upd (upd sg k (seg t ts)) n (seg h [])) H
+  pub exp-split : (n k h t : ℕ) (ts : List ℕ) → sg n ≡ seg h (t ∷ ts) → Used (next W) n → next W k ≡ unused
+      → Expansion (splitHeap n k W) (upd (upd sg k (seg t ts)) n (seg h [])) H
   exp-split n k h t ts longer u fw =
       let e : next (splitHeap n k W) ≡ upd (upd (next W) k (next W n)) n (holds (cell k)) =
       next-put (putSlot k (next W n) W) n (holds (cell k)) ∙ ap (λ f. upd f n (holds (cell k))) (next-put W k (next W n)) in
       record {
-        body = subst (λ a. Expands a (upd (upd sg k (seg t ts)) n (seg h [])) (next H)) (sym e) (expands-split (next W) sg (next H) (X .body) n k h t ts longer u fw);
+        body = subst (λ a. Expands a (upd (upd sg k (seg t ts)) n (seg h [])) (next H)) (sym e)
+            (expands-split (next W) sg (next H) (X .body) n k h t ts longer u fw);
         closed = subst (λ a. AllClosed a (W .ptrs)) (sym e)
-            (closed-up (next W) (upd (upd (next W) k (next W n)) n (holds (cell k))) (W .ptrs) (s-closed (next W) sg (next H) (X .body) n k h t ts longer u fw) (X .closed));
-        ptrs = X .ptrs ∙ sym (map-closed (next W) (img (upd (upd sg k (seg t ts)) n (seg h []))) (img sg) (W .ptrs) (s-img (next W) sg (next H) (X .body) n k h t ts longer u fw) (X .closed));
+            (closed-up (next W) (upd (upd (next W) k (next W n)) n (holds (cell k))) (W .ptrs)
+            (s-closed (next W) sg (next H) (X .body) n k h t ts longer u fw) (X .closed));
+        ptrs = X .ptrs ∙ sym (map-closed (next W) (img (upd (upd sg k (seg t ts)) n (seg h []))) (img sg) (W .ptrs)
+            (s-img (next W) sg (next H) (X .body) n k h t ts longer u fw) (X .closed));
       }
 
 module _ (W : Heap) (sg : ℕ → Seg) (H : Heap) (X : Expansion W sg H) where
@@ -123,19 +132,23 @@ module _ (W : Heap) (sg : ℕ → Seg) (H : Heap) (X : Expansion W sg H) where
   free-alike undef w e k o = rw e both-bad
   free-alike (cell n) w e k o = rw e (both-ok (exp-free W sg H X n (sg n .first) (one-cell n (o n refl)) k))
 
-  pub effect-alike : (op : Op) (k c : ℕ) → ((n : ℕ) → access op W ≡ cell n → sg n .rest ≡ []) → Room (kind op) W k → Room (kind op) H c → Alike (sg-after (kind op) k c sg) (effect op k W) (effect op c H)
+  pub effect-alike : (op : Op) (k c : ℕ) → ((n : ℕ) → access op W ≡ cell n → sg n .rest ≡ []) → Room (kind op) W k → Room (kind op) H c
+      → Alike (sg-after (kind op) k c sg) (effect op k W) (effect op c H)
   effect-alike stop k c o fw fh = both-ok X
   effect-alike choose k c o fw fh = both-ok X
   effect-alike skip k c o fw fh = both-ok X
   effect-alike (setNull u) k c o fw fh = both-ok (exp-ptr W sg H X u null tt)
   effect-alike (new u) k c o fw fh =
       let N = exp-new W sg H X k c fw fh in
-      both-ok (subst (λ v. Expansion (setPtr u (cell k) (putSlot k (holds undef) W)) (upd sg k (seg c [])) (setPtr u v (putSlot c (holds undef) H))) (ap (λ (s : Seg). cell (s .first)) (upd-at sg k (seg c []) k refl))
-      (exp-ptr (putSlot k (holds undef) W) (upd sg k (seg c [])) (putSlot c (holds undef) H) N u (cell k) (undef, getD-put (W .slots) k (holds undef) k ∙ rw (eqb-same k))))
+      both-ok (subst (λ v. Expansion (setPtr u (cell k) (putSlot k (holds undef) W)) (upd sg k (seg c [])) (setPtr u v (putSlot c (holds undef) H)))
+      (ap (λ (s : Seg). cell (s .first)) (upd-at sg k (seg c []) k refl))
+      (exp-ptr (putSlot k (holds undef) W) (upd sg k (seg c [])) (putSlot c (holds undef) H) N u (cell k)
+      (undef, getD-put (W .slots) k (holds undef) k ∙ rw (eqb-same k))))
   effect-alike (free u) k c o fw fh = free-alike (ptr W u) (ptr H u) (ptr-img W sg H X u) (ptr-closed W sg H X u) o
   effect-alike (clear u) k c o fw fh = clear-alike (ptr W u) (ptr H u) (ptr-img W sg H X u) (ptr-closed W sg H X u) o null tt
   effect-alike (isNull u) k c o fw fh = both-ok X
   effect-alike (copy u w) k c o fw fh = rw (ptr-img W sg H X w) (both-ok (exp-ptr W sg H X u (ptr W w) (ptr-closed W sg H X w)))
   effect-alike (load u w) k c o fw fh = load-alike u (ptr W w) (ptr H w) (ptr-img W sg H X w) (ptr-closed W sg H X w) o
-  effect-alike (store u w) k c o fw fh = rw (ptr-img W sg H X w) (clear-alike (ptr W u) (ptr H u) (ptr-img W sg H X u) (ptr-closed W sg H X u) o (ptr W w) (ptr-closed W sg H X w))
+  effect-alike (store u w) k c o fw fh =
+      rw (ptr-img W sg H X w) (clear-alike (ptr W u) (ptr H u) (ptr-img W sg H X u) (ptr-closed W sg H X u) o (ptr W w) (ptr-closed W sg H X w))
   effect-alike (same u w) k c o fw fh = both-ok X

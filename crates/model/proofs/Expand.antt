@@ -1,4 +1,4 @@
--- One heap as the expansion of another: each cell n of the small heap is a chain of cells, `sg n`, of the large one
+-- One heap as the expansion of another: the walk carries over, along the chains.
 use Prim.Native.Nat.{ℕ}
 use mathlib.Core.Path.{_∙_, _≡_, ap, refl, subst, sym}
 use mathlib.Core.Bool.{false, true}
@@ -64,7 +64,8 @@ module _ (nw : ℕ → Slot) (sg : ℕ → Seg) (nh : ℕ → Slot) (E : Expands
       us′ : AllUsed nw (s ++ n ∷ [])
       us′ m k = mem-append-cases m s (n ∷ []) k (us m) (λ q. (v, ap nw (mem-one m n q) ∙ e))
 
-  pub lift-tour : {s t : List ℕ} {vs : List Val} → AllUsed nw s → AllClosed nw vs → Tours nw s vs t → Tours nh (cat sg s) (map (img sg) vs) (cat sg t) × AllUsed nw t
+  pub lift-tour : {s t : List ℕ} {vs : List Val} → AllUsed nw s → AllClosed nw vs → Tours nw s vs t
+      → Tours nh (cat sg s) (map (img sg) vs) (cat sg t) × AllUsed nw t
   lift-tour us cl tour-done = (tour-done, us)
   lift-tour us cl (tour-more w ws) =
       let r = lift-walk us (cl .0) w in

@@ -9,11 +9,11 @@ use lib.ListN.{getD}
 use Rattle.model.specs.Base.{all, mem}
 use Rattle.model.specs.Heap.{Heap, IsHeap, Slot, Val, cell, closed, eachUsed, holds, inUse, kept, named, next, null, order, slotNamed, undef, unused}
 use Rattle.model.specs.Shape.{Seg}
-use Rattle.model.proofs.Changes.{slot-clash}
 use Rattle.model.proofs.Folds.{Kept, kept-down, kept-up}
 use Rattle.model.proofs.Logic.{and-both, and-l, and-r, bool-ext, clash}
 use Rattle.model.proofs.Notions.{Expansion}
 use Rattle.model.proofs.Walks.{AllClosed, Closed, ClosedHeap, Used}
+use Rattle.model.proofs.Writes.{slot-clash}
 
 pub used-of : (s : Slot) → inUse s ≡ true → (v : Val) × (s ≡ holds v)
 used-of unused h = clash h refl
@@ -65,7 +65,8 @@ test-closed h e = (
 )
 
 pub closed-test : (h : Heap) → ClosedHeap h → closed h ≡ true
-closed-test h k = and-both (all (named (next h)) (h .ptrs)) (all (slotNamed (next h)) (h .slots)) (named-all (next h) (h .ptrs) (k .0)) (named-slots (next h) (h .slots) (k .1))
+closed-test h k = and-both (all (named (next h)) (h .ptrs)) (all (slotNamed (next h)) (h .slots)) (named-all (next h) (h .ptrs) (k .0))
+    (named-slots (next h) (h .slots) (k .1))
 
 -- the test of each cell in use
 each-used : (p : ℕ → Bool) (i : ℕ) (ss : List Slot) → ((j : ℕ) → Used (λ x. getD ss x unused) j → p (i + j) ≡ true) → eachUsed p i ss ≡ true

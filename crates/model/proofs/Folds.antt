@@ -1,4 +1,4 @@
--- The fold carries over: an expansion folds to the same shape, with the sizes added up, and leaks when the other does
+-- The fold carries over: an expansion folds to the same shape, with the sizes added up, and has lost a cell when the other has.
 use Prim.Native.Nat.{_+_, suc, ℕ}
 use mathlib.Core.Path.{_∙_, _≡_, ap, ap₂, refl, subst, sym}
 use mathlib.Core.Bool.{Bool, cond, false, true}
@@ -27,11 +27,16 @@ abbrev pub Alls : (Seg → Type 0) → List Seg → Type 0
 Alls P [] = Unit {0}
 Alls P (s ∷ ss) = P s × Alls P ss
 
-pub cut-used : (nx : ℕ → Slot) (p : ℕ → Bool) (c : ℕ) (cur l : List ℕ) → AllUsed nx (c ∷ cur) → AllUsed nx l → Alls (λ s. AllUsed nx (cells s)) (cutFrom p c cur l)
+pub cut-used : (nx : ℕ → Slot) (p : ℕ → Bool) (c : ℕ) (cur l : List ℕ) → AllUsed nx (c ∷ cur) → AllUsed nx l
+    → Alls (λ s. AllUsed nx (cells s)) (cutFrom p c cur l)
 cut-used nx p c cur [] us ul = (us, tt)
 cut-used nx p c cur (d ∷ l) us ul =
     bool-case (p d)
-    (λ e. rw (e, cutFrom) (us, cut-used nx p d [] l (λ n k. ul n (subst (λ x. mem x (d ∷ l) ≡ true) (sym (mem-one n d k)) (mem-here d l))) (λ n k. ul n (mem-there n d l k))))
+    (λ e. rw (e, cutFrom) (
+      us,
+      cut-used nx p d [] l (λ n k. ul n (subst (λ x. mem x (d ∷ l) ≡ true) (sym (mem-one n d k)) (mem-here d l)))
+          (λ n k. ul n (mem-there n d l k)),
+    ))
     (λ e. rw (e, cutFrom) (cut-used nx p c (cur ++ d ∷ []) l
     (λ n k. mem-append-cases n (c ∷ cur) (d ∷ []) k (us n) (λ q. ul n (subst (λ x. mem x (d ∷ l) ≡ true) (sym (mem-one n d q)) (mem-here d l))))
     (λ n k. ul n (mem-there n d l k))))
@@ -42,7 +47,8 @@ grow sg s = seg (sg (s .first) .first) (sg (s .first) .rest ++ cat sg (s .rest))
 cut-inner : (p : ℕ → Bool) (c : ℕ) (cur t l : List ℕ) → ((d : ℕ) → mem d t ≡ true → p d ≡ false) → cutFrom p c cur (t ++ l) ≡ cutFrom p c (cur ++ t) l
 cut-inner p c cur [] l h = rw (append-nil cur)
 cut-inner p c cur (d ∷ t) l h =
-    rw (h d (mem-here d t), cutFrom) (cut-inner p c (cur ++ d ∷ []) t l (λ x k. h x (mem-there x d t k)) ∙ ap (λ z. cutFrom p c z l) (append-assoc cur (d ∷ []) t))
+    rw (h d (mem-here d t), cutFrom) (cut-inner p c (cur ++ d ∷ []) t l (λ x k. h x (mem-there x d t k))
+    ∙ ap (λ z. cutFrom p c z l) (append-assoc cur (d ∷ []) t))
 
 last-append : (c d : ℕ) (t u : List ℕ) → lastFrom c (t ++ d ∷ u) ≡ lastFrom d u
 last-append c d [] u = refl
@@ -57,7 +63,8 @@ mem-last-used nx c [] us = us c (mem-here c [])
 mem-last-used nx c (d ∷ l) us = mem-last-used nx d l (λ n k. us n (mem-there n c (d ∷ l) k))
 
 module _ (pw ph : ℕ → Bool) (sg : ℕ → Seg) where
-  cut-cat : (n : ℕ) (cur l : List ℕ) → ((m : ℕ) → mem m l ≡ true → ph (sg m .first) ≡ pw m) → ((m d : ℕ) → mem m l ≡ true → mem d (sg m .rest) ≡ true → ph d ≡ false)
+  cut-cat : (n : ℕ) (cur l : List ℕ) → ((m : ℕ) → mem m l ≡ true → ph (sg m .first) ≡ pw m)
+      → ((m d : ℕ) → mem m l ≡ true → mem d (sg m .rest) ≡ true → ph d ≡ false)
       → cutFrom ph (sg n .first) (sg n .rest ++ cat sg cur) (cat sg l) ≡ map (grow sg) (cutFrom pw n cur l)
   cut-cat n cur [] hh hi = refl
   cut-cat n cur (m ∷ l) hh hi =
@@ -97,7 +104,8 @@ module _ (W : Heap) (sg : ℕ → Seg) (H : Heap) (X : Expansion W sg H) where
   img-closed : (v : Val) → Closed (next W) v → Closed (next H) (img sg v)
   img-closed null k = tt
   img-closed undef k = tt
-  img-closed (cell n) k = chain-used (next H) (sg n .first) (sg n .rest) (img sg (k .0)) (sg n .first) (X .body .chain n (k .0) (k .1)) (mem-here (sg n .first) (sg n .rest))
+  img-closed (cell n) k =
+      chain-used (next H) (sg n .first) (sg n .rest) (img sg (k .0)) (sg n .first) (X .body .chain n (k .0) (k .1)) (mem-here (sg n .first) (sg n .rest))
 
   next-closed : (c : ℕ) (v : Val) → next H c ≡ holds v → Closed (next H) v
   next-closed c null e = tt
@@ -128,7 +136,8 @@ module _ (W : Heap) (sg : ℕ → Seg) (H : Heap) (X : Expansion W sg H) where
   node-grow n [] u us = refl
   node-grow n (s ∷ ss) u us = ap₂ (λ b k. cond b 0 (suc k))
       (bool-ext (eqb (sg n .first) (sg (s .first) .first)) (eqb n (s .first))
-      (λ e. eq-eqb n (s .first) (first-inj (next W) sg (next H) (X .body) n (s .first) u (us .0 (s .first) (mem-here (s .first) (s .rest))) (eqb-true (sg n .first) (sg (s .first) .first) e)))
+      (λ e. eq-eqb n (s .first) (first-inj (next W) sg (next H) (X .body) n (s .first) u (us .0 (s .first) (mem-here (s .first) (s .rest)))
+      (eqb-true (sg n .first) (sg (s .first) .first) e)))
       (λ e. eq-eqb (sg n .first) (sg (s .first) .first) (ap (λ x. sg x .first) (eqb-true n (s .first) e))))
       (node-grow n ss u (us .1))
 
@@ -148,7 +157,8 @@ module _ (W : Heap) (sg : ℕ → Seg) (H : Heap) (X : Expansion W sg H) where
   slot-grow s ss u us =
       let m = last s in
       let k = mem-last-used (next W) (s .first) (s .rest) u in
-      let e : next H (last (grow sg s)) ≡ holds (img sg (k .0)) = ap (next H) (last-cat sg (s .first) (s .rest)) ∙ chain-last (next H) (sg m .first) (sg m .rest) (img sg (k .0)) (X .body .chain m (k .0) (k .1)) in
+      let e : next H (last (grow sg s)) ≡ holds (img sg (k .0)) = ap (next H) (last-cat sg (s .first) (s .rest))
+      ∙ chain-last (next H) (sg m .first) (sg m .rest) (img sg (k .0)) (X .body .chain m (k .0) (k .1)) in
       ap (nodeSlot (map (grow sg) ss)) e ∙ ap holds (val-grow (k .0) ss (X .body .closed m (k .0) (k .1)) us) ∙ sym (ap (nodeSlot ss) (k .1))
 
   slots-grow : (r ss : List Seg) → Alls (λ s. AllUsed (next W) (cells s)) r → Alls (λ s. AllUsed (next W) (cells s)) ss
@@ -158,12 +168,16 @@ module _ (W : Heap) (sg : ℕ → Seg) (H : Heap) (X : Expansion W sg H) where
 
   pub segments-used : (p : ℕ → Bool) (l : List ℕ) → AllUsed (next W) l → Alls (λ s. AllUsed (next W) (cells s)) (cut p l)
   segments-used p [] us = tt
-  segments-used p (c ∷ l) us = cut-used (next W) p c [] l (λ n k. us n (subst (λ x. mem x (c ∷ l) ≡ true) (sym (mem-one n c k)) (mem-here c l))) (λ n k. us n (mem-there n c l k))
+  segments-used p (c ∷ l) us =
+      cut-used (next W) p c [] l (λ n k. us n (subst (λ x. mem x (c ∷ l) ≡ true) (sym (mem-one n c k)) (mem-here c l))) (λ n k. us n (mem-there n c l k))
 
   pub fold-same : shape H ≡ shape W
   fold-same =
       let us = segments-used (core W) (order W) (toured W small-closed .used) in
-      rw (segments-grow, X .ptrs) (λ i. record { ptrs = ptrs-grow (W .ptrs) (segments W) (X .closed) us i; slots = slots-grow (segments W) (segments W) us us i })
+      rw (segments-grow, X .ptrs) (λ i. record {
+        ptrs = ptrs-grow (W .ptrs) (segments W) (X .closed) us i;
+        slots = slots-grow (segments W) (segments W) us us i;
+      })
 
   pub kept-up : Kept W → Kept H
   kept-up k c u =

@@ -1,4 +1,4 @@
--- The edges of a location that share a branch: their guards exclude each other and leave nothing out. No edge leaves a stop.
+-- The edges of a location that share a branch: their guards exclude each other and leave nothing out.
 use Prim.Native.Nat.{_≤_, ℕ}
 use mathlib.Core.Path.{_∙_, _≡_, ap, refl, subst, sym}
 use mathlib.Core.Logic.{inl, inr}
@@ -53,8 +53,10 @@ module _ (s : ℕ) (st : Stmt) (h : Heap) (kp : kept h ≡ true) where
           let c = choose-is (st .op) q in
           let z : st ≡ record { op = choose; first = st .first; second = st .second } = λ t. record { op = c t; first = st .first; second = st .second } in
           let k = length (h .slots) in
-          let p = choose-edge s k (st .first) (st .second) h kp (whole always 0 h) x (inl refl) (subst (λ (w : Stmt). In x (edgeBy s k (whole always 0 h) (stepBy w k (whole always 0 h)))) z i) in
-          let r = choose-edge s k (st .first) (st .second) h kp (whole always 1 h) y (inr (inl refl)) (subst (λ (w : Stmt). In y (edgeBy s k (whole always 1 h) (stepBy w k (whole always 1 h)))) z j) in
+          let p = choose-edge s k (st .first) (st .second) h kp (whole always 0 h) x (inl refl)
+          (subst (λ (w : Stmt). In x (edgeBy s k (whole always 0 h) (stepBy w k (whole always 0 h)))) z i) in
+          let r = choose-edge s k (st .first) (st .second) h kp (whole always 1 h) y (inr (inl refl))
+          (subst (λ (w : Stmt). In y (edgeBy s k (whole always 1 h) (stepBy w k (whole always 1 h)))) z j) in
           omega arith
   plain-exclude allocates q a = one-way (whole always 0 h)
   plain-exclude other q a = one-way (whole always 0 h)
@@ -77,7 +79,9 @@ module _ (s : ℕ) (st : Stmt) (h : Heap) (kp : kept h ≡ true) where
   way-edge y g a = rw (step-go st (record { pick = y .pick; cellNo = length (h .slots) }) (y .heap) g a)
       (by-run (run (st .op) (length (h .slots)) (y .heap)))
     where
-      by-run : (x : Effect) → (E : Edge) × In E (edgeBy s (length (h .slots)) y (answerOf st (branch (st .op) (y .pick) (y .heap)) x)) × (branch (st .op) (y .pick) (y .heap) ≡ 0 → E .branchNo ≡ 0)
+      by-run : (x : Effect)
+          → (E : Edge) × In E (edgeBy s (length (h .slots)) y (answerOf st (branch (st .op) (y .pick) (y .heap)) x))
+          × (branch (st .op) (y .pick) (y .heap) ≡ 0 → E .branchNo ≡ 0)
       by-run (fault f) = (_, inl refl, λ e. refl)
       by-run (done g) = (_, inl refl, λ e. e)
 
@@ -87,9 +91,11 @@ module _ (s : ℕ) (st : Stmt) (h : Heap) (kp : kept h ≡ true) where
       let f = access-facts (st .op) h n a in
       let g : isStop (kind (st .op)) ≡ false = rw (f .0) in
       let ac : accepts (kind (st .op)) (record { pick = y .pick; cellNo = length (h .slots) }) (y .heap) ≡ true = rw (f .0) in
-      by-run (run (st .op) (length (h .slots)) (y .heap)) (f .1 (y .pick) (y .heap)) (rw (step-go st (record { pick = y .pick; cellNo = length (h .slots) }) (y .heap) g ac) at i)
+      by-run (run (st .op) (length (h .slots)) (y .heap)) (f .1 (y .pick) (y .heap))
+      (rw (step-go st (record { pick = y .pick; cellNo = length (h .slots) }) (y .heap) g ac) at i)
     where
-      by-run : (x : Effect) → branch (st .op) (y .pick) (y .heap) ≡ 0 → In E (edgeBy s (length (h .slots)) y (answerOf st (branch (st .op) (y .pick) (y .heap)) x)) → E .branchNo ≡ 0
+      by-run : (x : Effect) → branch (st .op) (y .pick) (y .heap) ≡ 0
+          → In E (edgeBy s (length (h .slots)) y (answerOf st (branch (st .op) (y .pick) (y .heap)) x)) → E .branchNo ≡ 0
       by-run (fault f) b j = ap (λ (x : Edge). x .branchNo) (in-single E _ j)
       by-run (done g) b j = ap (λ (x : Edge). x .branchNo) (in-single E _ j) ∙ b
 
@@ -122,12 +128,14 @@ module _ (s : ℕ) (st : Stmt) (h : Heap) (kp : kept h ≡ true) where
             w .0,
             in-append-l (w .0) (edges-by (whole (isOne n) 0 h)) (edges-by (split n h) ++ []) (w .1),
             w .2 (f .1 0 h) ∙ sym b,
-            ap (λ z. guardOn z cs) (way-guard s (length (h .slots)) (whole (isOne n) 0 h) (stepBy st (length (h .slots)) (whole (isOne n) 0 h)) (w .0) (w .1)) ∙ o,
+            ap (λ z. guardOn z cs) (way-guard s (length (h .slots)) (whole (isOne n) 0 h) (stepBy st (length (h .slots)) (whole (isOne n) 0 h)) (w .0) (w .1))
+                ∙ o,
           ))
           (λ o. let w = way-edge (split n h) g (rw (f .0)) in
           let ne = eqb-false (getD cs n 0) 1 o in (
             w .0,
             in-append-r (w .0) (edges-by (whole (isOne n) 0 h)) (edges-by (split n h) ++ []) (in-append-l (w .0) (edges-by (split n h)) [] (w .1)),
             w .2 (f .1 0 (splitHeap n (length (h .slots)) h)) ∙ sym b,
-            ap (λ z. guardOn z cs) (way-guard s (length (h .slots)) (split n h) (stepBy st (length (h .slots)) (split n h)) (w .0) (w .1)) ∙ le-leb 2 (getD cs n 0) (omega arith),
+            ap (λ z. guardOn z cs) (way-guard s (length (h .slots)) (split n h) (stepBy st (length (h .slots)) (split n h)) (w .0) (w .1))
+                ∙ le-leb 2 (getD cs n 0) (omega arith),
           ))

@@ -1,5 +1,5 @@
--- What folding, unfolding and a plain step leave, for all inputs: which refusals they have, that a refusal leaves zeros or what stood, that lengths
--- are kept, and what an accepted fold gives.
+-- What folding and unfolding leave, for all inputs: which refusals they have, that a refusal leaves zeros or what stood, that lengths are kept,
+-- and what an accepted fold gives.
 use Prim.Native.Nat.{_+_, _-_, _≤_, suc, zero, ℕ}
 use mathlib.Core.Path.{_∙_, _≡_, ap, refl, sym}
 use mathlib.Core.Logic.{_↔_, inl, inr}
@@ -14,12 +14,13 @@ use Rattle.model.specs.Heap.{Heap, IsHeap, Slot, closed, kept}
 use Rattle.model.specs.Image.{Folding, Unfolding, cellBytesOf, countersFit, foldImage, heapOf, lengths, refusalImage, refusalUnfold, spread, spreadSlot, strand, strands, unfoldHeap, unfoldImage}
 use Rattle.model.specs.Records.{byte, filled, isZero, layoutH, shapeOf, shapeRecord, slotByte, valByte, valOf}
 use Rattle.model.specs.Shape.{canonical, counters, nodeVal, segments, shape}
+use Rattle.model.proofs.Bytes.{filled-length}
 use Rattle.model.proofs.Canon.{fold-canon}
 use Rattle.model.proofs.Facts.{heap-closed, heap-kept}
 use Rattle.model.proofs.Listings.{Writable}
 use Rattle.model.proofs.Lists.{In}
 use Rattle.model.proofs.Logic.{and-both, and-l, and-r, bool-case}
-use Rattle.model.proofs.ReadBack.{canon-writable, filled-length, shape-length, shape-shape}
+use Rattle.model.proofs.ReadBack.{canon-writable, shape-length, shape-shape}
 use Rattle.model.proofs.ShapeBack.{layout-pointers}
 use Rattle.model.proofs.Unfold.{length-strand}
 use Rattle.model.proofs.Ways.{count-length}
@@ -58,7 +59,8 @@ fold-zero : (ps cs : List ℕ) → refusalImage ps cs ≡ 0
 unfolding foldImage
 fold-zero ps cs e = rw (e, foldImage)
 
-fold-suc : (ps cs : List ℕ) (n : ℕ) → refusalImage ps cs ≡ suc n → foldImage ps cs ≡ record { refusal = suc n; shapeBytes = replicate 32 0; counts = replicate 12 0 }
+fold-suc : (ps cs : List ℕ) (n : ℕ) → refusalImage ps cs ≡ suc n
+    → foldImage ps cs ≡ record { refusal = suc n; shapeBytes = replicate 32 0; counts = replicate 12 0 }
 unfolding foldImage
 fold-suc ps cs n e = rw (e, foldImage)
 

@@ -51,16 +51,19 @@ sum-total : (sg : ℕ → Seg) (f : ℕ → ℕ) → ((i : ℕ) → size (sg i) 
 sum-total sg f h [] = refl
 sum-total sg f h (n ∷ l) = ap₂ _+_ (h n) (sum-total sg f h l)
 
-sums : (k : ℕ) (cs : List ℕ) (w : ℕ → Weight) (sg : ℕ → Seg) → length cs ≡ k → Fair k cs w → ((i : ℕ) → size (sg i) ≡ weigh cs (w i)) → (ss : List Seg) → Alls (Neat (suc k)) ss
+sums : (k : ℕ) (cs : List ℕ) (w : ℕ → Weight) (sg : ℕ → Seg) → length cs ≡ k → Fair k cs w → ((i : ℕ) → size (sg i) ≡ weigh cs (w i)) → (ss : List Seg)
+    → Alls (Neat (suc k)) ss
     → map (λ (s : Seg). total sg (cells s)) ss ≡ map (worth cs) (map (updateOf k w) ss)
 sums k cs w sg len F h [] a = refl
 sums k cs w sg len F h (s ∷ ss) a = ap₂ _∷_
     (sum-total sg (λ i. weigh cs (w i)) h (cells s) ∙ update-value k cs len w F s (a .0 .0) (a .0 .1))
     (sums k cs w sg len F h ss (a .1))
 
-smalls : (k : ℕ) (cs : List ℕ) (w : ℕ → Weight) → length cs ≡ k → Fair k cs w → (ss : List Seg) → Alls (Neat (suc k)) ss → SmallUpdates k (map (updateOf k w) ss)
+smalls : (k : ℕ) (cs : List ℕ) (w : ℕ → Weight) → length cs ≡ k → Fair k cs w → (ss : List Seg) → Alls (Neat (suc k)) ss
+    → SmallUpdates k (map (updateOf k w) ss)
 smalls k cs w len F [] a u i = absurd i
-smalls k cs w len F (s ∷ ss) a u (inl e) = let r = update-small k cs len w F s (a .0 .0) in subst (λ (x : Update). (x .plus ≤ 2) × (length (x .adds) ≡ k)) (sym e) r
+smalls k cs w len F (s ∷ ss) a u (inl e) =
+    let r = update-small k cs len w F s (a .0 .0) in subst (λ (x : Update). (x .plus ≤ 2) × (length (x .adds) ≡ k)) (sym e) r
 smalls k cs w len F (s ∷ ss) a u (inr i) = smalls k cs w len F ss (a .1) u i
 
 -- an edge and the routine's step, side by side
@@ -70,7 +73,8 @@ pub record Landed (q : State) (a : Answer) (E : Edge) (cs : List ℕ) : Type 0 w
   pub branches : taken .branchNo ≡ E .branchNo
   pub fits : Fit (taken .after) (E .to) (map (worth cs) (E .updates))
 
-landed : (s k : ℕ) (y : Way) (H : Heap) (cs : List ℕ) (sg : ℕ → Seg) (a b : Answer) → length cs ≡ k → Fair k cs (y .weight) → ((i : ℕ) → size (sg i) ≡ weigh cs ((y .weight) i))
+landed : (s k : ℕ) (y : Way) (H : Heap) (cs : List ℕ) (sg : ℕ → Seg) (a b : Answer) → length cs ≡ k → Fair k cs (y .weight)
+    → ((i : ℕ) → size (sg i) ≡ weigh cs ((y .weight) i))
     → Agree sg a b → ShortAnswer (suc k) a → (E : Edge) × (edgeBy s k y a ≡ E ∷ []) × (E .guard ≡ y .guard) × Landed (begin s H) b E cs × SmallEdge k E
 landed s k y H cs sg a b len F h (fault-alike {f = f}) sh = (
   record { branchNo = 0; guard = y .guard; to = failed s f; updates = [] },
@@ -118,13 +122,15 @@ module _ (s : ℕ) (st : Stmt) (H : Heap) (cl : ClosedHeap H) (kp : Kept H) wher
   abbrev k-of : ℕ
   k-of = length (shape H .slots)
 
-  pub way-lands : (y : Way) (e : Entry) → isStop (kind (st .op)) ≡ false → Fits (st .op) k-of (e .cellNo) y H (counters H) → y .pick ≤ 1 → accepts (kind (st .op)) e H ≡ true
+  pub way-lands : (y : Way) (e : Entry) → isStop (kind (st .op)) ≡ false → Fits (st .op) k-of (e .cellNo) y H (counters H) → y .pick ≤ 1
+      → accepts (kind (st .op)) e H ≡ true
       → branch (st .op) (e .pick) H ≡ branch (st .op) (y .pick) (y .heap)
       → (E : Edge) × (edgeBy s k-of y (stepBy st k-of y) ≡ E ∷ []) × (E .guard ≡ y .guard) × Landed (begin s H) (step st e H) E (counters H) × SmallEdge k-of E
   way-lands y e g F p a b =
       let d : Entry = record { pick = y .pick; cellNo = k-of } in
       let aw : accepts (kind (st .op)) d (y .heap) ≡ true = accept-room (kind (st .op)) d (y .heap) (F .room) p in
-      landed s k-of y H (counters H) (sg-after (kind (st .op)) k-of (e .cellNo) (F .sg)) (stepBy st k-of y) (step st e H) (count-length H cl kp) (F .fair) (F .weighs)
+      landed s k-of y H (counters H) (sg-after (kind (st .op)) k-of (e .cellNo) (F .sg)) (stepBy st k-of y) (step st e H) (count-length H cl kp) (F .fair)
+      (F .weighs)
       (step-agree st d e (y .heap) (F .sg) H (F .expansion) g aw a (F .single) (F .room) (room-accept (kind (st .op)) e H a) b)
       (rw (step-go st d (y .heap) g aw) (answer-short (suc k-of) st (branch (st .op) (y .pick) (y .heap)) (run (st .op) k-of (y .heap))
       (run-short (st .op) k-of (suc k-of) (y .heap) (F .expansion .closed, F .expansion .body .closed) (F .short) (omega arith))))

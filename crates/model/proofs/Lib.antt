@@ -1,3 +1,4 @@
+-- The laws about the definitions, each file below those that it cites. The last three state what is claimed.
 pub mod Logic
 pub mod Lists
 pub mod Numbers
@@ -8,7 +9,9 @@ pub mod Order
 pub mod Expand
 pub mod Cores
 pub mod Folds
+pub mod Cuts
 pub mod Start
+pub mod Writes
 pub mod Changes
 pub mod Facts
 pub mod Effects
@@ -21,8 +24,10 @@ pub mod Iso
 pub mod SameShape
 pub mod Reach
 pub mod Segments
+pub mod OneMerge
 pub mod Merge
 pub mod Bytes
+pub mod EdgeBack
 pub mod ReadBack
 pub mod ShapeBack
 pub mod Statements

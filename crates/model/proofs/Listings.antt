@@ -129,15 +129,29 @@ wrongKind rs i = not (isH (getD rs i [])) && not (isS (getD rs i []) && not (any
 abbrev pub recordRefusal : List (List ℕ) → ℕ → ℕ
 recordRefusal rs i = cond (isS (getD rs i [])) (refusalS (count isS rs) (getD rs i [])) (refusalH (take i rs) (getD rs i []))
 
--- What is wrong with an input, in the order of the checks. "Records are checked in input order, the lowest number first."
+-- the records of an input below i are of right kinds; they are not refused
+abbrev pub RightKinds : List ℕ → ℕ → Type 0
+RightKinds s i = (j : ℕ) → j < i → wrongKind (recordsOf s) j ≡ false
+
+abbrev pub RightRecords : List ℕ → ℕ → Type 0
+RightRecords s i = (j : ℕ) → j < i → recordRefusal (recordsOf s) j ≡ 0
+
+-- there are 1 to 64 S and 1 to 16 H
+abbrev pub rightS : List ℕ → Bool
+rightS s = between 1 64 (count isS (recordsOf s))
+
+abbrev pub rightH : List ℕ → Bool
+rightH s = between 1 16 (count isH (recordsOf s))
+
+-- What is wrong with an input, in the order of the checks, each where all before it pass: "whole input, in this order"; "Records are checked in
+-- input order, the lowest number first."
 pub data BadInput (s : List ℕ) (x : Refusal) : Type 0 where
   bad-length : x ≡ refusal 1 0 → noRecords s ≡ true → BadInput s x
-  bad-kind : (i : ℕ) → x ≡ refusal 4 i → i < length (recordsOf s) → wrongKind (recordsOf s) i ≡ true
-      → ((j : ℕ) → j < i → wrongKind (recordsOf s) j ≡ false) → BadInput s x
-  bad-statements : x ≡ refusal 2 0 → between 1 64 (count isS (recordsOf s)) ≡ false → BadInput s x
-  bad-shapes : x ≡ refusal 3 0 → between 1 16 (count isH (recordsOf s)) ≡ false → BadInput s x
-  bad-record : (n i : ℕ) → x ≡ refusal (suc n) i → i < length (recordsOf s) → recordRefusal (recordsOf s) i ≡ suc n
-      → ((j : ℕ) → j < i → recordRefusal (recordsOf s) j ≡ 0) → BadInput s x
+  bad-kind : (i : ℕ) → x ≡ refusal 4 i → noRecords s ≡ false → i < length (recordsOf s) → RightKinds s i → wrongKind (recordsOf s) i ≡ true → BadInput s x
+  bad-statements : x ≡ refusal 2 0 → noRecords s ≡ false → RightKinds s (length (recordsOf s)) → rightS s ≡ false → BadInput s x
+  bad-shapes : x ≡ refusal 3 0 → noRecords s ≡ false → RightKinds s (length (recordsOf s)) → rightS s ≡ true → rightH s ≡ false → BadInput s x
+  bad-record : (n i : ℕ) → x ≡ refusal (suc n) i → noRecords s ≡ false → RightKinds s (length (recordsOf s)) → rightS s ≡ true → rightH s ≡ true
+      → i < length (recordsOf s) → RightRecords s i → recordRefusal (recordsOf s) i ≡ suc n → BadInput s x
 
 -- the routine that is read: the statements and the starting shapes
 abbrev pub routineOf : List (List ℕ) → Routine
@@ -146,10 +160,10 @@ routineOf rs = record { stmts = map stmtOf (take (count isS rs) rs); starts = ma
 -- nothing is wrong with an input
 pub record GoodInput (s : List ℕ) (r : Routine) : Type 0 where
   pub wide : noRecords s ≡ false
-  pub kinds : (i : ℕ) → i < length (recordsOf s) → wrongKind (recordsOf s) i ≡ false
-  pub statements : between 1 64 (count isS (recordsOf s)) ≡ true
-  pub shapes : between 1 16 (count isH (recordsOf s)) ≡ true
-  pub records : (i : ℕ) → i < length (recordsOf s) → recordRefusal (recordsOf s) i ≡ 0
+  pub kinds : RightKinds s (length (recordsOf s))
+  pub statements : rightS s ≡ true
+  pub shapes : rightH s ≡ true
+  pub records : RightRecords s (length (recordsOf s))
   pub isRead : r ≡ routineOf (recordsOf s)
 
 -- ---- what a record can hold

@@ -1,4 +1,4 @@
--- Elements of lists: membership as a type, through map, append and join, and what `all` says of each element.
+-- Elements of lists: membership as a type, through map, append and join; what `all` and `any` say; elements by their places; pairs.
 use Prim.Native.Nat.{_<_, _≤_, suc, zero, ℕ}
 use mathlib.Core.Path.{_∙_, _≡_, ap, ap₂, refl, subst, sym}
 use mathlib.Core.Logic.{_⊎_, inl, inr}

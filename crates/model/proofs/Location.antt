@@ -1,4 +1,4 @@
--- The edges of a location against the steps of the routine, both ways; the guards of one branch exclude each other and leave nothing out.
+-- The edges of a location against the steps of the routine, both ways: each step is an edge, and each enabled edge is a step.
 use Prim.Native.Nat.{_≤_, ℕ}
 use mathlib.Core.Path.{_∙_, _≡_, ap, refl, subst, sym}
 use mathlib.Core.Logic.{inl, inr}
@@ -174,7 +174,8 @@ module _ (s : ℕ) (st : Stmt) (H : Heap) (cl : ClosedHeap H) (kp : Kept H) wher
       let r = in-map (λ p. whole always p (shape H)) y (picksOf (kind op-of)) i in
       subst (λ z. Ready z c) (sym (r .2)) (plain-fits v a nv c (r .0), pick-low (kind op-of) (r .0) (r .1), λ p h. plain-branch p (r .0) h)
 
-  way-ready : (v : Val) → access op-of (shape H) ≡ v → (y : Way) → In y (waysAt v op-of (shape H)) → guardOn (y .guard) (counters H) ≡ true → (c : ℕ) → Ready y c
+  way-ready : (v : Val) → access op-of (shape H) ≡ v → (y : Way) → In y (waysAt v op-of (shape H)) → guardOn (y .guard) (counters H) ≡ true → (c : ℕ)
+      → Ready y c
   way-ready null a y i on c = plain-ready null a (λ n z. no-access z) y i c
   way-ready undef a y i on c = plain-ready undef a (λ n z. not-undef z) y i c
   way-ready (cell n) a y (inl e) on c =
@@ -213,16 +214,23 @@ module _ (s : ℕ) (st : Stmt) (H : Heap) (cl : ClosedHeap H) (kp : Kept H) wher
   -- each enabled edge is a step of the routine, fed the edge's branch and whichever cell that is not in use
   pub leave-backward : (E : Edge) → In E (edgesAt s st (shape H)) → guardOn (E .guard) (counters H) ≡ true → (e : Entry) → e .pick ≡ E .branchNo
       → inUse (next H (e .cellNo)) ≡ false
-      → (x : Step State) × (made (begin s H) (step st e H) ≡ some x) × (x .branchNo ≡ E .branchNo) × Fit (x .after) (E .to) (map (worth (counters H)) (E .updates))
+      → (x : Step State) × (made (begin s H) (step st e H) ≡ some x) × (x .branchNo ≡ E .branchNo)
+      × Fit (x .after) (E .to) (map (worth (counters H)) (E .updates))
       × SmallEdge nodes E
   leave-backward E i on e p u =
       let w = edge-way E i in
       let y = w .0 in
-      let R = way-ready (access op-of (shape H)) refl y (w .1) (ap (λ g. guardOn g (counters H)) (sym (way-guard s nodes y (stepBy st nodes y) E (w .2))) ∙ on) (e .cellNo) in
+      let R = way-ready (access op-of (shape H)) refl y (w .1)
+      (ap (λ g. guardOn g (counters H)) (sym (way-guard s nodes y (stepBy st nodes y) E (w .2))) ∙ on) (e .cellNo) in
       let g : isStop (kind op-of) ≡ false = edge-goes s nodes y st E (w .2) in
       let pk : kind op-of ≡ picks → e .pick ≡ y .pick = λ q. p ∙ choose-branch y E q (w .1) (w .2) in
       let ac : accepts (kind op-of) e H ≡ true = accept-unused (kind op-of) e H u (y .pick) pk (R .1) in
       let r = way-lands s st H cl kp y e g (R .0) (R .1) ac (R .2 (e .pick) pk) in
       let z : E ≡ r .0 = in-single E (r .0) (subst (In E) (r .1) (w .2)) in
-      let L = r .3 in
-      (L .taken, L .isMade, L .branches ∙ ap (λ (x : Edge). x .branchNo) (sym z), subst (λ (x : Edge). Fit (L .taken .after) (x .to) (map (worth (counters H)) (x .updates))) (sym z) (L .fits), subst (SmallEdge nodes) (sym z) (r .4))
+      let L = r .3 in (
+        L .taken,
+        L .isMade,
+        L .branches ∙ ap (λ (x : Edge). x .branchNo) (sym z),
+        subst (λ (x : Edge). Fit (L .taken .after) (x .to) (map (worth (counters H)) (x .updates))) (sym z) (L .fits),
+        subst (SmallEdge nodes) (sym z) (r .4),
+      )

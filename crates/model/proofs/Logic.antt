@@ -1,4 +1,4 @@
--- Booleans, membership of a number in a list, lists without repetition
+-- Booleans, membership of a number in a list, lists without repetition.
 use Prim.Native.Nat.{_+_, suc, zero, ℕ}
 use mathlib.Core.Path.{_∙_, _≡_, refl, sym}
 use mathlib.Core.Bool.{Bool, _&&_, _||_, false, true, true≢false}

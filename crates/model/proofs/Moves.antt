@@ -16,6 +16,7 @@ use Rattle.model.specs.Runs.{Config, Step, applied, enabled, guardHolds,
 use Rattle.model.specs.Translate.{Link, Listing, Routine, Tables, linkRecord, tablesOf}
 use Rattle.model.proofs.Bytes.{applied-code, table-record}
 use Rattle.model.proofs.Checked.{GoodStarts}
+use Rattle.model.proofs.EdgeBack.{edge-branch, edge-from, edge-guard, edge-length, edge-node, edge-to, edge-updates}
 use Rattle.model.proofs.Exact.{LinkGood, link-good}
 use Rattle.model.proofs.Listings.{Exact, WritableLoc, locAt}
 use Rattle.model.proofs.Lists.{In, any-find, any-in, getD-in, getD-map, in-map, map-same, map-two, some-inj, some-none}
@@ -23,7 +24,7 @@ use Rattle.model.proofs.Logic.{and-both, and-l, and-r, bool-case}
 use Rattle.model.proofs.Notions.{SmallEdge, guardOn, nodesOf, worth}
 use Rattle.model.proofs.Numbers.{in-numbers, numbers-in}
 use Rattle.model.proofs.Reached.{GoodLoc, good-edge, reached-good}
-use Rattle.model.proofs.ReadBack.{canon-writable, edge-branch, edge-from, edge-guard, edge-length, edge-node, edge-to, edge-updates, record-length}
+use Rattle.model.proofs.ReadBack.{canon-writable, record-length}
 pub use Rattle.model.proofs.Listings.{linkAt, noLink}
 
 -- the move by an edge
@@ -120,7 +121,8 @@ module _ (r : Routine) (t : Listing) (X : Exact r t) (G : GoodStarts r) (a b : �
       → moveOf T c n ≡ some (by-link c (linkAt t n))
   move-of n c h f g =
       let e : enabled T c n ≡ true = and-both (ltb n (length (t .links)) && eqb (word (recordAt (T .edgeBytes) n) 2) (c .loc)) _
-      (and-both (ltb n (length (t .links))) (eqb (word (recordAt (T .edgeBytes) n) 2) (c .loc)) (lt-ltb n (length (t .links)) h) (eq-eqb (word (recordAt (T .edgeBytes) n) 2) (c .loc) (edge-word n h ∙ f)))
+      (and-both (ltb n (length (t .links))) (eqb (word (recordAt (T .edgeBytes) n) 2) (c .loc)) (lt-ltb n (length (t .links)) h)
+      (eq-eqb (word (recordAt (T .edgeBytes) n) 2) (c .loc) (edge-word n h ∙ f)))
       (edge-on n (c .values) h ∙ g) in
       rw e (ap some (taken-along n c h))
 

@@ -12,13 +12,13 @@ use Rattle.model.specs.Edges.{Edge, Loc, Way, Weight, access, addsCounte
 use Rattle.model.specs.Heap.{Heap, Val, cell, next, null, order, undef}
 use Rattle.model.specs.Machine.{Answer, Op, Stmt, faulted, kind, refused, stopped, went}
 use Rattle.model.specs.Shape.{Seg, cells, core, segments}
+use Rattle.model.proofs.Cuts.{flat-cut, mem-flat-in, nodup-apart, nodup-r}
 use Rattle.model.proofs.Lists.{In, Pairs, any-find, in-joined, in-map, in-mem, in-single, pairs-map, pairs-mono}
 use Rattle.model.proofs.Logic.{NoDup}
 use Rattle.model.proofs.Notions.{AddApart, flat}
 use Rattle.model.proofs.Numbers.{flag-at}
 use Rattle.model.proofs.Order.{order-once, used-below}
 use Rattle.model.proofs.Reached.{GoodLoc}
-use Rattle.model.proofs.Start.{flat-cut, mem-flat-in, nodup-apart, nodup-r}
 use Rattle.model.proofs.Walks.{Closed, ClosedHeap}
 use Rattle.model.proofs.Ways.{access-closed, split-fair, whole-fair}
 
@@ -77,7 +77,8 @@ edges-once s st h cl E i =
     let k = length (h .slots) in
     let j = in-joined E (map (λ z. edgeBy s k z (stepBy st k z)) (ways (st .op) h)) i in
     let w = in-map (λ z. edgeBy s k z (stepBy st k z)) (j .0) (ways (st .op) h) (j .1) in
-    way-once s k (w .0) (stepBy st k (w .0)) (ways-owned (st .op) h (access (st .op) h) (access-closed h (st .op) (cl .0)) (w .0) (w .1)) E (subst (In E) (w .2) (j .2))
+    way-once s k (w .0) (stepBy st k (w .0)) (ways-owned (st .op) h (access (st .op) h) (access-closed h (st .op) (cl .0)) (w .0) (w .1)) E
+    (subst (In E) (w .2) (j .2))
 
 -- and so of each location that a listing holds
 pub good-once : (sts : List Stmt) (l : Loc) → GoodLoc l → (E : Edge) → In E (edgesOf sts l) → Pairs AddApart (E .updates)

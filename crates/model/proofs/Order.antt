@@ -1,4 +1,4 @@
--- The walk with fuel against the walk without
+-- The walk with fuel against the walk without: the fuel is enough, the visit ends, and no cell is visited twice.
 use Prim.Native.Nat.{_+_, _<_, _≤_, suc, zero, ℕ}
 use mathlib.Core.Path.{_∙_, _≡_, refl, subst, sym}
 use mathlib.Core.Bool.{cond, false, true}
@@ -25,7 +25,8 @@ length-del x (y ∷ l) = bool-case (eqb x y) (λ e. rw e (omega arith)) (λ e. l
 mem-del : (x n : ℕ) (l : List ℕ) → mem n (del x l) ≡ true → mem n l ≡ true
 unfolding del
 mem-del x n [] h = h
-mem-del x n (y ∷ l) h = bool-case (eqb x y) (λ e. mem-there n y l (rw e at h)) (λ e. mem-cases n y (del x l) (rw e at h) (λ q. rw (q, eqb-same y)) (λ k. mem-there n y l (mem-del x n l k)))
+mem-del x n (y ∷ l) h = bool-case (eqb x y) (λ e. mem-there n y l (rw e at h))
+    (λ e. mem-cases n y (del x l) (rw e at h) (λ q. rw (q, eqb-same y)) (λ k. mem-there n y l (mem-del x n l k)))
 
 nodup-del : (x : ℕ) (l : List ℕ) → NoDup l → NoDup (del x l)
 unfolding del
@@ -91,7 +92,8 @@ module _ (nx : ℕ → Slot) (b : ℕ) (cl : (n : ℕ) (v : Val) → nx n ≡ ho
   walk-total (suc f) s undef k nd us h = (s, at-undef, nd, us)
   walk-total (suc f) s (cell c) k nd us h =
       bool-case (mem c s) (λ e. (s, at-seen e, nd, us))
-      (λ e. let r = walk-total f (s ++ c ∷ []) (k .0) (cl c (k .0) (k .1)) (nodup-snoc s c nd e) (used-snoc nx s c us k) (omega (arith, length-append s (c ∷ []))) in
+      (λ e. let r = walk-total f (s ++ c ∷ []) (k .0) (cl c (k .0) (k .1)) (nodup-snoc s c nd e) (used-snoc nx s c us k)
+      (omega (arith, length-append s (c ∷ []))) in
       (r .0, go e (k .1) (r .1), r .2, r .3))
 
   tour-total : (s : List ℕ) (vs : List Val) → AllClosed nx vs → NoDup s → AllUsed nx s → (t : List ℕ) × Tours nx s vs t × NoDup t × AllUsed nx t
@@ -106,7 +108,8 @@ walk-nodup : (nx : ℕ → Slot) (f : ℕ) (s : List ℕ) (v : Val) → NoDup s 
 walk-nodup nx zero s v nd = nd
 walk-nodup nx (suc f) s null nd = nd
 walk-nodup nx (suc f) s undef nd = nd
-walk-nodup nx (suc f) s (cell c) nd = bool-case (mem c s) (λ e. rw (e, walk) nd) (λ e. rw (e, walk) (by-slot e (nx c) refl (λ w. walk-nodup nx f (s ++ c ∷ []) w (nodup-snoc s c nd e))))
+walk-nodup nx (suc f) s (cell c) nd =
+    bool-case (mem c s) (λ e. rw (e, walk) nd) (λ e. rw (e, walk) (by-slot e (nx c) refl (λ w. walk-nodup nx f (s ++ c ∷ []) w (nodup-snoc s c nd e))))
   where
     by-slot : mem c s ≡ false → (x : Slot) → nx c ≡ x → ((w : Val) → NoDup (walk nx f (s ++ c ∷ []) w))
         → NoDup (elim (nx c) [ unused ↦ s | holds w ↦ walk nx f (s ++ c ∷ []) w ])
@@ -133,5 +136,6 @@ pub record Toured (h : Heap) : Type 0 where
 pub toured : (h : Heap) → ClosedHeap h → Toured h
 toured h k =
     let r = tour-total (next h) (length (h .slots)) (k .1) (used-below (h .slots)) [] (h .ptrs) (k .0) tt (λ n q. clash q refl) in
-    let e : order h ≡ r .0 = tour-of (next h) (r .1) (length (h .slots)) (pigeon (length (h .slots)) (r .0) (r .2) (λ n q. used-below (h .slots) n (r .3 n q))) in
+    let e : order h ≡ r .0 = tour-of (next h) (r .1) (length (h .slots))
+    (pigeon (length (h .slots)) (r .0) (r .2) (λ n q. used-below (h .slots) n (r .3 n q))) in
     record { tours = rw e (r .1); nodup = rw e (r .2); used = rw e (r .3) }

@@ -1,5 +1,4 @@
--- What each call leaves, for all inputs: the tables and counts of a translation, the record and counters of a fold, the pointers and cells of an
--- unfolding and of a step; and which refusals each of them has.
+-- What a translation leaves, for all inputs: how it can end, its tables and counts, when it is accepted, and which refusal it gives.
 use Prim.Native.Nat.{_*_, _+_, _-_, _/_, _<_, _≤_, ℕ}
 use mathlib.Core.Path.{_∙_, _≡_, ap, refl, subst, sym}
 use mathlib.Core.Logic.{_↔_, _⊎_, inl, inr, ⊎-elim}
@@ -70,7 +69,8 @@ translate-number s a b = by-case (translate-cases s a b)
 
 -- an accepted translation is a listing of a checked routine
 abbrev pub Accepted : List ℕ → ℕ → ℕ → Type 0
-Accepted s a b = (r : Routine) × (t : Listing) × (check s ≡ good r) × (listing r (places 1024 a) (places 2048 b) ≡ listed t) × (translate s a b ≡ listedWith a b t)
+Accepted s a b = (r : Routine) × (t : Listing) × (check s ≡ good r)
+    × (listing r (places 1024 a) (places 2048 b) ≡ listed t) × (translate s a b ≡ listedWith a b t)
 
 pub is-accepted : (s : List ℕ) (a b : ℕ) → translate s a b .refused .number ≡ 0 → Accepted s a b
 is-accepted s a b z = by-case (translate-cases s a b)

@@ -63,21 +63,25 @@ pick-low other p (inr x) = absurd x
 -- a pick of the list that an accepted entry stands for
 pub pick-in : (op : Op) (kd : Kind) → kind op ≡ kd → (e : Entry) (h : Heap) → accepts kd e h ≡ true
     → (p : ℕ) × In p (picksOf kd) × ((g : Heap) → branch op (e .pick) g ≡ branch op p g)
-pick-in op stops q e h a = (0, inl refl, λ g. branch-pick op (e .pick) 0 g (λ r. let z : stops ≡ picks = cc in absurd (let y : _≡_ {A = ℕ} 0 1 = cc in omega arith)))
+pick-in op stops q e h a =
+    (0, inl refl, λ g. branch-pick op (e .pick) 0 g (λ r. let z : stops ≡ picks = cc in absurd (let y : _≡_ {A = ℕ} 0 1 = cc in omega arith)))
 pick-in op picks q e h a = two (e .pick) (leb-true (e .pick) 1 a)
   where
     two : (n : ℕ) → n ≤ 1 → (p : ℕ) × In p (0 ∷ 1 ∷ []) × ((g : Heap) → branch op n g ≡ branch op p g)
     two zero le = (0, inl refl, λ g. refl)
     two (suc zero) le = (1, inr (inl refl), λ g. refl)
     two (suc (suc n)) le = absurd (omega arith)
-pick-in op allocates q e h a = (0, inl refl, λ g. branch-pick op (e .pick) 0 g (λ r. let z : allocates ≡ picks = cc in absurd (let y : _≡_ {A = ℕ} 0 1 = cc in omega arith)))
-pick-in op other q e h a = (0, inl refl, λ g. branch-pick op (e .pick) 0 g (λ r. let z : other ≡ picks = cc in absurd (let y : _≡_ {A = ℕ} 0 1 = cc in omega arith)))
+pick-in op allocates q e h a =
+    (0, inl refl, λ g. branch-pick op (e .pick) 0 g (λ r. let z : allocates ≡ picks = cc in absurd (let y : _≡_ {A = ℕ} 0 1 = cc in omega arith)))
+pick-in op other q e h a =
+    (0, inl refl, λ g. branch-pick op (e .pick) 0 g (λ r. let z : other ≡ picks = cc in absurd (let y : _≡_ {A = ℕ} 0 1 = cc in omega arith)))
 
 -- only an accepted entry at a statement that is no stop makes a step
 pub made-goes : (q : State) (st : Stmt) (e : Entry) (h : Heap) (x : Step State) → made q (step st e h) ≡ some x
     → (isStop (kind (st .op)) ≡ false) × (accepts (kind (st .op)) e h ≡ true)
 made-goes q st e h x m = bool-case (accepts (kind (st .op)) e h)
-    (λ a. bool-case (isStop (kind (st .op))) (λ s. some-none (sym (stop-none (kind (st .op)) (answerOf st (branch (st .op) (e .pick) h) (run (st .op) (e .cellNo) h)) s) ∙ (rw a at m))) (λ s. (s, a)))
+    (λ a. bool-case (isStop (kind (st .op))) (λ s. some-none
+    (sym (stop-none (kind (st .op)) (answerOf st (branch (st .op) (e .pick) h) (run (st .op) (e .cellNo) h)) s) ∙ (rw a at m))) (λ s. (s, a)))
     (λ a. some-none (rw a at m))
   where
     stop-none : (kd : Kind) (a : Answer) → isStop kd ≡ true → made q (unlessStop kd a) ≡ none

@@ -1,22 +1,22 @@
 -- The promises: each is a type, and under it stands its proof, which cites a law. This page has demand 1; demand 2 is in PromisesShapes and
 -- PromisesListings, and demand 3 at the end of PromisesListings. The words are those of specs/, Notions and Listings.
-use Prim.Native.Nat.{_*_, _-_, _/_, _<_, _≤_, ℕ}
+use Prim.Native.Nat.{_*_, _-_, _/_, _<_, _≤_, suc, ℕ}
 use mathlib.Core.Path.{_≡_}
 use mathlib.Core.Logic.{_↔_, _⊎_}
-use mathlib.Core.Bool.{true}
+use mathlib.Core.Bool.{false, true}
 use mathlib.Core.List.{List, [], _∷_}
 use native.Mathlib.Omega.{arith}
-use lib.ListN.{drop, length, replicate}
+use lib.ListN.{drop, getD, length, replicate}
 use Rattle.model.specs.Heap.{IsHeap}
 use Rattle.model.specs.Image.{countersFit, foldImage, heapOf, stepImage, unfoldImage}
-use Rattle.model.specs.Records.{byte, filled, layoutH, shapeOf, shapeRecord}
+use Rattle.model.specs.Records.{byte, filled, isS, layoutH, shapeOf, shapeRecord}
 use Rattle.model.specs.Shape.{canonical, counters, shape}
 use Rattle.model.specs.Translate.{Refusal, Routine, bad, check, good, translate}
 use Rattle.model.proofs.Images.{fold-gives, fold-lengths, fold-number, fold-refused, image-accepted, image-number, unfold-accepted, unfold-lengths, unfold-number, unfold-numbers, unfold-refused}
-use Rattle.model.proofs.Listings.{BadInput, GoodInput, recordsOf}
+use Rattle.model.proofs.Listings.{BadInput, GoodInput, recordRefusal, recordsOf}
 use Rattle.model.proofs.Lists.{In}
 use Rattle.model.proofs.Outcomes.{bad-translate, fitting, places-most, refused-tables, translate-number, translate-place}
-use Rattle.model.proofs.Refusals.{accepted-input, bad-number, refused-input}
+use Rattle.model.proofs.Refusals.{accepted-input, bad-number, good-accepted, record-number, refused-input}
 use Rattle.model.proofs.Stepping.{step-lengths, step-number, step-stays}
 
 -- ==== demand 1: every call states its outcome for all inputs
@@ -73,20 +73,27 @@ InputRefused = (s : List ℕ) (x : Refusal) → check s ≡ bad x → BadInput s
 pub input-refused : InputRefused
 input-refused s x e = (refused-input s x e, λ a b. bad-translate s a b x e)
 
--- an accepted one has nothing wrong with it
+-- an input is accepted exactly when nothing is wrong with it
 abbrev pub InputAccepted : Type 0
-InputAccepted = (s : List ℕ) (r : Routine) → check s ≡ good r → GoodInput s r
+InputAccepted = (s : List ℕ) (r : Routine) → (check s ≡ good r) ↔ GoodInput s r
 
 pub input-accepted : InputAccepted
-input-accepted = accepted-input
+input-accepted s r = (accepted-input s r, good-accepted s r)
 
--- 5 to 7 are an S record's, 8 to 10 an H record's; "the place given is the record number from 0"
+-- "The place given is the record number from 0 (for 1, 2 and 3 it is 0"; 5 to 7 are an S record's, 8 to 10 an H record's
 abbrev pub InputNumbers : Type 0
 InputNumbers = (s : List ℕ) (x : Refusal) → BadInput s x → (1 ≤ x .number) × (x .number ≤ 10)
     × (x .number ≤ 3 → x .place ≡ 0) × (4 ≤ x .number → x .place < length (recordsOf s))
 
 pub input-numbers : InputNumbers
 input-numbers = bad-number
+
+abbrev pub RecordNumbers : Type 0
+RecordNumbers = (rs : List (List ℕ)) (i m : ℕ) → recordRefusal rs i ≡ suc m
+    → ((isS (getD rs i []) ≡ true) × (5 ≤ suc m) × (suc m ≤ 7)) ⊎ ((isS (getD rs i []) ≡ false) × (8 ≤ suc m) × (suc m ≤ 10))
+
+pub record-numbers : RecordNumbers
+record-numbers = record-number
 
 -- 13 and 14, 0 for none: "pointers not six bytes, over 240 cells, or a value naming no cell in use", "a used cell unreachable"
 abbrev pub FoldNumbers : Type 0

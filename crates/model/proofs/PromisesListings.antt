@@ -5,7 +5,7 @@ use mathlib.Core.Path.{_≡_, refl}
 use mathlib.Core.Logic.{_↔_, _⊎_}
 use mathlib.Core.Bool.{false, true}
 use mathlib.Core.List.{List, [], _∷_, map}
-use lib.ListN.{getD, length, replicate}
+use lib.ListN.{drop, getD, length, replicate}
 use Rattle.model.specs.Base.{mem}
 use Rattle.model.specs.Edges.{Edge, Loc, Update, access, at, edgesOf, failed, splitHeap}
 use Rattle.model.specs.Heap.{Heap, IsHeap, cell, inUse, kept, next, order}
@@ -18,6 +18,7 @@ use Rattle.model.proofs.Bytes.{applied-code}
 use Rattle.model.proofs.Checked.{check-good}
 use Rattle.model.proofs.Cores.{core-head, core-inner}
 use Rattle.model.proofs.Demand.{demand-three}
+use Rattle.model.proofs.EdgeBack.{edge-branch, edge-from, edge-guard, edge-length, edge-node, edge-to, edge-updates}
 use Rattle.model.proofs.Effects.{effect-alike, exp-split}
 use Rattle.model.proofs.Facts.{heap-closed, heap-kept, kept-same, unused-of, used-of}
 use Rattle.model.proofs.Folds.{counters-grow, fold-same, order-cat}
@@ -28,7 +29,7 @@ use Rattle.model.proofs.Notions.{AddApart, Alike, Exclude, Expansion, P
 use Rattle.model.proofs.Once.{good-once}
 use Rattle.model.proofs.Outcomes.{accepted-exact, fits-accepted, full-one, is-accepted, records-distinct, refused-says, tables-hold}
 use Rattle.model.proofs.Reached.{good-cover, good-edge, good-exclude, reached-good}
-use Rattle.model.proofs.ReadBack.{edge-from, edge-guard, edge-length, edge-node, edge-to, edge-updates, location-length, location-shape, shape-length, shape-shape}
+use Rattle.model.proofs.ReadBack.{failed-fault, failed-length, failed-statement, location-fault, location-length, location-nodes, location-shape, location-statement, shape-length, shape-shape}
 use Rattle.model.proofs.ShapeBack.{layout-writable, shape-record-back}
 use Rattle.model.proofs.Start.{start}
 use Rattle.model.proofs.Statements.{record-back, statement-back}
@@ -142,14 +143,15 @@ LocationReadBack = (n : ℕ) (h : Heap) → Writable h → (length (locRecord (a
     × (byte (locRecord (at n h)) 2 ≡ 0) × (byte (locRecord (at n h)) 3 ≡ length (h .slots)) × (shapeOf (locRecord (at n h)) ≡ h)
 
 pub location-read-back : LocationReadBack
-location-read-back n h W = (location-length n h W, refl, refl, refl, location-shape n h W)
+location-read-back n h W = (location-length n h W, location-statement n h, location-fault n h, location-nodes n h, location-shape n h W)
 
 -- "For a fault, the statement is the one that faulted and bytes 3 to 31 are zero."
 abbrev pub FaultReadBack : Type 0
-FaultReadBack = (n : ℕ) (f : Fault) → locRecord (failed n f) ≡ 0x4c ∷ n ∷ faultNumber f ∷ replicate 29 0
+FaultReadBack = (n : ℕ) (f : Fault) → (length (locRecord (failed n f)) ≡ 32) × (byte (locRecord (failed n f)) 1 ≡ n)
+    × (byte (locRecord (failed n f)) 2 ≡ faultNumber f) × (drop 3 (locRecord (failed n f)) ≡ replicate 29 0)
 
 pub fault-read-back : FaultReadBack
-fault-read-back n f = refl
+fault-read-back n f = (failed-length n f, failed-statement n f, failed-fault n f, refl)
 
 -- an edge's record has 32 bytes and is read back: branch, ends, guard and updates
 abbrev pub EdgeReadBack : Type 0
@@ -161,7 +163,7 @@ EdgeReadBack = (from to : ℕ) (e : Edge) → length (e .updates) ≤ 12
 
 pub edge-read-back : EdgeReadBack
 edge-read-back from to e h =
-    (edge-length from to e h, refl, edge-from from to e, edge-to from to e, edge-guard from to e, edge-node from to e, edge-updates from to e)
+    (edge-length from to e h, edge-branch from to e, edge-from from to e, edge-to from to e, edge-guard from to e, edge-node from to e, edge-updates from to e)
 
 -- "each new counter its constant plus the old counters that it adds", from the code of an update
 abbrev pub UpdateReadBack : Type 0

@@ -17,8 +17,8 @@ use Rattle.model.proofs.Facts.{closed-test, heap-closed, heap-kept, kep
 use Rattle.model.proofs.Iso.{renamed-same}
 use Rattle.model.proofs.Lists.{In}
 use Rattle.model.proofs.Logic.{NoDup}
-use Rattle.model.proofs.Merge.{merge-ends, merge-exists, merge-heap, merge-keeps, merged-is-fold}
-use Rattle.model.proofs.Notions.{EveryCore, IsSegment, Merges, MergesTo, Positive, Reaches, Renames, Two, counted, flat, segAt}
+use Rattle.model.proofs.Merge.{merge-ends, merge-exists, merge-heap, merge-keeps, merged-is-fold, merged-nodes}
+use Rattle.model.proofs.Notions.{EveryCore, IsSegment, Merges, MergesTo, Positive, Reaches, Renames, Two, counted, flat, heads, segAt}
 use Rattle.model.proofs.Order.{order-once}
 use Rattle.model.proofs.Reach.{cell-lost, kept-reaches, lost-cell, order-reaches, reaches-order}
 use Rattle.model.proofs.SameShape.{fold-unfold, same-renamed}
@@ -110,12 +110,13 @@ twelve-nodes = twelve
 
 -- ==== folding is merging: "nodes that are no longer core are merged into their predecessor and their counters added"
 
--- merging until every cell is core gives the shape and, in the order of the visit, the counters
+-- merging until every cell is core gives the shape and, in the order of the visit, the counters; the heads of the segments are left
 abbrev pub FoldIsMerge : Type 0
-FoldIsMerge = (h W : Heap) (w : ℕ → ℕ) → IsHeap h → MergesTo h (λ _. 1) W w → EveryCore W → (shape W ≡ shape h) × (map w (order W) ≡ counters h)
+FoldIsMerge = (h W : Heap) (w : ℕ → ℕ) → IsHeap h → MergesTo h (λ _. 1) W w → EveryCore W
+    → (shape W ≡ shape h) × (map w (order W) ≡ counters h) × (order W ≡ heads h)
 
 pub fold-is-merge : FoldIsMerge
-fold-is-merge = merged-is-fold
+fold-is-merge h W w x m k = let r = merged-is-fold h W w x m k in (r .0, r .1, merged-nodes h W (λ _. 1) w x m k)
 
 -- each merge keeps the shape and the counters of the segments, and leaves a heap
 abbrev pub MergeKeeps : Type 0

@@ -9,12 +9,12 @@ use native.Mathlib.Omega.{arith}
 use lib.ListN.{getD}
 use Rattle.model.specs.Base.{mem}
 use Rattle.model.specs.Heap.{Heap, Slot, Val, cell, eachUsed, holds, kept, next, null, order, undef, unused}
-use Rattle.model.proofs.Changes.{holds-inj}
 use Rattle.model.proofs.Facts.{kept-test, test-kept}
 use Rattle.model.proofs.Lists.{In}
 use Rattle.model.proofs.Logic.{bool-case, clash, mem-append-cases, mem-append-l, mem-append-r, mem-here, mem-one, not-true}
 use Rattle.model.proofs.Order.{toured}
 use Rattle.model.proofs.Walks.{ClosedHeap, Tours, Used, Walks, at-null, at-seen, at-undef, go, tour-done, tour-more}
+use Rattle.model.proofs.Writes.{holds-inj}
 pub use Rattle.model.proofs.Notions.{Reaches, along, from-pointer}
 pub use Rattle.model.proofs.Order.{order-once}
 

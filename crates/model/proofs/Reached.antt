@@ -65,12 +65,15 @@ pub keep-ptrs : (n : ℕ) (x : Effect) → PtrsAre n x → PtrsAre n (keep x)
 keep-ptrs n (fault f) p = tt
 keep-ptrs n (done h) p = bool-case (kept h) (λ e. rw e p) (λ e. rw e tt)
 
-pub made-ptrs : (s : ℕ) (st : Stmt) (e : Entry) (h : Heap) (x : Step State) → made (begin s h) (step st e h) ≡ some x → length (x .after .heap .ptrs) ≡ length (h .ptrs)
+pub made-ptrs : (s : ℕ) (st : Stmt) (e : Entry) (h : Heap) (x : Step State) → made (begin s h) (step st e h) ≡ some x
+    → length (x .after .heap .ptrs) ≡ length (h .ptrs)
 made-ptrs s st e h x m =
     let g = made-goes (begin s h) st e h x m in
-    by-run (run (st .op) (e .cellNo) h) (keep-ptrs (length (h .ptrs)) (effect (st .op) (e .cellNo) h) (effect-ptrs (st .op) (e .cellNo) h)) (rw (step-go st e h (g .0) (g .1)) at m)
+    by-run (run (st .op) (e .cellNo) h) (keep-ptrs (length (h .ptrs)) (effect (st .op) (e .cellNo) h) (effect-ptrs (st .op) (e .cellNo) h))
+    (rw (step-go st e h (g .0) (g .1)) at m)
   where
-    by-run : (r : Effect) → PtrsAre (length (h .ptrs)) r → made (begin s h) (answerOf st (branch (st .op) (e .pick) h) r) ≡ some x → length (x .after .heap .ptrs) ≡ length (h .ptrs)
+    by-run : (r : Effect) → PtrsAre (length (h .ptrs)) r → made (begin s h) (answerOf st (branch (st .op) (e .pick) h) r) ≡ some x
+        → length (x .after .heap .ptrs) ≡ length (h .ptrs)
     by-run (done k) p q = ap (λ (y : Step State). length (y .after .heap .ptrs)) (sym (some-inj q)) ∙ p
     by-run (fault f) p q = ap (λ (y : Step State). length (y .after .heap .ptrs)) (sym (some-inj q))
 
@@ -84,8 +87,10 @@ ways-below : (op : Op) (h : Heap) (v : Val) → Closed (next h) v → (y : Way) 
 ways-below op h (cell n) k y (inl e) = subst (λ (z : Way). GuardBelow (length (h .slots)) (z .guard)) (sym e) (used-below (h .slots) n k)
 ways-below op h (cell n) k y (inr (inl e)) = subst (λ (z : Way). GuardBelow (length (h .slots)) (z .guard)) (sym e) (used-below (h .slots) n k)
 ways-below op h (cell n) k y (inr (inr x)) = absurd x
-ways-below op h null k y i = let r = in-map (λ p. whole always p h) y (picksOf (kind op)) i in subst (λ (z : Way). GuardBelow (length (h .slots)) (z .guard)) (sym (r .2)) tt
-ways-below op h undef k y i = let r = in-map (λ p. whole always p h) y (picksOf (kind op)) i in subst (λ (z : Way). GuardBelow (length (h .slots)) (z .guard)) (sym (r .2)) tt
+ways-below op h null k y i =
+    let r = in-map (λ p. whole always p h) y (picksOf (kind op)) i in subst (λ (z : Way). GuardBelow (length (h .slots)) (z .guard)) (sym (r .2)) tt
+ways-below op h undef k y i =
+    let r = in-map (λ p. whole always p h) y (picksOf (kind op)) i in subst (λ (z : Way). GuardBelow (length (h .slots)) (z .guard)) (sym (r .2)) tt
 
 -- counters for which a guard holds
 guard-met : (k : ℕ) (g : Guard) → GuardBelow k g → (c : ℕ) × (1 ≤ c) × (guardOn g (replicate k c) ≡ true)
@@ -127,7 +132,8 @@ module _ (s : ℕ) (st : Stmt) (h : Heap) (C : Canon h) (six : length (h .ptrs) 
       let r = leave-backward s st H (heap-closed H X) (heap-kept H X) E (subst (λ x. In E (edgesAt s st x)) (sym sh) i)
       (ap₂ guardOn g ct ∙ m .2) e refl (ap inUse (List·getD-eq-default (H .slots) unused (omega arith))) in (
         subst (λ (x : Heap). SmallEdge (length (x .slots)) E) sh (r .4),
-        fit-good (r .0 .after) (E .to) (map (worth (counters H)) (E .updates)) (r .3) (made-ptrs s st e H (r .0) (r .1) ∙ length-map (h .ptrs) (spread cs) ∙ six),
+        fit-good (r .0 .after) (E .to) (map (worth (counters H)) (E .updates)) (r .3)
+            (made-ptrs s st e H (r .0) (r .1) ∙ length-map (h .ptrs) (spread cs) ∙ six),
       )
 
 -- the edges of a good location

@@ -1,20 +1,19 @@
--- Shape, location and edge records read back as what they were written from.
-use Prim.Native.Nat.{_%_, _*_, _+_, _-_, _/_, _<_, _≤_, suc, zero, ℕ}
-use mathlib.Core.Path.{_∙_, _≡_, ap, ap₂, fun-ext, refl, subst, sym}
+-- Shape and location records are read back as what they were written from.
+use Prim.Native.Nat.{_+_, _-_, _<_, _≤_, suc, ℕ}
+use mathlib.Core.Path.{_∙_, _≡_, ap, ap₂, refl, subst, sym}
 use mathlib.Core.Bool.{true}
-use mathlib.Core.List.{List, [], _++_, _∷_, append-assoc, map}
+use mathlib.Core.List.{List, _++_, _∷_, append-assoc, map}
 use native.Mathlib.Omega.{arith}
-use lib.ListN.{drop, getD, length, length-append, length-map, length-replicate, replicate, take}
+use lib.ListN.{drop, length, length-append, length-map, replicate, take}
 use lib.Seq.{drop-at, take-at}
-use Rattle.model.specs.Base.{all, joined, numbers}
-use Rattle.model.specs.Edges.{Edge, Guard, Loc, Update, always, at, failed, isMore, isOne}
+use Rattle.model.specs.Base.{all}
+use Rattle.model.specs.Edges.{Loc, at, failed}
 use Rattle.model.specs.Heap.{Heap, Slot, Val, cell, closed, holds, inUse, named, next, null, slotNamed, undef, unused}
 use Rattle.model.specs.Machine.{Fault, atNull, atUndef, faultNumber, leak}
-use Rattle.model.specs.Records.{byte, edgeRecord, filled, guardBytes, locRecord, shapeBytes, shapeOf, shapeRecord, slotByte, twoBytes, updateCode, valByte, valOf, word}
-use Rattle.model.specs.Runs.{updatesOf}
+use Rattle.model.specs.Records.{byte, locRecord, shapeBytes, shapeOf, shapeRecord, slotByte, valByte, valOf}
 use Rattle.model.specs.Shape.{Seg, last, nodeSlot, nodeVal, segments}
 use Rattle.model.proofs.Bound.{few-nodes}
-use Rattle.model.proofs.Bytes.{small-up, val-back, word-back}
+use Rattle.model.proofs.Bytes.{filled-length, small-up, val-back}
 use Rattle.model.proofs.Canon.{Canon, canon-fold}
 use Rattle.model.proofs.Listings.{SmallVal}
 use Rattle.model.proofs.Lists.{all-of, getD-in, in-getD, map-back}
@@ -22,6 +21,7 @@ use Rattle.model.proofs.Logic.{and-both}
 use Rattle.model.proofs.Order.{used-below}
 use Rattle.model.proofs.Start.{end, slot-at}
 use Rattle.model.proofs.Walks.{Closed, Used, closed-in}
+pub use Rattle.model.proofs.EdgeBack.{edge-branch, edge-from, edge-guard, edge-length, edge-node, edge-to, edge-updates}
 pub use Rattle.model.proofs.Listings.{SmallSlot, Writable, WritableLoc}
 
 -- ---- heaps that a record holds
@@ -75,9 +75,6 @@ module _ (h : Heap) (W : Writable h) where
       (all-of (slotNamed (next h)) (h .slots) (λ s q. slot-named s (W .nexts s q)))
 
 -- ---- shapes and locations
-
-pub filled-length : (n : ℕ) (l : List ℕ) → length l ≤ n → length (filled n l) ≡ n
-filled-length n l h = omega (arith, length-append l (replicate (n - length l) 0), length-replicate {A = ℕ} (n - length l) 0)
 
 body-length : (h : Heap) → length (map valByte (h .ptrs) ++ map slotByte (h .slots)) ≡ length (h .ptrs) + length (h .slots)
 body-length h = length-append (map valByte (h .ptrs)) (map slotByte (h .slots)) ∙ ap₂ _+_ (length-map (h .ptrs) valByte) (length-map (h .slots) slotByte)
@@ -168,66 +165,3 @@ location-injective (at s h) (at t g) W X e = ap₂ at (ap (λ r. byte r 1) e) (s
 location-injective (at s h) (failed t g) W X e = absurd (let z : 0 ≡ faultNumber g = ap (λ r. byte r 2) e in omega (arith, fault-positive g))
 location-injective (failed s f) (at t g) W X e = absurd (let z : faultNumber f ≡ 0 = ap (λ r. byte r 2) e in omega (arith, fault-positive f))
 location-injective (failed s f) (failed t g) W X e = ap₂ failed (ap (λ r. byte r 1) e) (fault-injective f g (ap (λ r. byte r 2) e))
-
--- ---- edges
-
-guard-two : (g : Guard) (w : List ℕ) → guardBytes g ++ w ≡ getD (guardBytes g) 0 0 ∷ getD (guardBytes g) 1 0 ∷ w
-guard-two always w = refl
-guard-two (isOne n) w = refl
-guard-two (isMore n) w = refl
-
-abbrev updateBytes : Edge → List ℕ
-updateBytes e = joined (map (λ u. twoBytes (updateCode u)) (e .updates))
-
-edge-bytes : (from to : ℕ) (e : Edge)
-    → edgeRecord from to e
-    ≡ 0x45 ∷ e .branchNo ∷ from % 256 ∷ from / 256 ∷ to % 256 ∷ to / 256 ∷ getD (guardBytes (e .guard)) 0 0 ∷ getD (guardBytes (e .guard)) 1 0
-    ∷ filled 24 (updateBytes e)
-edge-bytes from to e =
-    ap (λ w. 0x45 ∷ e .branchNo ∷ from % 256 ∷ from / 256 ∷ to % 256 ∷ to / 256 ∷ w) (guard-two (e .guard) (filled 24 (updateBytes e)))
-
-updates-length : (us : List Update) → length (joined (map (λ u. twoBytes (updateCode u)) us)) ≡ 2 * length us
-updates-length [] = refl
-updates-length (u ∷ us) = omega (arith, updates-length us)
-
-pub edge-length : (from to : ℕ) (e : Edge) → length (e .updates) ≤ 12 → length (edgeRecord from to e) ≡ 32
-edge-length from to e h =
-    let f : length (filled 24 (updateBytes e)) ≡ 24 = filled-length 24 (updateBytes e) (omega (arith, updates-length (e .updates))) in
-    ap length (edge-bytes from to e) ∙ omega arith
-
-pub edge-branch : (from to : ℕ) (e : Edge) → byte (edgeRecord from to e) 1 ≡ e .branchNo
-edge-branch from to e = refl
-
-pub edge-from : (from to : ℕ) (e : Edge) → word (edgeRecord from to e) 2 ≡ from
-edge-from from to e = word-back from
-
-pub edge-to : (from to : ℕ) (e : Edge) → word (edgeRecord from to e) 4 ≡ to
-edge-to from to e = word-back to
-
-pub edge-guard : (from to : ℕ) (e : Edge) → byte (edgeRecord from to e) 6 ≡ getD (guardBytes (e .guard)) 0 0
-edge-guard from to e = ap (λ r. byte r 6) (edge-bytes from to e)
-
-pub edge-node : (from to : ℕ) (e : Edge) → byte (edgeRecord from to e) 7 ≡ getD (guardBytes (e .guard)) 1 0
-edge-node from to e = ap (λ r. byte r 7) (edge-bytes from to e)
-
-word-skip : (a b : ℕ) (w : List ℕ) (j n : ℕ) → map (λ i. word (a ∷ b ∷ w) (2 * i)) (numbers (suc j) n) ≡ map (λ i. word w (2 * i)) (numbers j n)
-word-skip a b w j zero = refl
-word-skip a b w j (suc n) = ap₂ _∷_ (ap (word (a ∷ b ∷ w)) (let e : 2 * suc j ≡ suc (suc (2 * j)) = omega arith in e)) (word-skip a b w (suc j) n)
-
-words-back : (us : List Update) (z : List ℕ)
-    → map (λ i. word (joined (map (λ u. twoBytes (updateCode u)) us) ++ z) (2 * i)) (numbers 0 (length us)) ≡ map updateCode us
-words-back [] z = refl
-words-back (u ∷ us) z = ap₂ _∷_ (word-back (updateCode u))
-    (word-skip _ _ (joined (map (λ u. twoBytes (updateCode u)) us) ++ z) 0 (length us) ∙ words-back us z)
-
-word-eight : (a b c d e f g h : ℕ) (w : List ℕ) (n : ℕ) → word (a ∷ b ∷ c ∷ d ∷ e ∷ f ∷ g ∷ h ∷ w) (8 + n) ≡ word w n
-word-eight a b c d e f g h w n =
-    let q : 8 + n ≡ suc (suc (suc (suc (suc (suc (suc (suc n))))))) = omega arith in
-    ap (word (a ∷ b ∷ c ∷ d ∷ e ∷ f ∷ g ∷ h ∷ w)) q
-
--- the updates of an edge, for its new nodes
-pub edge-updates : (from to : ℕ) (e : Edge) → updatesOf (length (e .updates)) (edgeRecord from to e) ≡ map updateCode (e .updates)
-edge-updates from to e =
-    ap (updatesOf (length (e .updates))) (edge-bytes from to e)
-    ∙ ap (λ f. map f (numbers 0 (length (e .updates)))) (fun-ext (λ i. word-eight _ _ _ _ _ _ _ _ (filled 24 (updateBytes e)) (2 * i)))
-    ∙ words-back (e .updates) (replicate (24 - length (updateBytes e)) 0)

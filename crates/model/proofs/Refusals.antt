@@ -95,7 +95,14 @@ record-cases n i earlier (r ∷ rs) = by-first (cond (isS r) (refusalS n r) (ref
     by-first : (m : ℕ) → cond (isS r) (refusalS n r) (refusalH earlier r) ≡ m → RecordCases n (suc i) (r ∷ earlier) rs → RecordCases n i earlier (r ∷ rs)
     by-first (suc m) e c = inl (0, m, rw (e, badRecord) (ap (λ p. some (refusal (suc m) p)) (omega arith)), omega arith, e, λ j l. absurd (omega arith))
     by-first zero e (inl (k, m, q, lt, w, f)) =
-        inl (suc k, m, rw (e, badRecord) (q ∙ ap (λ p. some (refusal (suc m) p)) (omega arith)), omega arith, earlier-same n earlier rs r k ∙ w, λ j l. by-place j l)
+        inl (
+          suc k,
+          m,
+          rw (e, badRecord) (q ∙ ap (λ p. some (refusal (suc m) p)) (omega arith)),
+          omega arith,
+          earlier-same n earlier rs r k ∙ w,
+          λ j l. by-place j l,
+        )
       where
         by-place : (j : ℕ) → j < suc k → refusedAfter n earlier (r ∷ rs) j ≡ 0
         by-place zero l = e
@@ -137,7 +144,7 @@ module _ (s : List ℕ) (a : noRecords s ≡ false) where
     by-record b c (inl (i, m, p, lt, w, g)) = inl (
       refusal (suc m) (0 + i),
       counts-records b c ∙ rw (p, checkRecords),
-      bad-record m i (ap (refusal (suc m)) (zero-add i)) lt (none-earlier (recordsOf s) i ∙ w) (λ j l. none-earlier (recordsOf s) j ∙ g j l),
+      bad-record m i (ap (refusal (suc m)) (zero-add i)) a f b c lt (λ j l. none-earlier (recordsOf s) j ∙ g j l) (none-earlier (recordsOf s) i ∙ w),
     )
     by-record b c (inr (p, g)) = inr (
       routineOf (recordsOf s),
@@ -149,11 +156,11 @@ module _ (s : List ℕ) (a : noRecords s ≡ false) where
     by-counts = bool-case (between 1 64 (count isS (recordsOf s)))
         (λ b. bool-case (between 1 16 (count isH (recordsOf s)))
         (λ c. by-record b c (record-cases (count isS (recordsOf s)) 0 [] (recordsOf s)))
-        (λ c. inl (refusal 3 0, kinds-counts q ∙ rw (b, checkCounts) (rw (c, checkCounts)), bad-shapes refl c)))
-        (λ b. inl (refusal 2 0, kinds-counts q ∙ rw (b, checkCounts), bad-statements refl b))
+        (λ c. inl (refusal 3 0, kinds-counts q ∙ rw (b, checkCounts) (rw (c, checkCounts)), bad-shapes refl a f b c)))
+        (λ b. inl (refusal 2 0, kinds-counts q ∙ rw (b, checkCounts), bad-statements refl a f b))
 
   by-kind : KindCases false 0 (recordsOf s) → CheckCases s
-  by-kind (inl (i, q, lt, w, f)) = inl (refusal 4 (0 + i), check-kinds ∙ rw (q, checkKinds), bad-kind i (ap (refusal 4) (zero-add i)) lt w f)
+  by-kind (inl (i, q, lt, w, f)) = inl (refusal 4 (0 + i), check-kinds ∙ rw (q, checkKinds), bad-kind i (ap (refusal 4) (zero-add i)) a lt f w)
   by-kind (inr (q, f)) = by-counts q f
 
 pub check-cases : (s : List ℕ) → CheckCases s
@@ -174,6 +181,20 @@ accepted-input s r e = ⊎-elim
     (λ (p : (x : Refusal) × (check s ≡ bad x) × BadInput s x). bad-good (sym (p .1) ∙ e))
     (λ (p : (q : Routine) × (check s ≡ good q) × GoodInput s q). subst (GoodInput s) (good-inj (sym (p .1) ∙ e)) (p .2)) (check-cases s)
 
+-- an input is not both
+pub bad-not-good : (s : List ℕ) (x : Refusal) (r : Routine) → BadInput s x → GoodInput s r → ⊥
+bad-not-good s x r (bad-length e a) G = clash a (G .wide)
+bad-not-good s x r (bad-kind i e a lt f w) G = clash w (G .kinds i lt)
+bad-not-good s x r (bad-statements e a f b) G = clash (G .statements) b
+bad-not-good s x r (bad-shapes e a f b c) G = clash (G .shapes) c
+bad-not-good s x r (bad-record n i e a f b c lt g w) G = let z = G .records i lt in omega arith
+
+-- so an input with nothing wrong is accepted
+pub good-accepted : (s : List ℕ) (r : Routine) → GoodInput s r → check s ≡ good r
+good-accepted s r G = ⊎-elim
+    (λ (p : (x : Refusal) × (check s ≡ bad x) × BadInput s x). absurd (bad-not-good s (p .0) r (p .2) G))
+    (λ (p : (q : Routine) × (check s ≡ good q) × GoodInput s q). p .1 ∙ ap good (p .2 .isRead ∙ sym (G .isRead))) (check-cases s)
+
 -- ---- numbers and places
 
 statement-number : (n : ℕ) (r : List ℕ) (m : ℕ) → refusalS n r ≡ suc m → (5 ≤ suc m) × (suc m ≤ 7)
@@ -184,7 +205,8 @@ statement-number n r m e = bool-case (ltb 11 (byte r 1)) (λ a. let z = rw a at 
 shape-number : (earlier : List (List ℕ)) (r : List ℕ) (m : ℕ) → refusalH earlier r ≡ suc m → (8 ≤ suc m) × (suc m ≤ 10)
 shape-number earlier r m e = bool-case (layoutH r)
     (λ a. let e1 = rw (a, refusalH) at e in bool-case (canonical (shapeOf r))
-    (λ b. let e2 = rw (b, refusalH) at e1 in bool-case (any (sameList eqb r) earlier) (λ c. let z = rw c at e2 in omega arith) (λ c. let z = rw c at e2 in omega arith))
+    (λ b. let e2 = rw (b, refusalH) at e1 in
+    bool-case (any (sameList eqb r) earlier) (λ c. let z = rw c at e2 in omega arith) (λ c. let z = rw c at e2 in omega arith))
     (λ b. let z = rw (b, refusalH) at e1 in omega arith))
     (λ a. let z = rw (a, refusalH) at e in omega arith)
 
@@ -199,10 +221,12 @@ record-number rs i m e = bool-case (isS (getD rs i []))
 pub bad-number : (s : List ℕ) (x : Refusal) → BadInput s x
     → (1 ≤ x .number) × (x .number ≤ 10) × (x .number ≤ 3 → x .place ≡ 0) × (4 ≤ x .number → x .place < length (recordsOf s))
 bad-number s x (bad-length e a) = rw e (omega arith, omega arith, (λ l. refl), λ l. absurd (omega arith))
-bad-number s x (bad-kind i e lt w f) = rw e (omega arith, omega arith, (λ l. absurd (omega arith)), λ l. lt)
-bad-number s x (bad-statements e a) = rw e (omega arith, omega arith, (λ l. refl), λ l. absurd (omega arith))
-bad-number s x (bad-shapes e a) = rw e (omega arith, omega arith, (λ l. refl), λ l. absurd (omega arith))
-bad-number s x (bad-record n i e lt w f) = rw e (⊎-elim
-    (λ (p : (isS (getD (recordsOf s) i []) ≡ true) × (5 ≤ suc n) × (suc n ≤ 7)). (omega arith, omega arith, (λ (l : suc n ≤ 3). absurd (omega arith)), λ (l : 4 ≤ suc n). lt))
-    (λ (p : (isS (getD (recordsOf s) i []) ≡ false) × (8 ≤ suc n) × (suc n ≤ 10)). (omega arith, omega arith, (λ (l : suc n ≤ 3). absurd (omega arith)), λ (l : 4 ≤ suc n). lt))
+bad-number s x (bad-kind i e a lt f w) = rw e (omega arith, omega arith, (λ l. absurd (omega arith)), λ l. lt)
+bad-number s x (bad-statements e a f b) = rw e (omega arith, omega arith, (λ l. refl), λ l. absurd (omega arith))
+bad-number s x (bad-shapes e a f b c) = rw e (omega arith, omega arith, (λ l. refl), λ l. absurd (omega arith))
+bad-number s x (bad-record n i e a f b c lt g w) = rw e (⊎-elim
+    (λ (p : (isS (getD (recordsOf s) i []) ≡ true) × (5 ≤ suc n) × (suc n ≤ 7)).
+    (omega arith, omega arith, (λ (l : suc n ≤ 3). absurd (omega arith)), λ (l : 4 ≤ suc n). lt))
+    (λ (p : (isS (getD (recordsOf s) i []) ≡ false) × (8 ≤ suc n) × (suc n ≤ 10)).
+    (omega arith, omega arith, (λ (l : suc n ≤ 3). absurd (omega arith)), λ (l : 4 ≤ suc n). lt))
     (record-number (recordsOf s) i n w))

@@ -11,7 +11,6 @@ use Rattle.model.specs.Heap.{Heap, IsHeap, Slot, Val, cell, holds, next,
 use Rattle.model.specs.Image.{unfoldHeap}
 use Rattle.model.specs.Shape.{Seg, cells, counters, last, nodeSlot, segments, shape, size}
 use Rattle.model.proofs.Canon.{fold-canon}
-use Rattle.model.proofs.Changes.{holds-inj}
 use Rattle.model.proofs.Facts.{heap-closed, heap-kept}
 use Rattle.model.proofs.Folds.{chain-used}
 use Rattle.model.proofs.Lists.{map-two}
@@ -21,6 +20,7 @@ use Rattle.model.proofs.Order.{toured, used-below}
 use Rattle.model.proofs.Start.{flat-is, start}
 use Rattle.model.proofs.Unfold.{counters-unfold, shape-unfold, unfold-is-heap}
 use Rattle.model.proofs.Walks.{AllClosed, Closed, Used, map-closed}
+use Rattle.model.proofs.Writes.{holds-inj}
 
 -- a chain and the chain renamed: so is what each of its cells holds
 chain-renamed : (f : ℕ → ℕ) (na nb : ℕ → Slot) (c : ℕ) (l : List ℕ) (v : Val) → Chain na c l v → Chain nb (f c) (map f l) (renameVal f v)

@@ -10,7 +10,6 @@ use Rattle.model.specs.Base.{mem, sum}
 use Rattle.model.specs.Heap.{Heap, IsHeap, Slot, Val, cell, holds, next, order}
 use Rattle.model.specs.Shape.{Seg, cells, core, counters, segments, size}
 use Rattle.model.proofs.Bound.{few-nodes, segment-is}
-use Rattle.model.proofs.Changes.{holds-inj}
 use Rattle.model.proofs.Facts.{heap-closed, heap-kept}
 use Rattle.model.proofs.Folds.{Kept, chain-used}
 use Rattle.model.proofs.Lists.{map-same}
@@ -20,6 +19,7 @@ use Rattle.model.proofs.Order.{toured}
 use Rattle.model.proofs.Reach.{kept-reaches}
 use Rattle.model.proofs.Start.{flat-is, seg-apart, where-is}
 use Rattle.model.proofs.Walks.{ClosedHeap, Used}
+use Rattle.model.proofs.Writes.{holds-inj}
 pub use Rattle.model.proofs.Cores.{core-is, not-pointed, one-holder}
 pub use Rattle.model.proofs.Notions.{EveryCore, IsSegment, counted, heads}
 

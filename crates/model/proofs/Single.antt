@@ -63,7 +63,8 @@ module _ (r : Routine) (t : Listing) (X : Exact r t) (G : GoodStarts r) (a b : �
       ap (λ (x : Step Config). x .branchNo) (sym (M .3)) ∙ e ∙ ap (λ (x : Step Config). x .branchNo) (N .3) in
       eq-case m n (λ s. s) (λ s. let ne = eqb-false m n s in bool-case (ltb m n)
       (λ l. absurd (pairs-at Apart (t .links) _ m n links-apart (ltb-true m n l) (N .0) (M .1 ∙ sym (N .1)) bm (c .values) (M .2) (N .2)))
-      (λ l. absurd (pairs-at Apart (t .links) _ n m links-apart (let g = ltb-false m n l in omega arith) (M .0) (N .1 ∙ sym (M .1)) (sym bm) (c .values) (N .2) (M .2))))
+      (λ l. absurd (pairs-at Apart (t .links) _ n m links-apart (let g = ltb-false m n l in omega arith) (M .0) (N .1 ∙ sym (M .1)) (sym bm) (c .values)
+      (N .2) (M .2))))
 
   -- the state fits the configuration's location
   abbrev pub Both : State → Config → Type 0

@@ -10,12 +10,12 @@ use Rattle.model.specs.Edges.{splitHeap}
 use Rattle.model.specs.Heap.{Heap, Slot, Val, cell, holds, kept, next, null, order, ptr, undef, unused}
 use Rattle.model.specs.Machine.{Effect, Op, choose, clear, copy, done, effect, fault, free, freeVal, held, isNull, keep, load, new, put, putSlot, run, same, setNull, setPtr, skip, stop, store, through, wipeSlot}
 use Rattle.model.specs.Shape.{Seg, cells, core, segments}
+use Rattle.model.proofs.Cuts.{flat-cut, nodup-l, nodup-r}
 use Rattle.model.proofs.Effects.{closed-ptr}
 use Rattle.model.proofs.Folds.{Alls}
 use Rattle.model.proofs.Logic.{NoDup, bool-case, mem-append-l, mem-append-r}
 use Rattle.model.proofs.Notions.{flat}
 use Rattle.model.proofs.Order.{toured, used-below}
-use Rattle.model.proofs.Start.{flat-cut, nodup-l, nodup-r}
 use Rattle.model.proofs.Walks.{Closed, ClosedHeap}
 
 length-put : (l : List Slot) (c : ℕ) (s : Slot) (b : ℕ) → length l ≤ b → c < b → length (put l c s) ≤ b

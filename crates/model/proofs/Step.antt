@@ -93,6 +93,7 @@ pub step-agree : (st : Stmt) (d e : Entry) (W : Heap) (sg : ℕ → Seg) (H : He
     → Agree (sg-after (kind (st .op)) (d .cellNo) (e .cellNo) sg) (step st d W) (step st e H)
 step-agree st d e W sg H X g aw ah o rw′ rh b =
     rw (step-go st d W g aw, step-go st e H g ah, b)
-    (answer-agree (sg-after (kind (st .op)) (d .cellNo) (e .cellNo) sg) st (branch (st .op) (d .pick) W) (run (st .op) (d .cellNo) W) (run (st .op) (e .cellNo) H)
+    (answer-agree (sg-after (kind (st .op)) (d .cellNo) (e .cellNo) sg) st (branch (st .op) (d .pick) W) (run (st .op) (d .cellNo) W)
+    (run (st .op) (e .cellNo) H)
     (keep-alike (sg-after (kind (st .op)) (d .cellNo) (e .cellNo) sg) (effect (st .op) (d .cellNo) W) (effect (st .op) (e .cellNo) H)
     (effect-alike W sg H X (st .op) (d .cellNo) (e .cellNo) o rw′ rh)))

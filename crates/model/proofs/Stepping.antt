@@ -139,7 +139,8 @@ effect-slots (load u w) n h cl q = through-slots h (ptr h w) (closed-ptr (next h
 effect-slots (clear u) n h cl q =
     through-slots h (ptr h u) (closed-ptr (next h) (h .ptrs) u (cl .0)) (λ d. putSlot d (holds null) h) (λ c z. put-length (h .slots) c (holds null) z)
 effect-slots (store u w) n h cl q =
-    through-slots h (ptr h u) (closed-ptr (next h) (h .ptrs) u (cl .0)) (λ d. putSlot d (holds (ptr h w)) h) (λ c z. put-length (h .slots) c (holds (ptr h w)) z)
+    through-slots h (ptr h u) (closed-ptr (next h) (h .ptrs) u (cl .0)) (λ d. putSlot d (holds (ptr h w)) h)
+    (λ c z. put-length (h .slots) c (holds (ptr h w)) z)
 effect-slots (new u) n h cl q = put-length (h .slots) n (holds undef) (leb-false (length (h .slots)) n q)
 effect-slots (free u) n h cl q = free-slots h (ptr h u) (closed-ptr (next h) (h .ptrs) u (cl .0))
 effect-slots (isNull u) n h cl q = refl
@@ -175,7 +176,8 @@ answer-lengths st e ps cs cl q =
         let h = heapOf ps cs in
         let x = effect (st .op) (e .cellNo) h in
         by-effect (branch (st .op) (e .pick) h) (keep x) (keep-ptrs (length (h .ptrs)) x (effect-ptrs (st .op) (e .cellNo) h))
-        (keep-slots (length (h .slots)) x (effect-slots (st .op) (e .cellNo) h cl (subst (λ n. pastEnd (kind (st .op)) (e .cellNo) n ≡ false) (sym (length-map cs cellSlot)) q)))
+        (keep-slots (length (h .slots)) x (effect-slots (st .op) (e .cellNo) h cl
+        (subst (λ n. pastEnd (kind (st .op)) (e .cellNo) n ≡ false) (sym (length-map cs cellSlot)) q)))
 
     by-kind : (k : Kind) (a : Answer) → SameLengths ps cs (answered a ps cs) → SameLengths ps cs (answered (unlessStop k a) ps cs)
     by-kind stops a s = (refl, refl)

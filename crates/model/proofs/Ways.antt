@@ -12,7 +12,6 @@ use Rattle.model.specs.Heap.{Heap, Val, cell, next, null, unused}
 use Rattle.model.specs.Machine.{Kind, Op, allocates, branch, choose, clear, copy, free, isNull, kind, load, new, other, picks, same, setNull, skip, stop, stops, store}
 use Rattle.model.specs.Shape.{Seg, counters, last, nodeSlot, segments, shape, size}
 use Rattle.model.proofs.Canon.{single}
-use Rattle.model.proofs.Changes.{upd-at, upd-off}
 use Rattle.model.proofs.Effects.{closed-ptr, exp-split}
 use Rattle.model.proofs.Folds.{Kept}
 use Rattle.model.proofs.Logic.{bool-case, clash, eq-case, eqb-same}
@@ -22,6 +21,7 @@ use Rattle.model.proofs.Sizes.{split-short}
 use Rattle.model.proofs.Start.{start}
 use Rattle.model.proofs.Walks.{AllClosed, Closed, ClosedHeap, Used, seg}
 use Rattle.model.proofs.Weights.{Fair, weigh}
+use Rattle.model.proofs.Writes.{upd-at, upd-off}
 
 -- A way fits a heap: the heap expands the way's, the node that is read, written or freed is one cell, and the weights are the chains' sizes.
 -- k is the number of nodes and the cell for new on the shape, c the cell for new on the heap.

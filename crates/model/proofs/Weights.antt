@@ -1,6 +1,6 @@
 -- What an update says is what the cells of its segment stand for, added up.
 use Prim.Native.Nat.{_+_, _-_, _<_, _≤_, suc, zero, ℕ}
-use mathlib.Core.Path.{_∙_, _≡_, ap, ap₂, refl, subst, sym}
+use mathlib.Core.Path.{_∙_, _≡_, ap, refl, subst, sym}
 use mathlib.Core.Bool.{Bool, _||_, cond, false, true}
 use mathlib.Core.List.{List, [], _∷_, map}
 use native.Mathlib.Nat.{zero-add}
@@ -28,11 +28,6 @@ flags-none : (f : ℕ → Bool) (j : ℕ) (cs : List ℕ) → ((i : ℕ) → f i
 flags-none f j [] h = refl
 flags-none f j (c ∷ cs) h = rw (h j) (omega (arith, flags-none f (suc j) cs h))
 
-flags-same : (f g : ℕ → Bool) (j : ℕ) (cs : List ℕ) → ((i : ℕ) → f i ≡ g i)
-    → flagged (map f (numbers j (length cs))) cs ≡ flagged (map g (numbers j (length cs))) cs
-flags-same f g j [] h = refl
-flags-same f g j (c ∷ cs) h = ap₂ (λ b x. cond b c 0 + x) (h j) (flags-same f g (suc j) cs h)
-
 flags-past : (n j : ℕ) (cs : List ℕ) → n < j → flagged (map (λ i. eqb i n) (numbers j (length cs))) cs ≡ 0
 flags-past n j [] h = refl
 flags-past n j (c ∷ cs) h = rw (ne-eqb j n (λ e. omega arith)) (omega (arith, flags-past n (suc j) cs (omega arith)))
@@ -54,7 +49,8 @@ flags-or f g j (c ∷ cs) h =
     (λ p. bool-case (g j) (λ q. absurd (h j p q)) (λ q. rw (p, q) (omega arith)))
     (λ p. bool-case (g j) (λ q. rw (p, q) (omega arith)) (λ q. rw (p, q) (omega arith)))
 
--- What is needed of the cells' weights: a counter belongs to one cell, and one cell at most is a rest, and one stands for one; counters are there, and a rest's is not 0.
+-- What is needed of the cells' weights: a counter belongs to one cell, and one cell at most is a rest, and one stands for one; counters are there,
+-- and a rest's is not 0.
 pub record Fair (k : ℕ) (cs : List ℕ) (w : ℕ → Weight) : Type 0 where
   pub owned : (i c d : ℕ) → addsCounter i (w c) ≡ true → addsCounter i (w d) ≡ true → c ≡ d
   pub single : (c d : ℕ) → isRest (w c) ≡ true → isRest (w d) ≡ true → c ≡ d
@@ -97,7 +93,8 @@ module _ (k : ℕ) (cs : List ℕ) (len : length cs ≡ k) (w : ℕ → Weight) 
 
   few-of : (p : ℕ → Bool) → ((c d : ℕ) → p c ≡ true → p d ≡ true → c ≡ d) → (l : List ℕ) → NoDup l → count p l ≤ 1
   few-of p one-only [] nd = omega arith
-  few-of p one-only (c ∷ l) nd = bool-case (p c) (λ e. rw e (omega (arith, none-of l (λ d q z. clash (subst (λ x. mem x l ≡ true) (one-only d c z e) q) (nd .0)))))
+  few-of p one-only (c ∷ l) nd =
+      bool-case (p c) (λ e. rw e (omega (arith, none-of l (λ d q z. clash (subst (λ x. mem x l ≡ true) (one-only d c z e) q) (nd .0)))))
       (λ e. rw e (omega (arith, few-of p one-only l (nd .1))))
     where
       none-of : (m : List ℕ) → ((d : ℕ) → mem d m ≡ true → p d ≡ true → ⊥) → count p m ≡ 0

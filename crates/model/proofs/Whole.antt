@@ -1,4 +1,4 @@
--- Whole lists: the routine fed entries and the automaton fed edge numbers match, in both directions. This is demand 3.
+-- Whole lists: the routine fed entries and the automaton fed edge numbers match, in both directions.
 use Prim.Native.Nat.{suc, ℕ}
 use mathlib.Core.Path.{_∙_, _≡_, ap, refl, subst, sym}
 use mathlib.Core.Option.{Option, none, some}
@@ -63,7 +63,8 @@ module _ (r : Routine) (t : Listing) (X : Exact r t) (G : GoodStarts r) (a b : �
   ends-at : (q : State) (c : Config) → Fits q c → leaves T (c .loc) ≡ not (ended sts q)
   ends-at q c B = by-status (q .status) (B .0)
     where
-      by-status : (f : Status) → MatchIn f (q .stmt) (q .heap) (locAt (t .locs) (c .loc)) (c .values) → leaves T (c .loc) ≡ not (endedIn f (stmtAt sts (q .stmt)))
+      by-status : (f : Status) → MatchIn f (q .stmt) (q .heap) (locAt (t .locs) (c .loc)) (c .values)
+          → leaves T (c .loc) ≡ not (endedIn f (stmtAt sts (q .stmt)))
       by-status (past f) m = not-true (leaves T (c .loc)) (λ e. let z = link-in (c .loc) e in subst (λ l. In (z .0) (edgesOf sts l)) (m .0) (z .1))
       by-status running m =
           let st = stmtAt sts (q .stmt) in
@@ -75,7 +76,8 @@ module _ (r : Routine) (t : Listing) (X : Exact r t) (G : GoodStarts r) (a b : �
           clash z (edge-goes (q .stmt) (length (shape H .slots)) (w .0) st (k .0) (w .2)))))
           (λ z. rw z
           (let e : Entry = record { pick = 0; cellNo = length (H .slots) } in
-          let x = some-step (q .stmt) st e H z (accept-room (kind (st .op)) e H (room-of (kind (st .op)) H (length (H .slots)) (List·getD-eq-default (H .slots) unused (omega arith))) (omega arith)) in
+          let x = some-step (q .stmt) st e H z (accept-room (kind (st .op)) e H
+          (room-of (kind (st .op)) H (length (H .slots)) (List·getD-eq-default (H .slots) unused (omega arith))) (omega arith)) in
           let F = leave-forward (q .stmt) st H (m .2) (m .3) e (x .0) (x .1) in
           in-leaves (c .loc) (F .0) (subst (λ l. In (F .0) (edgesOf sts l)) (sym (m .0)) (F .1))))
 
@@ -111,7 +113,8 @@ module _ (r : Routine) (t : Listing) (X : Exact r t) (G : GoodStarts r) (a b : �
       describes-is (past f) m = tt
 
   -- along a list, and where it ends
-  pub paired-final : (q : State) (c : Config) (xs : List (Step State)) (ys : List (Step Config)) → Match sts T q c → Paired sts T xs ys → Match sts T (final q xs) (final c ys)
+  pub paired-final : (q : State) (c : Config) (xs : List (Step State)) (ys : List (Step Config)) → Match sts T q c → Paired sts T xs ys
+      → Match sts T (final q xs) (final c ys)
   paired-final q c [] [] m p = m
   paired-final q c [] (y ∷ ys) m p = absurd p
   paired-final q c (x ∷ xs) [] m p = absurd p
@@ -121,7 +124,8 @@ module _ (r : Routine) (t : Listing) (X : Exact r t) (G : GoodStarts r) (a b : �
   matched q c xs ys B p = record { pairs = p; after = paired-final q c xs ys (fits-match q c B) p }
 
   -- from the routine to the automaton
-  follows : (es : List Entry) (q : State) (c : Config) → Fits q c → (ns : List ℕ) × Forced T c ns × Paired sts T (trace (stepOf sts) q es) (trace (moveOf T) c ns)
+  follows : (es : List Entry) (q : State) (c : Config) → Fits q c
+      → (ns : List ℕ) × Forced T c ns × Paired sts T (trace (stepOf sts) q es) (trace (moveOf T) c ns)
   follows [] q c B = ([], tt, tt)
   follows (e ∷ es) q c B = by-step (stepOf sts q e) refl (λ q′ c′ B′. follows es q′ c′ B′)
     where
@@ -141,7 +145,8 @@ module _ (r : Routine) (t : Listing) (X : Exact r t) (G : GoodStarts r) (a b : �
   Led : State → List (Step Config) → List ℕ → Type 0
   Led q ys cs = Paired sts T (trace (stepOf sts) q (fed ys cs)) ys
 
-  led : (ns : List ℕ) (q : State) (c : Config) → Fits q c → (cs : List ℕ) → length cs ≡ length (trace (moveOf T) c ns) → Unused sts q (fed (trace (moveOf T) c ns) cs)
+  led : (ns : List ℕ) (q : State) (c : Config) → Fits q c → (cs : List ℕ) → length cs ≡ length (trace (moveOf T) c ns)
+      → Unused sts q (fed (trace (moveOf T) c ns) cs)
       → Led q (trace (moveOf T) c ns) cs
   unfolding Led
   led [] q c B [] l u = tt
@@ -149,7 +154,8 @@ module _ (r : Routine) (t : Listing) (X : Exact r t) (G : GoodStarts r) (a b : �
   led (n ∷ ns) q c B cs l u = by-move (moveOf T c n) refl (λ q′ c′ B′ cs′. led ns q′ c′ B′ cs′) cs l u
     where
       by-move : (o : Option (Step Config)) → moveOf T c n ≡ o
-          → ((q′ : State) (c′ : Config) → Fits q′ c′ → (cs′ : List ℕ) → length cs′ ≡ length (trace (moveOf T) c′ ns) → Unused sts q′ (fed (trace (moveOf T) c′ ns) cs′)
+          → ((q′ : State) (c′ : Config) → Fits q′ c′ → (cs′ : List ℕ) → length cs′ ≡ length (trace (moveOf T) c′ ns)
+          → Unused sts q′ (fed (trace (moveOf T) c′ ns) cs′)
           → Paired sts T (trace (stepOf sts) q′ (fed (trace (moveOf T) c′ ns) cs′)) (trace (moveOf T) c′ ns))
           → (cs : List ℕ) → length cs ≡ length (trace (moveOf T) c (n ∷ ns)) → Unused sts q (fed (trace (moveOf T) c (n ∷ ns)) cs)
           → Paired sts T (trace (stepOf sts) q (fed (trace (moveOf T) c (n ∷ ns)) cs)) (trace (moveOf T) c (n ∷ ns))
@@ -162,7 +168,8 @@ module _ (r : Routine) (t : Listing) (X : Exact r t) (G : GoodStarts r) (a b : �
           rw (p, trace) (rw (f .1, trace) (
             f .2,
             fits-match (f .0 .after) (y .after) (f .3),
-            rec (f .0 .after) (y .after) (f .3) cs (let z = rw (p, trace) at l in omega arith) (subst (λ o. Unused sts (afterEntry q o) (fed (trace (moveOf T) (y .after) ns) cs)) (f .1) (v .1)),
+            rec (f .0 .after) (y .after) (f .3) cs (let z = rw (p, trace) at l in omega arith)
+                (subst (λ o. Unused sts (afterEntry q o) (fed (trace (moveOf T) (y .after) ns) cs)) (f .1) (v .1)),
           ))
 
   -- there are always such cells
@@ -170,7 +177,8 @@ module _ (r : Routine) (t : Listing) (X : Exact r t) (G : GoodStarts r) (a b : �
   supplied [] q c B = ([], record { enough = refl; unused = tt })
   supplied (n ∷ ns) q c B = by-move (moveOf T c n) refl (λ q′ c′ B′. supplied ns q′ c′ B′)
     where
-      by-move : (o : Option (Step Config)) → moveOf T c n ≡ o → ((q′ : State) (c′ : Config) → Fits q′ c′ → (cs : List ℕ) × Supply sts q′ (trace (moveOf T) c′ ns) cs)
+      by-move : (o : Option (Step Config)) → moveOf T c n ≡ o
+          → ((q′ : State) (c′ : Config) → Fits q′ c′ → (cs : List ℕ) × Supply sts q′ (trace (moveOf T) c′ ns) cs)
           → (cs : List ℕ) × Supply sts q (trace (moveOf T) c (n ∷ ns)) cs
       by-move none p rec = let k = rec q c B in (k .0, rw (p, trace) (k .1))
       by-move (some y) p rec =
@@ -181,7 +189,8 @@ module _ (r : Routine) (t : Listing) (X : Exact r t) (G : GoodStarts r) (a b : �
             d ∷ k .0,
             rw (p, trace) (record {
               enough = ap suc (k .1 .enough);
-              unused = (unused-past (q .heap), subst (λ o. Unused sts (afterEntry q o) (fed (trace (moveOf T) (y .after) ns) (k .0))) (sym (f .1)) (k .1 .unused));
+              unused =
+                  (unused-past (q .heap), subst (λ o. Unused sts (afterEntry q o) (fed (trace (moveOf T) (y .after) ns) (k .0))) (sym (f .1)) (k .1 .unused));
             }),
           )
 
@@ -191,6 +200,7 @@ module _ (r : Routine) (t : Listing) (X : Exact r t) (G : GoodStarts r) (a b : �
   matching q c B = record {
     start = fits-match q c B;
     toAutomaton = λ es. let k = follows es q c B in (k .0, k .1, matched q c (trace (stepOf sts) q es) (trace (moveOf T) c (k .0)) B (k .2));
-    toRoutine = λ ns cs S. matched q c (trace (stepOf sts) q (fed (trace (moveOf T) c ns) cs)) (trace (moveOf T) c ns) B (led ns q c B cs (S .enough) (S .unused));
+    toRoutine =
+        λ ns cs S. matched q c (trace (stepOf sts) q (fed (trace (moveOf T) c ns) cs)) (trace (moveOf T) c ns) B (led ns q c B cs (S .enough) (S .unused));
     supply = λ ns. supplied ns q c B;
   }

@@ -1,0 +1,169 @@
+-- The checks of a heap image, what an image that passes them is, and folding one.
+use Prim.Native.Nat.{ℕ, zero, suc, _-_, _≤_}
+use native.Mathlib.Omega.{arith}
+use mathlib.Core.Path.{_≡_, refl, sym, ap, ap₂, _∙_}
+use mathlib.Core.Bool.{Bool, true, false, _&&_, cond, not}
+use mathlib.Core.List.{List, _++_, append-nil, map}
+use lib.Dec.{eqb, leb}
+use lib.ListN.{length, getD, take, drop, replicate, getD-replicate, length-map}
+use borrow.Author.Tests.{eqb-true, leb-true}
+use Rattle.model.specs.Heap.{IsHeap, closed, eachUsed, kept}
+use Rattle.model.specs.Image.{Folding, cellSlot, foldImage, heapOf, lengths, refusalImage}
+use Rattle.model.specs.Records.{filled, shapeRecord}
+use Rattle.model.specs.Shape.{Seg, counters, last, nodeSlot, segments, shape, size}
+use Rattle.model.specs.Heap.{next}
+use Rattle.model.proofs.Logic.{and-l, and-r}
+use Rattle.visit.specs.Laws.{kept-marked}
+use Rattle.visit.specs.Visit.{VisitReady, Visited}
+use Rattle.record.specs.Written.{shapeBytesOf}
+use Rattle.record.proofs.Bytes.{shape-record}
+use Rattle.machine.specs.Run.{IsShape, ShapeReady}
+use Rattle.image.specs.Checks.{ImageChecked}
+use Rattle.image.specs.Parts.{FoldReady, foldedHeap}
+
+-- ---- the checks
+
+-- the refusal of an image by the tests of its lengths, of its values and of its reachable cells
+abbrev byTests : Bool → Bool → Bool → ℕ
+byTests a b c = elim (a && b) [ false ↦ 13 | true ↦ cond c 0 14 ]
+
+bad-lengths : (a b c : Bool) → a ≡ false → 13 ≡ byTests a b c
+bad-lengths a b c e = rw e
+
+bad-values : (a b c : Bool) → a ≡ true → b ≡ false → 13 ≡ byTests a b c
+bad-values a b c e f = rw (e, f)
+
+bad-cells : (a b c : Bool) → a ≡ true → b ≡ true → c ≡ false → 14 ≡ byTests a b c
+bad-cells a b c e f g = rw (e, f, g)
+
+all-well : (a b c : Bool) → a ≡ true → b ≡ true → c ≡ true → 0 ≡ byTests a b c
+all-well a b c e f g = rw (e, f, g)
+
+passed : (a b c : Bool) → byTests a b c ≡ 0 → (a ≡ true) × (b ≡ true) × (c ≡ true)
+passed true true true e = (refl, refl, refl)
+passed true true false e = absurd (omega arith)
+passed true false c e = absurd (omega arith)
+passed false b c e = absurd (omega arith)
+
+module _ (ps cs : List ℕ) where
+  -- no order is given with a refusal
+  refused-with : (o : List ℕ) (r n : ℕ) → suc r ≡ refusalImage ps cs → ImageChecked ps cs o (suc r) n
+  refused-with o r n e = record { refusal = e; visited = λ z. absurd (omega arith); few = λ z. absurd (omega arith) }
+
+  pub check-lengths : (o : List ℕ) (b : Bool) → b ≡ lengths ps cs → b ≡ false → ImageChecked ps cs o 13 0
+  check-lengths o b e f = refused-with o 12 0 (bad-lengths (lengths ps cs) (closed (heapOf ps cs)) (kept (heapOf ps cs)) (sym e ∙ f))
+
+  module _ {b : Bool} (e : b ≡ lengths ps cs) (t : b ≡ true) where
+    long : lengths ps cs ≡ true
+    long = sym e ∙ t
+
+    pub lengths-six : length ps ≡ 6
+    lengths-six = eqb-true (length ps) 6 (and-l (eqb (length ps) 6) (leb (length cs) 240) long)
+
+    pub lengths-few : length cs ≤ 240
+    lengths-few = leb-true (length cs) 240 (and-r (eqb (length ps) 6) (leb (length cs) 240) long)
+
+    pub check-open : (o : List ℕ) (k : Bool) → k ≡ closed (heapOf ps cs) → k ≡ false → ImageChecked ps cs o 13 0
+    check-open o k q f = refused-with o 12 0 (bad-values (lengths ps cs) (closed (heapOf ps cs)) (kept (heapOf ps cs)) long (sym q ∙ f))
+
+    module _ {k : Bool} (q : k ≡ closed (heapOf ps cs)) (u : k ≡ true) where
+      pub check-ready : (o : List ℕ) → length o ≡ 240 → VisitReady ps cs o (replicate 240 0)
+      check-ready o h =
+          let f = lengths-few in
+          record { isClosed = sym q ∙ u; few = f; room = omega arith; marks = omega arith; clear = λ c l. getD-replicate 240 c 0 0 (omega arith) }
+
+      -- n cells are visited: o is their order, and m marks them
+      module _ {o m : List ℕ} {n : ℕ} (d : Visited ps cs o m n) (x : Bool)
+          (w : x ≡ eachUsed (λ c. not (eqb (getD m c 0) 0)) 0 (map cellSlot cs)) where
+        pub check-lost : x ≡ false → ImageChecked ps cs o 14 0
+        check-lost f =
+            let h = heapOf ps cs in
+            refused-with o 13 0 (bad-cells (lengths ps cs) (closed h) (kept h) long (sym q ∙ u) (sym (kept-marked d) ∙ sym w ∙ f))
+
+        pub check-done : x ≡ true → ImageChecked ps cs o 0 n
+        check-done f =
+            let h = heapOf ps cs in
+            let e = all-well (lengths ps cs) (closed h) (kept h) long (sym q ∙ u) (sym (kept-marked d) ∙ sym w ∙ f) in
+            record { refusal = e; visited = λ _. d .visited; few = λ _. d .few }
+
+  -- ---- an image that passes
+  module _ (z : refusalImage ps cs ≡ 0) where
+    pub image-heap : IsHeap (heapOf ps cs)
+    image-heap = let p = passed (lengths ps cs) (closed (heapOf ps cs)) (kept (heapOf ps cs)) z in record { isClosed = p .1; isKept = p .2 }
+
+    image-long : lengths ps cs ≡ true
+    image-long = passed (lengths ps cs) (closed (heapOf ps cs)) (kept (heapOf ps cs)) z .0
+
+    pub image-six : length ps ≡ 6
+    image-six = lengths-six refl image-long
+
+    pub image-few : length cs ≤ 240
+    image-few = lengths-few refl image-long
+
+-- ---- folding
+
+-- the outcome where n is the refusal
+abbrev foldWith : List ℕ → List ℕ → ℕ → Folding
+foldWith ps cs n =
+    elim n [
+      | zero ↦ let h = heapOf ps cs in record { refusal = 0; shapeBytes = shapeRecord (shape h); counts = filled 12 (counters h) }
+      | suc n ↦ record { refusal = suc n; shapeBytes = replicate 32 0; counts = replicate 12 0 }
+    ]
+
+with-refusal : (ps cs : List ℕ) (n : ℕ) → (n ≡ 0 → ⊥)
+    → record { refusal = n; shapeBytes = replicate 32 0; counts = replicate 12 0 } ≡ foldWith ps cs n
+with-refusal ps cs zero z = absurd (z refl)
+with-refusal ps cs (suc n) z = refl
+
+pub fold-refused : (ps cs : List ℕ) (n : ℕ) → n ≡ refusalImage ps cs → (n ≡ 0 → ⊥)
+    → record { refusal = n; shapeBytes = replicate 32 0; counts = replicate 12 0 } ≡ foldImage ps cs
+unfolding foldImage
+fold-refused ps cs n e z = with-refusal ps cs n z ∙ ap (foldWith ps cs) e
+
+-- an image that passes is folded as its heap is
+pub fold-passed : (ps cs : List ℕ) → refusalImage ps cs ≡ 0 → foldedHeap (heapOf ps cs) ≡ foldImage ps cs
+unfolding foldImage foldedHeap
+fold-passed ps cs e = ap (foldWith ps cs) (sym e)
+
+-- what the fold asks of a checked image
+pub fold-ready : {ps cs o : List ℕ} {r n : ℕ} → ImageChecked ps cs o r n → r ≡ 0 → length o ≡ 240 → FoldReady ps cs o n
+fold-ready {ps} {cs} {o} {r} {n} d z l =
+    let e : refusalImage ps cs ≡ 0 = sym (d .refusal) ∙ z in
+    let f = image-few ps cs e in
+    let k = d .few z in
+    record { isHeap = image-heap ps cs e; six = image-six ps cs e; few = f; visited = d .visited z; long = omega arith }
+
+module _ {ps cs o : List ℕ} {n : ℕ} (x : FoldReady ps cs o n) where
+  -- and of the work lists, which begin with zeros
+  pub shape-ready : ShapeReady ps cs o n (replicate 240 0) (replicate 240 0) (replicate 12 0) (replicate 12 0) (replicate 6 0) (replicate 12 0)
+  shape-ready =
+      let f = x .few in
+      record {
+        isHeap = x .isHeap;
+        six = x .six;
+        few = f;
+        visited = x .visited;
+        long = x .long;
+        holders = omega arith;
+        clear = λ c l. getD-replicate 240 c 0 0 (omega arith);
+        nodes = omega arith;
+        lasts = omega arith;
+        sizes = omega arith;
+        pointers = refl;
+        successors = omega arith;
+      }
+
+  -- the record of k nodes in t, and the counters v cleared past them
+  pub fold-is : (m z p q : List ℕ) (k : ℕ) → IsShape ps cs m z p q k → (t v : List ℕ) → length z ≡ 12
+      → t ≡ shapeBytesOf p q k ++ drop 32 (replicate 32 0) → v ≡ take k z ++ replicate (length z - k) 0
+      → record { refusal = 0; shapeBytes = t; counts = v } ≡ foldedHeap (heapOf ps cs)
+  unfolding foldedHeap
+  fold-is m z p q k d t v l a b =
+      let h = heapOf ps cs in
+      let ss = segments h in
+      let s : t ≡ shapeRecord (shape h) =
+      a ∙ append-nil (shapeBytesOf p q k)
+      ∙ shape-record (shape h) p q k (d .number ∙ sym (length-map ss (λ (t : Seg). nodeSlot ss (next h (last t))))) (d .pointers) (d .successors) in
+      let n : length z - k ≡ 12 - length (counters h) = ap₂ _-_ l (d .number ∙ sym (length-map ss size)) in
+      let c : v ≡ filled 12 (counters h) = b ∙ ap₂ (λ y i. y ++ replicate i 0) (d .sizes) n in
+      λ i. record { refusal = 0; shapeBytes = s i; counts = c i }

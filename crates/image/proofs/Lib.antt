@@ -1,0 +1,4 @@
+pub mod ImageLaws
+pub mod UnfoldLaws
+pub mod EntryLaws
+pub mod StepLaws
