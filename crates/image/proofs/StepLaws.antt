@@ -1,12 +1,14 @@
--- The plain step by its parts: the checks, the entry, the run on copies, and the answer of each case.
+-- The plain step by its parts: the run on copies, and the answer of each case.
 use Prim.Native.Nat.{ℕ, zero, suc, _≤_, _<_}
 use native.Mathlib.Omega.{arith}
 use mathlib.Core.Path.{_≡_, refl, sym, ap, ap₂, subst, _∙_}
 use mathlib.Core.Bool.{Bool, true, false, _&&_, cond, not}
 use mathlib.Core.List.{List}
+use lib.Dec.{eqb}
 use lib.ListN.{length, replicate, getD-replicate}
+use borrow.Author.Tests.{ne-eqb}
 use Rattle.model.specs.Heap.{Heap}
-use Rattle.model.specs.Machine.{Answer, refused, Op, Stmt, accepts, answerOf, branch, kind, run, target, unlessStop}
+use Rattle.model.specs.Machine.{Answer, refused, done, Op, Stmt, accepts, answerOf, branch, kind, run, target, unlessStop}
 use Rattle.model.specs.Records.{byte, opOf, stmtOf}
 use Rattle.model.specs.Image.{Stepping, answered, heapOf, pastEnd, refusalStep, stays, stepImage}
 use Rattle.effect.specs.Effect.{effectOf}
@@ -19,11 +21,10 @@ use Rattle.image.specs.Parts.{Finished, RunOn, StepReady, stepped}
 -- ---- the run
 
 -- a fault says nothing of the heap
-fault-any : (f : ℕ) (g h : Heap) → (f ≡ 0 → ⊥) → effectOf f g ≡ effectOf f h
-fault-any zero g h n = absurd (n refl)
-fault-any (suc zero) g h n = refl
-fault-any (suc (suc zero)) g h n = refl
-fault-any (suc (suc (suc f))) g h n = refl
+fault-any : (f : ℕ) (g h : Heap) → effectOf (suc f) g ≡ effectOf (suc f) h
+fault-any zero g h = refl
+fault-any (suc zero) g h = refl
+fault-any (suc (suc f)) g h = refl
 
 module _ {op u w x : ℕ} {ps cs : List ℕ} where
   -- the room for the visit, which begins with zeros
@@ -50,21 +51,18 @@ module _ {op u w x : ℕ} {ps cs : List ℕ} where
     pub copies-ready : StepReady op u w x ps cs → StepReady op u w x vs ws
     copies-ready s = subst (λ y. StepReady op u w x vs y) (sym b) (subst (λ y. StepReady op u w x y cs) (sym a) s)
 
-    pub copies-fault : {qs ds : List ℕ} {f : ℕ} → RunOn op u w x vs ws f qs ds → (f ≡ 0 → ⊥) → Finished op u w x ps cs f ps cs
-    copies-fault {qs} {ds} {f} d n = record {
-      ran = record { outcome = fault-any f (heapOf ps cs) (heapOf qs ds) n ∙ d .outcome ∙ ap₂ (λ y z. run (opOf op u w) x (heapOf y z)) a b; low = d .low };
-      stays = λ _. (refl, refl);
-    }
-
-    pub copies-done : {qs ds : List ℕ} {f : ℕ} → RunOn op u w x vs ws f qs ds → f ≡ 0 → (ps′ cs′ : List ℕ) → ps′ ≡ qs → cs′ ≡ ds
-        → Finished op u w x ps cs 0 ps′ cs′
-    copies-done {qs} {ds} {f} d z ps′ cs′ p q = record {
-      ran = record {
-        outcome = ap₂ (λ y z. effectOf 0 (heapOf y z)) p q ∙ ap (λ y. effectOf y (heapOf qs ds)) (sym z) ∙ d .outcome
-            ∙ ap₂ (λ y z. run (opOf op u w) x (heapOf y z)) a b;
-        low = omega arith;
-      };
+    pub copies-back : {qs ds : List ℕ} (f : ℕ) → RunOn op u w x vs ws f qs ds → (ps′ cs′ : List ℕ) → ps′ ≡ cond (eqb f 0) qs ps → cs′ ≡ cond (eqb f 0) ds cs
+        → Finished op u w x ps cs f ps′ cs′
+    copies-back {qs} {ds} zero d ps′ cs′ p q = record {
+      ran = record { outcome = ap₂ (λ y z. done (heapOf y z)) p q ∙ d .outcome ∙ ap₂ (λ y z. run (opOf op u w) x (heapOf y z)) a b; low = d .low };
       stays = λ n. absurd (n refl);
+    }
+    copies-back {qs} {ds} (suc f) d ps′ cs′ p q = record {
+      ran = record {
+        outcome = fault-any f (heapOf ps′ cs′) (heapOf qs ds) ∙ d .outcome ∙ ap₂ (λ y z. run (opOf op u w) x (heapOf y z)) a b;
+        low = d .low;
+      };
+      stays = λ n. (p ∙ rw (ne-eqb (suc f) 0 n), q ∙ rw (ne-eqb (suc f) 0 n));
     }
 
 -- ---- the answer

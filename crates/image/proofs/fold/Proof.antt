@@ -16,8 +16,9 @@ fold-heap-requires c κs = let k = c .before .before .before .before .check-imag
 
 returns-2 : tie.Need-returns-2
 returns-2 c =
-    let a = c .before .before .before .before .before .before .before .before .before .args in
-    c .fold-heap .ensures ∙ fold-passed (a .pointers .now) (a .cells .now) (sym (c .before .before .before .before .before .check-image .ensures .refusal) ∙ c .before .before .if1 .left)
+    let k = c .before .before .before .before .before in
+    let a = k .before .before .before .before .args in
+    c .fold-heap .ensures ∙ fold-passed (a .pointers .now) (a .cells .now) (sym (k .check-image .ensures .refusal) ∙ c .before .before .if1 .left)
 
 pub fold-spec : {M : Type 1} → statement M
 fold-spec = tie.close (tie.spec (λ c. search needs) (λ c κs. search needs) returns (λ c. search needs) fold-heap-requires returns-2)

@@ -9,12 +9,17 @@ shape-of-requires c κs = shape-ready (c .before .before .before .before .before
 
 returns : tie.Need-returns
 returns c =
-    let s = c .before .before .before .before .before .before .before .before .before .before .before .before .before .before .shape-of in
+    let p = c .before .before .before .before .before .before .before .before .before .before .before .before .before .before in
+    let s = p .shape-of in
     let t = s .last .1 .1 .1 .1 .1 in
-    fold-is (c .before .before .before .before .before .before .before .before .before .before .before .before .before .before .before .before .before .before .before .before .before .before .before .before .pre) (t .0) (t .1 .1 .0) (t .1 .1 .1 .0) (t .1 .1 .1 .1 .0) (s .result) (s .ensures)
-    (c .before .before .before .before .write-shape .last .0) (c .before .clear-past .last .0) (s .kept .1 .1 .1 .1 .1 .1 .1 .0) (c .before .before .before .before .write-shape .ensures) (c .before .clear-past .ensures)
+    let w = c .before .before .before .before .write-shape in
+    let z = c .before .clear-past in
+    fold-is (p .before .before .before .before .before .before .before .before .before .before .pre) (t .0) (t .1 .1 .0) (t .1 .1 .1 .0) (t .1 .1 .1 .1 .0) (s .result) (s .ensures)
+    (w .last .0) (z .last .0) (s .kept .1 .1 .1 .1 .1 .1 .1 .0) (w .ensures) (z .ensures)
 
 pub fold-heap-spec : {M : Type 1} → statement M
 fold-heap-spec =
     tie.close
-    (tie.spec (λ c. search needs) (λ c. search needs) (λ c. search needs) (λ c. search needs) (λ c. search needs) (λ c. search needs) shape-of-requires (λ c. search needs) (λ c. search needs) (λ c. search needs) (λ c κs. search needs) (λ c. search needs) (λ c κs. search needs) returns)
+    (tie.spec (λ c. search needs) (λ c. search needs) (λ c. search needs) (λ c. search needs) (λ c. search needs) (λ c. search needs)
+    shape-of-requires (λ c. search needs) (λ c. search needs) (λ c. search needs) (λ c κs. search needs) (λ c. search needs)
+    (λ c κs. search needs) returns)

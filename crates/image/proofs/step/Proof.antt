@@ -16,9 +16,11 @@ take-step-requires c κs = sym (c .before .before .before .step-refusal .ensures
 
 returns-2 : tie.Need-returns-2
 returns-2 c =
-    let a = c .before .before .before .before .before .before .before .before .before .before .before .before .before .before .args in
+    let t = c .before .before .before .before .before .before .before in
+    let a = t .before .before .before .before .before .before .before .args in
     c .before .before .before .before .take-step .ensures
-    ∙ step-checked (a .rec .now) (a .pick) (a .cell) (a .pointers .now) (a .cells .now) (sym (c .before .before .before .before .before .before .before .before .step-refusal .ensures) ∙ c .before .before .before .before .before .before .before .if1 .left)
+    ∙ step-checked (a .rec .now) (a .pick) (a .cell) (a .pointers .now) (a .cells .now) (sym (t .before .step-refusal .ensures) ∙ t .if1 .left)
 
 pub step-spec : {M : Type 1} → statement M
-step-spec = tie.close (tie.spec (λ c κs. search needs) (λ c. search needs) (λ c. search needs) returns take-step-requires (λ c. search needs) (λ c. search needs) returns-2)
+step-spec = tie.close (tie.spec (λ c κs. search needs) (λ c. search needs) (λ c. search needs) returns take-step-requires (λ c. search needs)
+    (λ c. search needs) returns-2)

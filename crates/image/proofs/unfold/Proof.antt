@@ -21,11 +21,13 @@ spread-requires c κs =
 
 returns-2 : tie.Need-returns-2
 returns-2 c =
-    let a = c .before .before .before .before .before .before .before .before .before .before .before .before .before .before .args in
-    let u = c .before .before .before .before .before .before .before .before .before .unfold-refusal in
     let s = c .before .before .before .before .spread in
-    unfold-done (a .rec .now) (a .t2) (a .pointers .now) (a .cells .now) (u .result) (u .ensures) (c .before .before .before .before .before .before .before .before .if1 .left)
+    let t = c .before .before .before .before .before .before .before .before in
+    let u = t .before .unfold-refusal in
+    let a = t .before .before .before .before .before .before .args in
+    unfold-done (a .rec .now) (a .t2) (a .pointers .now) (a .cells .now) (u .result) (u .ensures) (t .if1 .left)
     (s .last .1 .1 .0) (s .last .1 .1 .1 .0) (s .ensures .0) (s .ensures .1)
 
 pub unfold-spec : {M : Type 1} → statement M
-unfold-spec = tie.close (tie.spec (λ c. search needs) (λ c κs. search needs) returns (λ c. search needs) spread-requires (λ c. search needs) (λ c. search needs) returns-2)
+unfold-spec = tie.close (tie.spec (λ c. search needs) (λ c κs. search needs) returns (λ c. search needs) spread-requires (λ c. search needs) (λ c. search needs)
+    returns-2)

@@ -1,0 +1,69 @@
+-- One edge more in a listing: the next of the edges to be added, and the locations stay good.
+use Prim.Native.Nat.{ℕ, _≤_, _<_}
+use mathlib.Core.Path.{_≡_, refl, ap, subst, sym, _∙_}
+use mathlib.Core.Bool.{true, false, cond}
+use mathlib.Core.List.{List, [], _∷_, _++_}
+use native.Mathlib.Omega.{arith}
+use lib.Dec.{eqb, ltb}
+use lib.ListN.{length}
+use borrow.Author.Tests.{eqb-false, eqb-true}
+use Rattle.model.specs.Base.{placeOf}
+use Rattle.model.specs.Edges.{Edge, Loc, at, failed, sameLoc}
+use Rattle.model.specs.Translate.{Listing, Refusal, addEdges, full, grown, listed, places, refusal}
+use Rattle.model.proofs.Lists.{In, in-append-cases, in-single}
+use Rattle.model.proofs.Logic.{bool-case}
+use Rattle.grow.specs.Grow.{GrownTo, Holds}
+use Rattle.grow.specs.declared.Grown.{Grown}
+use Rattle.grow.specs.declared.Grown.the-variants.{Added, Full}
+use Rattle.explore.specs.Explore.{AddedTo, LocOk, LocsOk}
+
+-- the listing with the edge e of location i
+abbrev pub more : ℕ → Edge → Listing → Listing
+more i e t = grown i (placeOf (sameLoc (e .to)) (t .locs)) e t
+
+-- the locations stay good where the target is
+pub more-fine : (n i : ℕ) (e : Edge) (t : Listing) → LocsOk n t → LocOk n (e .to) → LocsOk n (more i e t)
+more-fine n i e t F k l q = bool-case (ltb (placeOf (sameLoc (e .to)) (t .locs)) (length (t .locs)))
+    (λ b. F l (rw b at q))
+    (λ b. in-append-cases l (t .locs) (e .to ∷ []) (rw b at q) (F l) (λ w. subst (LocOk n) (sym (in-single l (e .to) w)) k))
+
+module _ (t : Listing) (i : ℕ) (e : Edge) (rest : List Edge) (ls es : List ℕ) where
+  abbrev cl : ℕ
+  cl = places 1024 (length ls)
+
+  abbrev ce : ℕ
+  ce = places 2048 (length es)
+
+  pub add-step : (nl ne : ℕ) → GrownTo t i e ls es (Added nl ne) → addEdges cl ce i (e ∷ rest) t ≡ addEdges cl ce i rest (more i e t)
+  add-step nl ne G = rw (G .0, addEdges) (rw (G .1, addEdges))
+
+  pub add-full : (m : ℕ) → GrownTo t i e ls es (Full m) → addEdges cl ce i (e ∷ rest) t ≡ full (refusal m i)
+  add-full m G =
+      let lo = G .1 .1 .0 in
+      let hi = G .1 .1 .1 in
+      bool-case (eqb m 12)
+      (λ q. let z = eqb-true m 12 q in
+      let a : ltb (placeOf (sameLoc (e .to)) (t .locs)) cl ≡ true = G .0 ∙ ap (ltb 11) z in
+      rw (a, addEdges) (rw (G .1 .0 z, addEdges) (ap (λ k. full (refusal k i)) (sym z))))
+      (λ q. let y = eqb-false m 12 q in
+      let z : m ≡ 11 = omega arith in
+      let a : ltb (placeOf (sameLoc (e .to)) (t .locs)) cl ≡ false = G .0 ∙ ap (ltb 11) z in
+      rw (a, addEdges) (ap (λ k. full (refusal k i)) (sym z)))
+
+-- the last of the edges
+pub last-added : (n : ℕ) (t : Listing) (i : ℕ) (e : Edge) (ls es : List ℕ) (x : Grown) → LocsOk n t → LocOk n (e .to) → GrownTo t i e ls es x
+    → AddedTo n i (addEdges (places 1024 (length ls)) (places 2048 (length es)) i (e ∷ []) t) ls es x
+last-added n t i e ls es (Added nl ne) F k G = rw (add-step t i e [] ls es nl ne G) (G .2, more-fine n i e t F k)
+last-added n t i e ls es (Full m) F k G = rw (add-full t i e [] ls es m G) refl
+
+-- no place for the first of the edges
+pub none-added : (n : ℕ) (t : Listing) (i : ℕ) (e : Edge) (rest : List Edge) (ls es : List ℕ) (m : ℕ) → GrownTo t i e ls es (Full m)
+    → AddedTo n i (addEdges (places 1024 (length ls)) (places 2048 (length es)) i (e ∷ rest) t) ls es (Full m)
+none-added n t i e rest ls es m G = rw (add-full t i e rest ls es m G) refl
+
+-- the first of the edges, then the others
+pub next-added : (n : ℕ) (t : Listing) (i : ℕ) (e : Edge) (rest : List Edge) (ls es ls′ es′ : List ℕ) (nl ne : ℕ) (x : Grown) → length ls′ ≡ length ls
+    → length es′ ≡ length es → GrownTo t i e ls es (Added nl ne)
+    → AddedTo n i (addEdges (places 1024 (length ls′)) (places 2048 (length es′)) i rest (more i e t)) ls′ es′ x
+    → AddedTo n i (addEdges (places 1024 (length ls)) (places 2048 (length es)) i (e ∷ rest) t) ls′ es′ x
+next-added n t i e rest ls es ls′ es′ nl ne x p q G A = rw (add-step t i e rest ls es nl ne G) (rw (p, q) at A)

@@ -1,0 +1,197 @@
+-- A location with a shape as bytes: its statement's fields, and its edges, each by its way.
+use Prim.Native.Nat.{ℕ, _+_, _≤_, _<_}
+use mathlib.Core.Path.{_≡_, refl, ap, subst, sym, _∙_}
+use mathlib.Core.Logic.{inl, inr}
+use mathlib.Core.Bool.{Bool, true, false}
+use mathlib.Core.List.{List, [], _∷_}
+use native.Mathlib.Omega.{arith}
+use lib.Dec.{eqb}
+use lib.ListN.{drop, length, length-drop, take}
+use lib.Seq.{length-take-le}
+use borrow.Author.Tests.{eqb-false, eqb-true, ne-eqb}
+use Rattle.model.specs.Heap.{Heap, Val, cell, next, null, undef}
+use Rattle.model.specs.Machine.{branch, kind, other, picks, stop, target}
+use Rattle.model.specs.Edges.{Edge, Guard, Loc, access, always, at, edgesAt, failed, isMore, isOne, split, whole}
+use Rattle.model.specs.Image.{heapOf}
+use Rattle.model.specs.Records.{byte, guardBytes, opOf, shapeOf, stmtOf, valOf}
+use Rattle.model.specs.Runs.{isStop}
+use Rattle.model.proofs.Lists.{In}
+use Rattle.model.proofs.Logic.{bool-case}
+use Rattle.model.proofs.Order.{used-below}
+use Rattle.model.proofs.Reached.{GoodLoc, shape-edge}
+use Rattle.model.proofs.ReadBack.{Writable, WritableLoc, canon-writable, location-length, location-shape}
+use Rattle.model.proofs.Walks.{Closed}
+use Rattle.model.proofs.Ways.{access-closed, access-facts, no-access}
+use Rattle.edge.specs.Edge.{WayReady, wayOf}
+use Rattle.edge.proofs.Ready.{accepted-fields}
+use Rattle.explore.specs.Explore.{LocOk}
+use Rattle.explore.specs.Parts.{AtShape, WayEdge}
+use Rattle.explore.proofs.Ops.{access-pointers, op-chooses, op-goes, target-below}
+use Rattle.explore.proofs.Made.{Below, Makes, choice-edges, node-edges, only-edge, split-makes, whole-makes}
+
+-- a good location at one of n statements
+loc-fine : (n : ℕ) (l : Loc) → GoodLoc l → Below n l → LocOk n l
+loc-fine n (at s h) g b = (g, b)
+loc-fine n (failed s f) g b = b
+
+loc-writable : (n : ℕ) (l : Loc) → LocOk n l → WritableLoc l
+loc-writable n (at s h) g = canon-writable h (g .0 .0) (g .0 .1)
+loc-writable n (failed s f) g = tt
+
+-- two ways out of a location make its edges: nothing split with pick 0, then another
+pub record TwoWays (l r : List ℕ) (n s : ℕ) (h : Heap) (sp : Bool) (v p g k : ℕ) : Type 0 where
+  pub guards : Guard
+  pub guards′ : Guard
+  pub one : Edge
+  pub two : Edge
+  pub first : WayEdge l r n s h false v 0 g guards one
+  pub second : WayEdge l r n s h sp v p k guards′ two
+  pub list : edgesAt s (stmtOf r) h ≡ one ∷ two ∷ []
+  pub fine : LocOk n (one .to)
+  pub fine′ : LocOk n (two .to)
+
+-- one way makes its edge
+pub record OneWay (l r : List ℕ) (n s : ℕ) (h : Heap) : Type 0 where
+  pub one : Edge
+  pub first : WayEdge l r n s h false 0 0 0 always one
+  pub list : edgesAt s (stmtOf r) h ≡ one ∷ []
+  pub fine : LocOk n (one .to)
+
+module _ {l r : List ℕ} {n s : ℕ} {h : Heap} (A : AtShape l r n s h) where
+  writable : Writable h
+  writable = canon-writable h (A .isShape) (A .six)
+
+  pub location-wide : length l ≡ 32
+  location-wide = ap length (A .isRecord) ∙ location-length s h writable
+
+  pub six-taken : length (take 6 (drop 4 l)) ≡ 6
+  six-taken = let wide = location-wide in length-take-le 6 (drop 4 l) (simp length-drop (omega arith))
+
+  pub shape-is : shapeOf l ≡ h
+  shape-is = ap shapeOf (A .isRecord) ∙ location-shape s h writable
+
+  pub fields : (byte r 1 ≤ 11) × (byte r 2 < 6) × (byte r 3 < 6)
+  fields = accepted-fields n r (A .statement .accepted)
+
+  leads : isStop (kind (stmtOf r .op)) ≡ false → (p : ℕ) (g : Heap) → p ≤ 1 → target (stmtOf r) (branch (stmtOf r .op) p g) < n
+  leads goes p g few = target-below n r p g (A .statement .accepted) (fields .0) goes
+
+  edge-fine : (E : Edge) → In E (edgesAt s (stmtOf r) h) → Below n (E .to) → LocOk n (E .to)
+  edge-fine E i b = loc-fine n (E .to) (shape-edge s (stmtOf r) h (A .isShape) (A .six) E i .1) b
+
+  way-ready : (sp : Bool) (v p : ℕ) → isStop (kind (stmtOf r .op)) ≡ false → p ≤ 1 → (sp ≡ true → access (stmtOf r .op) h ≡ cell v) → WayReady l r n s h sp v p
+  way-ready sp v p goes few a = record {
+    isRecord = A .isRecord;
+    isShape = A .isShape;
+    six = A .six;
+    statement = A .statement;
+    low = omega (arith, A .low, A .statement .few);
+    goes = goes;
+    pick = few;
+    isNode = a;
+  }
+
+  way-edge : (sp : Bool) (v p g : ℕ) (G : Guard) (E : Edge) → WayReady l r n s h sp v p → Makes s (stmtOf r) (length (h .slots)) n (wayOf sp G v p h) E
+      → guardBytes (wayOf sp G v p h .guard) ≡ g ∷ v ∷ [] → LocOk n (E .to) → WayEdge l r n s h sp v p g G E
+  way-edge sp v p g G E R M q F = record {
+    ready = R;
+    made = M .made;
+    guard = ap guardBytes (M .guarded) ∙ q;
+    good = loc-writable n (E .to) F;
+  }
+
+  -- a statement that reads, writes or frees through node v
+  pub node-ways : (v : ℕ) → access (stmtOf r .op) (shapeOf l) ≡ cell v → TwoWays l r n s h true v 0 1 2
+  node-ways v x =
+      let a : access (stmtOf r .op) h ≡ cell v = ap (access (stmtOf r .op)) (sym shape-is) ∙ x in
+      let goes : isStop (kind (stmtOf r .op)) ≡ false = ap isStop (access-facts (stmtOf r .op) h v a .0) in
+      let M = whole-makes s (stmtOf r) n h goes (A .low) (leads goes) (isOne v) 0 (omega arith) in
+      let N = split-makes s (stmtOf r) n h goes (A .low) (leads goes) v a in
+      let e : edgesAt s (stmtOf r) h ≡ M .0 ∷ N .0 ∷ [] = node-edges s (stmtOf r) n h v (M .0) (N .0) a (M .1) (N .1) in
+      let f : LocOk n (M .0 .to) = edge-fine (M .0) (subst (In (M .0)) (sym e) (inl refl)) (M .1 .leads) in
+      let g : LocOk n (N .0 .to) = edge-fine (N .0) (subst (In (N .0)) (sym e) (inr (inl refl))) (N .1 .leads) in
+      record {
+        guards = isOne v;
+        guards′ = isMore v;
+        one = M .0;
+        two = N .0;
+        first = way-edge false v 0 1 (isOne v) (M .0) (way-ready false v 0 goes (omega arith) (λ t. a)) (M .1) refl f;
+        second = way-edge true v 0 2 (isMore v) (N .0) (way-ready true v 0 goes (omega arith) (λ t. a)) (N .1) refl g;
+        list = e;
+        fine = f;
+        fine′ = g;
+      }
+
+  op-is : (k : ℕ) → byte r 1 ≡ k → stmtOf r .op ≡ opOf k (byte r 2) (byte r 3)
+  op-is k e = ap (λ m. opOf m (byte r 2) (byte r 3)) e
+
+  -- a choice
+  pub choice-ways : byte r 1 ≡ 10 → TwoWays l r n s h false 0 1 0 0
+  choice-ways x =
+      let o = op-is 10 x in
+      let q : kind (stmtOf r .op) ≡ picks = ap kind o in
+      let goes : isStop (kind (stmtOf r .op)) ≡ false = ap isStop q in
+      let non : (m : ℕ) → access (stmtOf r .op) h ≡ cell m → ⊥ = λ m y. no-access (ap (λ p. access p h) (sym o) ∙ y) in
+      let M = whole-makes s (stmtOf r) n h goes (A .low) (leads goes) always 0 (omega arith) in
+      let N = whole-makes s (stmtOf r) n h goes (A .low) (leads goes) always 1 (omega arith) in
+      let e : edgesAt s (stmtOf r) h ≡ M .0 ∷ N .0 ∷ [] = choice-edges s (stmtOf r) n h (M .0) (N .0) q non (M .1) (N .1) in
+      let f : LocOk n (M .0 .to) = edge-fine (M .0) (subst (In (M .0)) (sym e) (inl refl)) (M .1 .leads) in
+      let g : LocOk n (N .0 .to) = edge-fine (N .0) (subst (In (N .0)) (sym e) (inr (inl refl))) (N .1 .leads) in
+      record {
+        guards = always;
+        guards′ = always;
+        one = M .0;
+        two = N .0;
+        first = way-edge false 0 0 0 always (M .0) (way-ready false 0 0 goes (omega arith) (λ t. absurd (no-split t))) (M .1) refl f;
+        second = way-edge false 0 1 0 always (N .0) (way-ready false 0 1 goes (omega arith) (λ t. absurd (no-split t))) (N .1) refl g;
+        list = e;
+        fine = f;
+        fine′ = g;
+      }
+    where
+      no-split : false ≡ true → ⊥
+      no-split t = let z : _≡_ {A = ℕ} 0 1 = cc in omega arith
+
+  -- any other statement: one edge
+  pub plain-way : (byte r 1 ≡ 0 → ⊥) → (byte r 1 ≡ 10 → ⊥) → ((m : ℕ) → access (stmtOf r .op) h ≡ cell m → ⊥) → OneWay l r n s h
+  plain-way nz nt non =
+      let goes = op-goes (byte r 1) (byte r 2) (byte r 3) (fields .0) nz in
+      let M = whole-makes s (stmtOf r) n h goes (A .low) (leads goes) always 0 (omega arith) in
+      let e = only-edge s (stmtOf r) n h (kind (stmtOf r .op)) (M .0) refl (λ q. nt (op-chooses (byte r 1) (byte r 2) (byte r 3) (fields .0) q)) non (M .1) in
+      let f : LocOk n (M .0 .to) = edge-fine (M .0) (subst (In (M .0)) (sym e) (inl refl)) (M .1 .leads) in
+      record {
+        one = M .0;
+        first = way-edge false 0 0 0 always (M .0) (way-ready false 0 0 goes (omega arith) (λ t. absurd (no-split t))) (M .1) refl f;
+        list = e;
+        fine = f;
+      }
+    where
+      no-split : false ≡ true → ⊥
+      no-split t = let z : _≡_ {A = ℕ} 0 1 = cc in omega arith
+
+  -- a stop has no edges
+  pub stop-edges : byte r 1 ≡ 0 → edgesAt s (stmtOf r) h ≡ []
+  stop-edges e = rw (op-is 0 e)
+
+  -- a byte that is read through: below 0xfd it is a node, and else none
+  pub no-node : (v : ℕ) → access (stmtOf r .op) (shapeOf l) ≡ valOf v → 0xfd ≤ v → (m : ℕ) → access (stmtOf r .op) h ≡ cell m → ⊥
+  no-node v e hi m a =
+      let lt : m < length (h .slots) = used-below (h .slots) m (subst (Closed (next h)) a (access-closed h (stmtOf r .op) (A .isShape .closed .0))) in
+      let few = writable .few in
+      value-case v m (sym e ∙ ap (access (stmtOf r .op)) shape-is ∙ a) (omega arith)
+    where
+      value-case : (v m : ℕ) → valOf v ≡ cell m → m < v → ⊥
+      value-case v m q lt = bool-case (eqb v 0xfe) (λ x. no-access (rw x at q))
+          (λ x. bool-case (eqb v 0xff) (λ y. no-undef (rw (x, y) at q)) (λ y. let z : cell v ≡ cell m = rw (x, y) at q in
+          let k : v ≡ m = cc in omega arith))
+        where
+          no-undef : undef ≡ cell m → ⊥
+          no-undef w = let z : _≡_ {A = ℕ} 0 1 = cc in omega arith
+
+-- the value that the location's six pointer bytes give
+pub access-is : (l r : List ℕ) (v : ℕ) → ((cs : List ℕ) → valOf v ≡ access (stmtOf r .op) (heapOf (take 6 (drop 4 l)) cs))
+    → access (stmtOf r .op) (shapeOf l) ≡ valOf v
+access-is l r v f = access-pointers (stmtOf r .op) (shapeOf l) (heapOf (take 6 (drop 4 l)) []) refl ∙ sym (f [])
+
+pub node-value : (v : ℕ) → v < 0xfd → valOf v ≡ cell v
+node-value v h = rw (ne-eqb v 0xfe (λ e. omega arith), ne-eqb v 0xff (λ e. omega arith))

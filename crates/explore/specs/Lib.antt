@@ -1,0 +1,2 @@
+pub mod Explore
+pub mod Parts

@@ -1,0 +1,280 @@
+// The exploration: the edges of each location, by number, into the two tables.
+use grow::Grown;
+use model::Node;
+use model::Pointer;
+ghost use mathlib.Core.Path.{_≡_};
+ghost use mathlib.Core.List.{List};
+ghost use Prim.Native.Nat.{_≤_, _<_};
+ghost use lib.ListN.{length, take};
+ghost use Rattle.model.specs.Edges.{access, edgesOf};
+ghost use Rattle.model.specs.Heap.{cell};
+ghost use Rattle.model.specs.Machine.{Stmt};
+ghost use Rattle.model.specs.Records.{byte, shapeOf, stmtOf};
+ghost use Rattle.model.specs.Translate.{Listing, places, addEdges, explore};
+ghost use Rattle.model.proofs.Listings.{locAt};
+ghost use Rattle.grow.specs.Grow.{Holds};
+ghost use Rattle.explore.specs.Explore.{StatementsOk, LocsOk, AddedTo, ExploredTo, ExploreReady};
+ghost use Rattle.explore.specs.Parts.{WayGiven, WayAdded, ShapeGiven, EdgesAdded};
+
+// The counts of a full listing, or the refusal: 11 or 12, and the number of the location being explored.
+pub enum Explored {
+    Listed { locations: usize, edges: usize },
+    Full { number: u8, place: usize },
+}
+
+// Copies the record that the part begins with: the table that it stands in grows while the location is explored.
+fn copy_record(part: &[u8], rec: &mut [u8])
+    requires { ⌜ (32 ≤ length (now part)) × (length (now rec) ≡ 32) ⌝ }
+    ensures { λ _. ⌜ now (rec .exit) ≡ take 32 (now (part .entry)) ⌝ }
+{
+    let mut i = 0;
+    while i < 32 {
+        rec[i] = part[i];
+        i += 1;
+    }
+}
+
+// Adds the edge of location i by one way.
+fn add_way(
+    statement: &[u8],
+    location: &[u8],
+    split: bool,
+    node: Node,
+    pick: u8,
+    guard: u8,
+    locations: &mut [u8],
+    edges: &mut [u8],
+    nl: usize,
+    ne: usize,
+    i: usize,
+) -> Grown
+    requires { ⌜ WayGiven (now location) (now statement) split (node .0) pick guard (now locations) (now edges) nl ne i ⌝ }
+    ensures { λ r. ⌜ WayAdded (now (location .entry)) (now (statement .entry)) split (node .0) pick guard (now (locations .entry)) (now (edges .entry)) nl ne i (now (locations .exit)) (now (edges .exit)) r ⌝ }
+{
+    let mut target = [0u8; 32];
+    let mut updates = [0u16; 16];
+    let left = edge::one_edge(
+        location,
+        statement,
+        split,
+        node,
+        pick,
+        &mut target,
+        &mut updates,
+    );
+    grow::add_edge(
+        locations,
+        edges,
+        nl,
+        ne,
+        i,
+        &target,
+        &updates,
+        left.branch,
+        guard,
+        node,
+        left.nodes,
+    )
+}
+
+// The edges of a statement that reads, writes or frees through a node: counter = 1 with nothing split, then counter at least 2 with the head split off.
+fn add_both(
+    statement: &[u8],
+    location: &[u8],
+    node: Node,
+    locations: &mut [u8],
+    edges: &mut [u8],
+    nl: usize,
+    ne: usize,
+    i: usize,
+) -> Grown
+    requires { ⌜ ShapeGiven (now location) (now statement) (now locations) (now edges) nl ne i × (access (stmtOf (now statement) .op) (shapeOf (now location)) ≡ cell (node .0)) ⌝ }
+    ensures { λ r. ⌜ EdgesAdded (now (location .entry)) (now (statement .entry)) (now (locations .entry)) (now (edges .entry)) nl ne i (now (locations .exit)) (now (edges .exit)) r ⌝ }
+{
+    match add_way(
+        statement,
+        location,
+        false,
+        node,
+        0,
+        1,
+        locations,
+        edges,
+        nl,
+        ne,
+        i,
+    ) {
+        Grown::Added {
+            locations: a,
+            edges: b,
+        } => add_way(
+            statement,
+            location,
+            true,
+            node,
+            0,
+            2,
+            locations,
+            edges,
+            a,
+            b,
+            i,
+        ),
+        Grown::Full { number } => Grown::Full { number },
+    }
+}
+
+// The edges of a choice: one for each pick.
+fn add_choices(
+    statement: &[u8],
+    location: &[u8],
+    locations: &mut [u8],
+    edges: &mut [u8],
+    nl: usize,
+    ne: usize,
+    i: usize,
+) -> Grown
+    requires { ⌜ ShapeGiven (now location) (now statement) (now locations) (now edges) nl ne i × (byte (now statement) 1 ≡ 10) ⌝ }
+    ensures { λ r. ⌜ EdgesAdded (now (location .entry)) (now (statement .entry)) (now (locations .entry)) (now (edges .entry)) nl ne i (now (locations .exit)) (now (edges .exit)) r ⌝ }
+{
+    match add_way(
+        statement,
+        location,
+        false,
+        Node(0),
+        0,
+        0,
+        locations,
+        edges,
+        nl,
+        ne,
+        i,
+    ) {
+        Grown::Added {
+            locations: a,
+            edges: b,
+        } => add_way(
+            statement,
+            location,
+            false,
+            Node(0),
+            1,
+            0,
+            locations,
+            edges,
+            a,
+            b,
+            i,
+        ),
+        Grown::Full { number } => Grown::Full { number },
+    }
+}
+
+// Adds the edges of a location with a shape.
+fn add_edges(
+    statement: &[u8],
+    location: &[u8],
+    locations: &mut [u8],
+    edges: &mut [u8],
+    nl: usize,
+    ne: usize,
+    i: usize,
+) -> Grown
+    requires { ⌜ ShapeGiven (now location) (now statement) (now locations) (now edges) nl ne i ⌝ }
+    ensures { λ r. ⌜ EdgesAdded (now (location .entry)) (now (statement .entry)) (now (locations .entry)) (now (edges .entry)) nl ne i (now (locations .exit)) (now (edges .exit)) r ⌝ }
+{
+    let op = statement[1];
+    if op == 0 {
+        return Grown::Added {
+            locations: nl,
+            edges: ne,
+        };
+    }
+    let u = Pointer(statement[2]);
+    let w = Pointer(statement[3]);
+    let v = way::access(op, u, w, &location[4..10]);
+    if v < 0xfd {
+        return add_both(statement, location, Node(v), locations, edges, nl, ne, i);
+    }
+    if op == 10 {
+        return add_choices(statement, location, locations, edges, nl, ne, i);
+    }
+    add_way(
+        statement,
+        location,
+        false,
+        Node(0),
+        0,
+        0,
+        locations,
+        edges,
+        nl,
+        ne,
+        i,
+    )
+}
+
+// Adds the edges of location i; a fault has none.
+pub fn explore_location(
+    input: &[u8],
+    n: usize,
+    locations: &mut [u8],
+    edges: &mut [u8],
+    nl: usize,
+    ne: usize,
+    i: usize,
+) -> Grown
+    requires { ⌜ ExploreReady (now input) n (now locations) (now edges) nl ne × (i < nl) ⌝ }
+    ensures { λ r. ⌜ ((sts : List Stmt) (t : Listing) → StatementsOk (now (input .entry)) n sts → Holds t (now (locations .entry)) (now (edges .entry)) nl ne → LocsOk n t
+        → AddedTo n i (addEdges (places 1024 (length (now (locations .entry)))) (places 2048 (length (now (edges .entry)))) i (edgesOf sts (locAt (t .locs) i)) t)
+        (now (locations .exit)) (now (edges .exit)) r) ⌝ }
+{
+    let mut location = [0u8; 32];
+    let at = 32 * i;
+    copy_record(&locations[at..], &mut location);
+    if location[2] != 0 {
+        return Grown::Added {
+            locations: nl,
+            edges: ne,
+        };
+    }
+    let start = 32 * (location[1] as usize);
+    let end = start + 32;
+    add_edges(&input[start..end], &location, locations, edges, nl, ne, i)
+}
+
+// Explores all locations, by number.
+pub fn explore_all(
+    input: &[u8],
+    n: usize,
+    locations: &mut [u8],
+    edges: &mut [u8],
+    nl: usize,
+    ne: usize,
+) -> Explored
+    requires { ⌜ ExploreReady (now input) n (now locations) (now edges) nl ne ⌝ }
+    ensures { λ r. ⌜ ((sts : List Stmt) (t : Listing) → StatementsOk (now (input .entry)) n sts → Holds t (now (locations .entry)) (now (edges .entry)) nl ne → LocsOk n t
+        → ExploredTo n (explore sts (places 1024 (length (now (locations .entry)))) (places 2048 (length (now (edges .entry)))) (places 1024 (length (now (locations .entry)))) 0 t)
+        (now (locations .exit)) (now (edges .exit)) r) ⌝ }
+{
+    let mut listed = nl;
+    let mut added = ne;
+    let mut i = 0;
+    while i < listed {
+        match explore_location(input, n, locations, edges, listed, added, i) {
+            Grown::Added {
+                locations: a,
+                edges: b,
+            } => {
+                listed = a;
+                added = b;
+            }
+            Grown::Full { number } => return Explored::Full { number, place: i },
+        }
+        i += 1;
+    }
+    Explored::Listed {
+        locations: listed,
+        edges: added,
+    }
+}

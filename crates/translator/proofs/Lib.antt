@@ -1,0 +1,5 @@
+pub mod Starts
+pub mod Outcomes
+pub mod Listed
+pub mod Answers
+pub mod Telling

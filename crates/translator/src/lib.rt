@@ -1,0 +1,111 @@
+// The translator: a routine in records to its locations and edges, in two lent tables.
+pub mod export;
+
+use explore::Explored;
+use input::Checked;
+use model::Translated;
+ghost use mathlib.Core.Path.{_≡_};
+ghost use mathlib.Core.List.{_++_, map};
+ghost use Prim.Native.Nat.{_+_, _*_, _≤_};
+ghost use lib.ListN.{length, drop};
+ghost use Rattle.model.specs.Answers.{outcomeOf};
+ghost use Rattle.model.specs.Records.{locRecord, recordAt};
+ghost use Rattle.model.specs.Translate.{places, tableOf, translate};
+ghost use Rattle.model.specs.Runs.{DemandThree};
+ghost use Rattle.record.specs.Written.{placed};
+ghost use Rattle.translator.specs.Starts.{startBytes, startLocs, StartsReady, ListReady};
+
+// How many locations a table of len bytes has a place for.
+fn location_places(len: usize) -> usize
+    ensures { λ r. ⌜ r ≡ places 1024 len ⌝ }
+{
+    let fit = len / 32;
+    if fit < 1024 { fit } else { 1024 }
+}
+
+// Writes the location record of a starting shape: the shape's record with another tag, at statement 0 without a fault.
+fn enter_start(part: &mut [u8], rec: &[u8])
+    requires { ⌜ (32 ≤ length (now part)) × (length (now rec) ≡ 32) ⌝ }
+    ensures { λ _. ⌜ now (part .exit) ≡ startBytes (now (rec .entry)) ++ drop 32 (now (part .entry)) ⌝ }
+{
+    let mut i = 0;
+    while i < 32 {
+        part[i] = rec[i];
+        i += 1;
+    }
+    part[0] = 0x4c;
+    part[1] = 0;
+    part[2] = 0;
+}
+
+// Enters the shape of record i of the input as location j.
+fn put_start(input: &[u8], i: usize, locations: &mut [u8], j: usize)
+    requires { ⌜ (32 * i + 32 ≤ length (now input)) × (32 * j + 32 ≤ length (now locations)) ⌝ }
+    ensures { λ _. ⌜ now (locations .exit) ≡ placed (now (locations .entry)) j (startBytes (recordAt (now (input .entry)) i)) ⌝ }
+{
+    let at = 32 * j;
+    let start = 32 * i;
+    let end = start + 32;
+    enter_start(&mut locations[at..], &input[start..end]);
+}
+
+// Enters the m starting shapes behind n statements as locations 0 on, in input order, into a cleared table.
+fn enter_starts(input: &[u8], n: usize, m: usize, locations: &mut [u8])
+    requires { ⌜ StartsReady (now input) n m (now locations) ⌝ }
+    ensures { λ _. ⌜ now (locations .exit) ≡ tableOf (length (now (locations .entry))) (map locRecord (startLocs n (now (input .entry)))) ⌝ }
+{
+    let mut j = 0;
+    while j < m {
+        put_start(input, n + j, locations, j);
+        j += 1;
+    }
+}
+
+// The listing of a checked input, in cleared tables that have a place for each starting shape.
+fn list(input: &[u8], n: usize, m: usize, locations: &mut [u8], edges: &mut [u8]) -> Translated
+    requires { ⌜ ListReady (now input) n m (now locations) (now edges) ⌝ }
+    ensures { λ r. ⌜ outcomeOf r (now (locations .exit)) (now (edges .exit)) ≡ translate (now (input .entry)) (length (now (locations .entry))) (length (now (edges .entry))) ⌝ }
+{
+    enter_starts(input, n, m, locations);
+    match explore::explore_all(input, n, locations, edges, m, 0) {
+        Explored::Listed {
+            locations: a,
+            edges: b,
+        } => Translated::Listed {
+            locations: a,
+            edges: b,
+        },
+        Explored::Full { number, place } => {
+            record::clear(locations);
+            record::clear(edges);
+            Translated::Refused { number, place }
+        }
+    }
+}
+
+// For every input and any tables: the answer and every byte of both tables are what the definition says, and the automaton that
+// stands in the tables, with the counts answered, is the routine (demand 3).
+pub fn translate(input: &[u8], locations: &mut [u8], edges: &mut [u8]) -> Translated
+    ensures outcome { λ r. ⌜ outcomeOf r (now (locations .exit)) (now (edges .exit)) ≡ translate (now (input .entry)) (length (now (locations .entry))) (length (now (edges .entry))) ⌝ }
+    ensures automaton { λ r. ⌜ (outcomeOf r (now (locations .exit)) (now (edges .exit)) .refused .number ≡ 0
+        → DemandThree (now (input .entry)) (outcomeOf r (now (locations .exit)) (now (edges .exit)) .tables)) ⌝ }
+{
+    record::clear(locations);
+    record::clear(edges);
+    match input::check(input) {
+        Checked::Bad { number, place } => Translated::Refused { number, place },
+        Checked::Good {
+            statements: n,
+            shapes: m,
+        } => {
+            let most = location_places(locations.len());
+            if most < m {
+                return Translated::Refused {
+                    number: 11,
+                    place: most,
+                };
+            }
+            list(input, n, m, locations, edges)
+        }
+    }
+}
