@@ -1,18 +1,18 @@
 -- One edge more in a listing: the next of the edges to be added, and the locations stay good.
-use Prim.Native.Nat.{ℕ, _≤_, _<_}
+use Prim.Native.Nat.{ℕ}
 use mathlib.Core.Path.{_≡_, refl, ap, subst, sym, _∙_}
-use mathlib.Core.Bool.{true, false, cond}
-use mathlib.Core.List.{List, [], _∷_, _++_}
+use mathlib.Core.Bool.{true, false}
+use mathlib.Core.List.{List, [], _∷_}
 use native.Mathlib.Omega.{arith}
 use lib.Dec.{eqb, ltb}
 use lib.ListN.{length}
 use borrow.Author.Tests.{eqb-false, eqb-true}
 use Rattle.model.specs.Base.{placeOf}
-use Rattle.model.specs.Edges.{Edge, Loc, at, failed, sameLoc}
-use Rattle.model.specs.Translate.{Listing, Refusal, addEdges, full, grown, listed, places, refusal}
-use Rattle.model.proofs.Lists.{In, in-append-cases, in-single}
+use Rattle.model.specs.Edges.{Edge, at, sameLoc}
+use Rattle.model.specs.Translate.{Listing, addEdges, full, grown, places, refusal}
+use Rattle.model.proofs.Lists.{in-append-cases, in-single}
 use Rattle.model.proofs.Logic.{bool-case}
-use Rattle.grow.specs.Grow.{GrownTo, Holds}
+use Rattle.grow.specs.Grow.{GrownTo}
 use Rattle.grow.specs.declared.Grown.{Grown}
 use Rattle.grow.specs.declared.Grown.the-variants.{Added, Full}
 use Rattle.explore.specs.Explore.{AddedTo, LocOk, LocsOk}

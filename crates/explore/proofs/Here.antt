@@ -1,5 +1,5 @@
 -- A location with a shape as bytes: its statement's fields, and its edges, each by its way.
-use Prim.Native.Nat.{ℕ, _+_, _≤_, _<_}
+use Prim.Native.Nat.{ℕ, _≤_, _<_}
 use mathlib.Core.Path.{_≡_, refl, ap, subst, sym, _∙_}
 use mathlib.Core.Logic.{inl, inr}
 use mathlib.Core.Bool.{Bool, true, false}
@@ -8,15 +8,15 @@ use native.Mathlib.Omega.{arith}
 use lib.Dec.{eqb}
 use lib.ListN.{drop, length, length-drop, take}
 use lib.Seq.{length-take-le}
-use borrow.Author.Tests.{eqb-false, eqb-true, ne-eqb}
-use Rattle.model.specs.Heap.{Heap, Val, cell, next, null, undef}
-use Rattle.model.specs.Machine.{branch, kind, other, picks, stop, target}
-use Rattle.model.specs.Edges.{Edge, Guard, Loc, access, always, at, edgesAt, failed, isMore, isOne, split, whole}
+use borrow.Author.Tests.{ne-eqb}
+use Rattle.model.specs.Heap.{Heap, cell, next, undef}
+use Rattle.model.specs.Machine.{branch, kind, picks, target}
+use Rattle.model.specs.Edges.{Edge, Guard, Loc, access, always, at, edgesAt, failed, isMore, isOne}
 use Rattle.model.specs.Image.{heapOf}
 use Rattle.model.specs.Records.{byte, guardBytes, opOf, shapeOf, stmtOf, valOf}
 use Rattle.model.specs.Runs.{isStop}
 use Rattle.model.proofs.Lists.{In}
-use Rattle.model.proofs.Logic.{bool-case}
+use Rattle.model.proofs.Logic.{bool-case, clash}
 use Rattle.model.proofs.Order.{used-below}
 use Rattle.model.proofs.Reached.{GoodLoc, shape-edge}
 use Rattle.model.proofs.ReadBack.{Writable, WritableLoc, canon-writable, location-length, location-shape}
@@ -25,7 +25,7 @@ use Rattle.model.proofs.Ways.{access-closed, access-facts, no-access}
 use Rattle.edge.specs.Edge.{WayReady, wayOf}
 use Rattle.edge.proofs.Ready.{accepted-fields}
 use Rattle.explore.specs.Explore.{LocOk}
-use Rattle.explore.specs.Parts.{AtShape, WayEdge}
+use Rattle.explore.specs.Parts.{AtShape, TwoWays, WayEdge, way}
 use Rattle.explore.proofs.Ops.{access-pointers, op-chooses, op-goes, target-below}
 use Rattle.explore.proofs.Made.{Below, Makes, choice-edges, node-edges, only-edge, split-makes, whole-makes}
 
@@ -38,22 +38,10 @@ loc-writable : (n : ℕ) (l : Loc) → LocOk n l → WritableLoc l
 loc-writable n (at s h) g = canon-writable h (g .0 .0) (g .0 .1)
 loc-writable n (failed s f) g = tt
 
--- two ways out of a location make its edges: nothing split with pick 0, then another
-pub record TwoWays (l r : List ℕ) (n s : ℕ) (h : Heap) (sp : Bool) (v p g k : ℕ) : Type 0 where
-  pub guards : Guard
-  pub guards′ : Guard
-  pub one : Edge
-  pub two : Edge
-  pub first : WayEdge l r n s h false v 0 g guards one
-  pub second : WayEdge l r n s h sp v p k guards′ two
-  pub list : edgesAt s (stmtOf r) h ≡ one ∷ two ∷ []
-  pub fine : LocOk n (one .to)
-  pub fine′ : LocOk n (two .to)
-
 -- one way makes its edge
 pub record OneWay (l r : List ℕ) (n s : ℕ) (h : Heap) : Type 0 where
   pub one : Edge
-  pub first : WayEdge l r n s h false 0 0 0 always one
+  pub first : WayEdge l r n s h (way false 0 0 0) always one
   pub list : edgesAt s (stmtOf r) h ≡ one ∷ []
   pub fine : LocOk n (one .to)
 
@@ -92,7 +80,7 @@ module _ {l r : List ℕ} {n s : ℕ} {h : Heap} (A : AtShape l r n s h) where
   }
 
   way-edge : (sp : Bool) (v p g : ℕ) (G : Guard) (E : Edge) → WayReady l r n s h sp v p → Makes s (stmtOf r) (length (h .slots)) n (wayOf sp G v p h) E
-      → guardBytes (wayOf sp G v p h .guard) ≡ g ∷ v ∷ [] → LocOk n (E .to) → WayEdge l r n s h sp v p g G E
+      → guardBytes (wayOf sp G v p h .guard) ≡ g ∷ v ∷ [] → LocOk n (E .to) → WayEdge l r n s h (way sp v p g) G E
   way-edge sp v p g G E R M q F = record {
     ready = R;
     made = M .made;
@@ -101,7 +89,7 @@ module _ {l r : List ℕ} {n s : ℕ} {h : Heap} (A : AtShape l r n s h) where
   }
 
   -- a statement that reads, writes or frees through node v
-  pub node-ways : (v : ℕ) → access (stmtOf r .op) (shapeOf l) ≡ cell v → TwoWays l r n s h true v 0 1 2
+  pub node-ways : (v : ℕ) → access (stmtOf r .op) (shapeOf l) ≡ cell v → TwoWays l r n s h (way false v 0 1) (way true v 0 2)
   node-ways v x =
       let a : access (stmtOf r .op) h ≡ cell v = ap (access (stmtOf r .op)) (sym shape-is) ∙ x in
       let goes : isStop (kind (stmtOf r .op)) ≡ false = ap isStop (access-facts (stmtOf r .op) h v a .0) in
@@ -126,7 +114,7 @@ module _ {l r : List ℕ} {n s : ℕ} {h : Heap} (A : AtShape l r n s h) where
   op-is k e = ap (λ m. opOf m (byte r 2) (byte r 3)) e
 
   -- a choice
-  pub choice-ways : byte r 1 ≡ 10 → TwoWays l r n s h false 0 1 0 0
+  pub choice-ways : byte r 1 ≡ 10 → TwoWays l r n s h (way false 0 0 0) (way false 0 1 0)
   choice-ways x =
       let o = op-is 10 x in
       let q : kind (stmtOf r .op) ≡ picks = ap kind o in
@@ -142,15 +130,12 @@ module _ {l r : List ℕ} {n s : ℕ} {h : Heap} (A : AtShape l r n s h) where
         guards′ = always;
         one = M .0;
         two = N .0;
-        first = way-edge false 0 0 0 always (M .0) (way-ready false 0 0 goes (omega arith) (λ t. absurd (no-split t))) (M .1) refl f;
-        second = way-edge false 0 1 0 always (N .0) (way-ready false 0 1 goes (omega arith) (λ t. absurd (no-split t))) (N .1) refl g;
+        first = way-edge false 0 0 0 always (M .0) (way-ready false 0 0 goes (omega arith) (λ t. clash t refl)) (M .1) refl f;
+        second = way-edge false 0 1 0 always (N .0) (way-ready false 0 1 goes (omega arith) (λ t. clash t refl)) (N .1) refl g;
         list = e;
         fine = f;
         fine′ = g;
       }
-    where
-      no-split : false ≡ true → ⊥
-      no-split t = let z : _≡_ {A = ℕ} 0 1 = cc in omega arith
 
   -- any other statement: one edge
   pub plain-way : (byte r 1 ≡ 0 → ⊥) → (byte r 1 ≡ 10 → ⊥) → ((m : ℕ) → access (stmtOf r .op) h ≡ cell m → ⊥) → OneWay l r n s h
@@ -161,13 +146,10 @@ module _ {l r : List ℕ} {n s : ℕ} {h : Heap} (A : AtShape l r n s h) where
       let f : LocOk n (M .0 .to) = edge-fine (M .0) (subst (In (M .0)) (sym e) (inl refl)) (M .1 .leads) in
       record {
         one = M .0;
-        first = way-edge false 0 0 0 always (M .0) (way-ready false 0 0 goes (omega arith) (λ t. absurd (no-split t))) (M .1) refl f;
+        first = way-edge false 0 0 0 always (M .0) (way-ready false 0 0 goes (omega arith) (λ t. clash t refl)) (M .1) refl f;
         list = e;
         fine = f;
       }
-    where
-      no-split : false ≡ true → ⊥
-      no-split t = let z : _≡_ {A = ℕ} 0 1 = cc in omega arith
 
   -- a stop has no edges
   pub stop-edges : byte r 1 ≡ 0 → edgesAt s (stmtOf r) h ≡ []

@@ -1,6 +1,6 @@
 -- Location i of a listing that is held in the tables: its record, its statement's record, and its edges.
 use Prim.Native.Nat.{ℕ, _+_, _-_, _*_, _≤_, _<_}
-use mathlib.Core.Path.{_≡_, refl, ap, subst, sym, _∙_}
+use mathlib.Core.Path.{_≡_, refl, ap, sym, _∙_}
 use mathlib.Core.List.{List, [], map}
 use native.Mathlib.Omega.{arith}
 use lib.ListN.{drop, length, length-drop, length-map, take}
@@ -12,7 +12,7 @@ use Rattle.model.specs.Records.{byte, locRecord, recordAt, stmtOf}
 use Rattle.model.specs.Translate.{Listing, addEdges, places}
 use Rattle.model.proofs.Bytes.{table-record}
 use Rattle.model.proofs.Listings.{locAt}
-use Rattle.model.proofs.Lists.{In, getD-in, getD-map, in-map}
+use Rattle.model.proofs.Lists.{getD-in, getD-map, in-map}
 use Rattle.model.proofs.ReadBack.{record-length}
 use Rattle.grow.specs.Grow.{Holds}
 use Rattle.grow.specs.declared.Grown.{Grown}

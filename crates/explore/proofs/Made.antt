@@ -1,17 +1,16 @@
 -- The edges that the ways out of a location make: each way makes exactly one, and the location's edges are these, in order.
-use Prim.Native.Nat.{ℕ, suc, _≤_, _<_}
-use mathlib.Core.Path.{_≡_, refl, ap, ap₂, sym, _∙_}
+use Prim.Native.Nat.{ℕ, _≤_, _<_}
+use mathlib.Core.Path.{_≡_, refl, ap, ap₂, _∙_}
 use mathlib.Core.Bool.{true, false, not}
-use mathlib.Core.List.{List, [], _∷_, _++_, map}
+use mathlib.Core.List.{[], _∷_, _++_, map}
 use native.Mathlib.Omega.{arith}
 use lib.ListN.{List·getD-eq-default, length}
 use borrow.Author.Tests.{le-leb}
 use Rattle.model.specs.Base.{joined}
 use Rattle.model.specs.Heap.{Heap, Val, cell, inUse, next, null, undef, unused}
 use Rattle.model.specs.Machine.{Effect, Entry, Kind, Stmt, accepts, allocates, answerOf, branch, done, fault, kind, other, picks, run, stops, target}
-use Rattle.model.specs.Edges.{Edge, Guard, Loc, Way, access, always, at, edgeBy, edgesAt, failed, isMore, isOne, picksOf, split, splitHeap, stepBy, ways, waysAt, whole}
+use Rattle.model.specs.Edges.{Edge, Guard, Loc, Way, access, always, at, edgeBy, edgesAt, failed, isOne, picksOf, split, splitHeap, stepBy, ways, waysAt, whole}
 use Rattle.model.specs.Runs.{isStop}
-use Rattle.model.proofs.Logic.{clash}
 use Rattle.model.proofs.Step.{step-go}
 use Rattle.model.proofs.Ways.{access-facts}
 

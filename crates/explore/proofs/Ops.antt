@@ -8,7 +8,7 @@ use lib.Dec.{ltb}
 use lib.ListN.{getD}
 use borrow.Author.Tests.{ltb-true}
 use Rattle.model.specs.Heap.{Heap, Val, null, ptr, sameVal, undef}
-use Rattle.model.specs.Machine.{Kind, Op, Stmt, allocates, branch, choose, clear, copy, free, isNull, kind, load, new, other, picks, same, setNull, skip, stop, stops, store, target, test}
+use Rattle.model.specs.Machine.{Op, Stmt, allocates, branch, choose, clear, copy, free, isNull, kind, load, new, other, picks, same, setNull, skip, stop, stops, store, target, test}
 use Rattle.model.specs.Edges.{access}
 use Rattle.model.specs.Records.{byte, fieldsS, opOf, refusalS, stmtOf, targetBelow, targetsS, usesFirst, usesSecond}
 use Rattle.model.specs.Runs.{isStop}

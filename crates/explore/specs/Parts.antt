@@ -13,7 +13,8 @@ use Rattle.model.proofs.ReadBack.{WritableLoc}
 use Rattle.edge.specs.Edge.{StatementOk, WayReady, wayOf}
 use Rattle.grow.specs.Grow.{Holds, GrownTo}
 use Rattle.grow.specs.declared.Grown.{Grown}
-use Rattle.explore.specs.Explore.{LocsOk, AddedTo}
+use Rattle.explore.specs.Explore.{LocOk, LocsOk, AddedTo}
+use Rattle.explore.specs.declared.Way.{Way}
 
 -- l is the record of statement s with shape h, and r that of the statement, among n
 pub record AtShape (l r : List ℕ) (n s : ℕ) (h : Heap) : Type 0 where
@@ -23,29 +24,50 @@ pub record AtShape (l r : List ℕ) (n s : ℕ) (h : Heap) : Type 0 where
   pub statement : StatementOk r n
   pub low : s < n
 
--- the way makes the edge E, whose guard is g at node v
-pub record WayEdge (l r : List ℕ) (n s : ℕ) (h : Heap) (sp : Bool) (v p g : ℕ) (G : Guard) (E : Edge) : Type 0 where
-  pub ready : WayReady l r n s h sp v p
-  pub made : edgeBy s (length (h .slots)) (wayOf sp G v p h) (stepBy (stmtOf r) (length (h .slots)) (wayOf sp G v p h)) ≡ E ∷ []
-  pub guard : guardBytes (E .guard) ≡ g ∷ v ∷ []
+-- split at node v or not, with pick p, and g the byte of a guard on v
+abbrev pub way : Bool → ℕ → ℕ → ℕ → Way
+way sp v p g = record { split = sp; node = record { 0 = v }; pick = p; guard = g }
+
+-- the way w, with the guard G, makes the edge E
+pub record WayEdge (l r : List ℕ) (n s : ℕ) (h : Heap) (w : Way) (G : Guard) (E : Edge) : Type 0 where
+  pub ready : WayReady l r n s h (w .split) (w .node .0) (w .pick)
+  pub made :
+      edgeBy s (length (h .slots)) (wayOf (w .split) G (w .node .0) (w .pick) h)
+      (stepBy (stmtOf r) (length (h .slots)) (wayOf (w .split) G (w .node .0) (w .pick) h)) ≡ E ∷ []
+  pub guard : guardBytes (E .guard) ≡ w .guard ∷ w .node .0 ∷ []
   pub good : WritableLoc (E .to)
 
 -- some way makes some edge, and some listing is held
-pub record WayGiven (l r : List ℕ) (sp : Bool) (v p g : ℕ) (ls es : List ℕ) (nl ne i : ℕ) : Type 0 where
+pub record WayGiven (l r : List ℕ) (w : Way) (ls es : List ℕ) (nl ne i : ℕ) : Type 0 where
   pub statements : ℕ
   pub number : ℕ
   pub shape : Heap
   pub given : Guard
   pub edge : Edge
-  pub isEdge : WayEdge l r statements number shape sp v p g given edge
+  pub isEdge : WayEdge l r statements number shape w given edge
   pub list : Listing
   pub held : Holds list ls es nl ne
   pub low : i < 65536
 
 -- whichever edge the way makes and whichever listing was held, the edge is added
-abbrev pub WayAdded : List ℕ → List ℕ → Bool → ℕ → ℕ → ℕ → List ℕ → List ℕ → ℕ → ℕ → ℕ → List ℕ → List ℕ → Grown → Type 0
-WayAdded l r sp v p g ls es nl ne i ls′ es′ x =
-    (n s : ℕ) (h : Heap) (G : Guard) (E : Edge) (t : Listing) → WayEdge l r n s h sp v p g G E → Holds t ls es nl ne → GrownTo t i E ls′ es′ x
+abbrev pub WayAdded : List ℕ → List ℕ → Way → List ℕ → List ℕ → ℕ → ℕ → ℕ → List ℕ → List ℕ → Grown → Type 0
+WayAdded l r w ls es nl ne i ls′ es′ x =
+    (n s : ℕ) (h : Heap) (G : Guard) (E : Edge) (t : Listing) → WayEdge l r n s h w G E → Holds t ls es nl ne → GrownTo t i E ls′ es′ x
+
+-- the edges of a location are those that the ways w and y make
+pub record TwoWays (l r : List ℕ) (n s : ℕ) (h : Heap) (w y : Way) : Type 0 where
+  pub guards : Guard
+  pub guards′ : Guard
+  pub one : Edge
+  pub two : Edge
+  pub first : WayEdge l r n s h w guards one
+  pub second : WayEdge l r n s h y guards′ two
+  pub list : edgesAt s (stmtOf r) h ≡ one ∷ two ∷ []
+  pub fine : LocOk n (one .to)
+  pub fine′ : LocOk n (two .to)
+
+abbrev pub AreTwo : List ℕ → List ℕ → Way → Way → Type 0
+AreTwo l r w y = (n s : ℕ) (h : Heap) → AtShape l r n s h → TwoWays l r n s h w y
 
 -- some location is given, and some listing is held
 pub record ShapeGiven (l r ls es : List ℕ) (nl ne i : ℕ) : Type 0 where

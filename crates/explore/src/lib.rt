@@ -6,15 +6,13 @@ ghost use mathlib.Core.Path.{_≡_};
 ghost use mathlib.Core.List.{List};
 ghost use Prim.Native.Nat.{_≤_, _<_};
 ghost use lib.ListN.{length, take};
-ghost use Rattle.model.specs.Edges.{access, edgesOf};
-ghost use Rattle.model.specs.Heap.{cell};
+ghost use Rattle.model.specs.Edges.{edgesOf};
 ghost use Rattle.model.specs.Machine.{Stmt};
-ghost use Rattle.model.specs.Records.{byte, shapeOf, stmtOf};
 ghost use Rattle.model.specs.Translate.{Listing, places, addEdges, explore};
 ghost use Rattle.model.proofs.Listings.{locAt};
 ghost use Rattle.grow.specs.Grow.{Holds};
 ghost use Rattle.explore.specs.Explore.{StatementsOk, LocsOk, AddedTo, ExploredTo, ExploreReady};
-ghost use Rattle.explore.specs.Parts.{WayGiven, WayAdded, ShapeGiven, EdgesAdded};
+ghost use Rattle.explore.specs.Parts.{way, WayGiven, WayAdded, AreTwo, ShapeGiven, EdgesAdded};
 
 // The counts of a full listing, or the refusal: 11 or 12, and the number of the location being explored.
 pub enum Explored {
@@ -27,10 +25,30 @@ fn copy_record(part: &[u8], rec: &mut [u8])
     requires { ⌜ (32 ≤ length (now part)) × (length (now rec) ≡ 32) ⌝ }
     ensures { λ _. ⌜ now (rec .exit) ≡ take 32 (now (part .entry)) ⌝ }
 {
-    let mut i = 0;
-    while i < 32 {
-        rec[i] = part[i];
-        i += 1;
+    let mut k = 0;
+    while k < 32 {
+        rec[k] = part[k];
+        k += 1;
+    }
+}
+
+// A way out of a location: split at a node, or whole with a pick; and the byte of its guard, which is on the node.
+struct Way {
+    split: bool,
+    node: Node,
+    pick: u8,
+    guard: u8,
+}
+
+// A way, by its parts.
+fn make_way(split: bool, node: Node, pick: u8, guard: u8) -> Way
+    ensures { λ r. ⌜ r ≡ way split (node .0) pick guard ⌝ }
+{
+    Way {
+        split,
+        node,
+        pick,
+        guard,
     }
 }
 
@@ -38,19 +56,20 @@ fn copy_record(part: &[u8], rec: &mut [u8])
 fn add_way(
     statement: &[u8],
     location: &[u8],
-    split: bool,
-    node: Node,
-    pick: u8,
-    guard: u8,
+    way: Way,
     locations: &mut [u8],
     edges: &mut [u8],
     nl: usize,
     ne: usize,
     i: usize,
 ) -> Grown
-    requires { ⌜ WayGiven (now location) (now statement) split (node .0) pick guard (now locations) (now edges) nl ne i ⌝ }
-    ensures { λ r. ⌜ WayAdded (now (location .entry)) (now (statement .entry)) split (node .0) pick guard (now (locations .entry)) (now (edges .entry)) nl ne i (now (locations .exit)) (now (edges .exit)) r ⌝ }
+    requires { ⌜ WayGiven (now location) (now statement) way (now locations) (now edges) nl ne i ⌝ }
+    ensures { λ r. ⌜ WayAdded (now (location .entry)) (now (statement .entry)) way (now (locations .entry)) (now (edges .entry)) nl ne i (now (locations .exit)) (now (edges .exit)) r ⌝ }
 {
+    let split = way.split;
+    let node = way.node;
+    let pick = way.pick;
+    let guard = way.guard;
     let mut target = [0u8; 32];
     let mut updates = [0u16; 16];
     let left = edge::one_edge(
@@ -62,6 +81,8 @@ fn add_way(
         &mut target,
         &mut updates,
     );
+    let b = left.branch;
+    let k = left.nodes;
     grow::add_edge(
         locations,
         edges,
@@ -70,107 +91,38 @@ fn add_way(
         i,
         &target,
         &updates,
-        left.branch,
+        b,
         guard,
         node,
-        left.nodes,
+        k,
     )
 }
 
-// The edges of a statement that reads, writes or frees through a node: counter = 1 with nothing split, then counter at least 2 with the head split off.
-fn add_both(
+// Adds the edges by two ways, in order.
+fn add_two(
     statement: &[u8],
     location: &[u8],
-    node: Node,
+    first: Way,
+    second: Way,
     locations: &mut [u8],
     edges: &mut [u8],
     nl: usize,
     ne: usize,
     i: usize,
 ) -> Grown
-    requires { ⌜ ShapeGiven (now location) (now statement) (now locations) (now edges) nl ne i × (access (stmtOf (now statement) .op) (shapeOf (now location)) ≡ cell (node .0)) ⌝ }
+    requires { ⌜ ShapeGiven (now location) (now statement) (now locations) (now edges) nl ne i × AreTwo (now location) (now statement) first second ⌝ }
     ensures { λ r. ⌜ EdgesAdded (now (location .entry)) (now (statement .entry)) (now (locations .entry)) (now (edges .entry)) nl ne i (now (locations .exit)) (now (edges .exit)) r ⌝ }
 {
-    match add_way(
-        statement,
-        location,
-        false,
-        node,
-        0,
-        1,
-        locations,
-        edges,
-        nl,
-        ne,
-        i,
-    ) {
+    match add_way(statement, location, first, locations, edges, nl, ne, i) {
         Grown::Added {
             locations: a,
             edges: b,
-        } => add_way(
-            statement,
-            location,
-            true,
-            node,
-            0,
-            2,
-            locations,
-            edges,
-            a,
-            b,
-            i,
-        ),
+        } => add_way(statement, location, second, locations, edges, a, b, i),
         Grown::Full { number } => Grown::Full { number },
     }
 }
 
-// The edges of a choice: one for each pick.
-fn add_choices(
-    statement: &[u8],
-    location: &[u8],
-    locations: &mut [u8],
-    edges: &mut [u8],
-    nl: usize,
-    ne: usize,
-    i: usize,
-) -> Grown
-    requires { ⌜ ShapeGiven (now location) (now statement) (now locations) (now edges) nl ne i × (byte (now statement) 1 ≡ 10) ⌝ }
-    ensures { λ r. ⌜ EdgesAdded (now (location .entry)) (now (statement .entry)) (now (locations .entry)) (now (edges .entry)) nl ne i (now (locations .exit)) (now (edges .exit)) r ⌝ }
-{
-    match add_way(
-        statement,
-        location,
-        false,
-        Node(0),
-        0,
-        0,
-        locations,
-        edges,
-        nl,
-        ne,
-        i,
-    ) {
-        Grown::Added {
-            locations: a,
-            edges: b,
-        } => add_way(
-            statement,
-            location,
-            false,
-            Node(0),
-            1,
-            0,
-            locations,
-            edges,
-            a,
-            b,
-            i,
-        ),
-        Grown::Full { number } => Grown::Full { number },
-    }
-}
-
-// Adds the edges of a location with a shape.
+// Adds the edges of a location with a shape: two by a node that is read through, counter = 1 and counter at least 2, two by a choice, else one.
 fn add_edges(
     statement: &[u8],
     location: &[u8],
@@ -194,24 +146,26 @@ fn add_edges(
     let w = Pointer(statement[3]);
     let v = way::access(op, u, w, &location[4..10]);
     if v < 0xfd {
-        return add_both(statement, location, Node(v), locations, edges, nl, ne, i);
+        let one = make_way(false, Node(v), 0, 1);
+        let more = make_way(true, Node(v), 0, 2);
+        return add_two(statement, location, one, more, locations, edges, nl, ne, i);
     }
+    let first = make_way(false, Node(0), 0, 0);
     if op == 10 {
-        return add_choices(statement, location, locations, edges, nl, ne, i);
+        let second = make_way(false, Node(0), 1, 0);
+        return add_two(
+            statement,
+            location,
+            first,
+            second,
+            locations,
+            edges,
+            nl,
+            ne,
+            i,
+        );
     }
-    add_way(
-        statement,
-        location,
-        false,
-        Node(0),
-        0,
-        0,
-        locations,
-        edges,
-        nl,
-        ne,
-        i,
-    )
+    add_way(statement, location, first, locations, edges, nl, ne, i)
 }
 
 // Adds the edges of location i; a fault has none.

@@ -4,7 +4,7 @@ use mathlib.Core.Path.{_≡_, _∙_}
 use native.Mathlib.Omega.{arith}
 use lib.ListN.{length}
 use borrow.Author.Needs.{needs}
-use Rattle.model.specs.Records.{byte, recordAt}
+use Rattle.model.specs.Records.{byte}
 use Rattle.explore.proofs.Located.{fault-added, part-is, rest-is, shape-added, shape-given, statement-within}
 use Rattle.explore.proofs.explore_location.Statement.{statement}
 use Rattle.explore.proofs.explore_location.Tie as tie
