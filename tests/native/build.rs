@@ -1,7 +1,20 @@
-// Links the proved library as `rt staticlib` wrote it.
+// Links the proved library as `rt staticlib` wrote it and, where PEER names a folder with a translator in C, that one for the benchmark.
+use std::process::Command;
+
 fn main() {
     let dir = concat!(env!("CARGO_MANIFEST_DIR"), "/../../target/staticlib");
     println!("cargo:rustc-link-search=native={dir}");
     println!("cargo:rustc-link-lib=static=exports");
     println!("cargo:rerun-if-changed={dir}/libexports.a");
+    println!("cargo:rustc-check-cfg=cfg(peer)");
+    println!("cargo:rerun-if-env-changed=PEER");
+    if let Ok(peer) = std::env::var("PEER") {
+        let out = std::env::var("OUT_DIR").unwrap();
+        let run = |c: &mut Command| assert!(c.status().unwrap().success(), "{c:?}");
+        run(Command::new("gcc").args(["-std=c11", "-O3", "-march=x86-64-v2", "-c", "-o"]).arg(format!("{out}/peer.o")).arg(format!("{peer}/peer.c")));
+        run(Command::new("ar").arg("rcs").arg(format!("{out}/libpeer.a")).arg(format!("{out}/peer.o")));
+        println!("cargo:rustc-link-search=native={out}");
+        println!("cargo:rustc-link-lib=static=peer");
+        println!("cargo:rustc-cfg=peer");
+    }
 }

@@ -1,5 +1,5 @@
 -- The plain step by its parts: the run on copies, and the answer of each case.
-use Prim.Native.Nat.{ℕ, zero, suc, _≤_, _<_}
+use Prim.Native.Nat.{ℕ, zero, suc, _≤_}
 use native.Mathlib.Omega.{arith}
 use mathlib.Core.Path.{_≡_, refl, sym, ap, ap₂, subst, _∙_}
 use mathlib.Core.Bool.{Bool, true, false, _&&_, cond, not}
@@ -33,18 +33,8 @@ module _ {op u w x : ℕ} {ps cs : List ℕ} where
       let f = s .ready .few in
       record { ready = s .ready; fresh = s .fresh; room = omega arith; marks = omega arith; clear = λ c l. getD-replicate 240 c 0 0 (omega arith) }
 
-  pub ran-low : {qs ds o : List ℕ} {f n : ℕ} → IsRun op u w x ps cs qs ds o f n → f < 3 → RunOn op u w x ps cs f qs ds
-  ran-low d l = record { outcome = d .outcome; low = omega arith }
-
-  -- from 3 on every number is the leak's
-  pub ran-leak : {qs ds o : List ℕ} {f n : ℕ} → IsRun op u w x ps cs qs ds o f n → 3 ≤ f → RunOn op u w x ps cs 3 qs ds
-  ran-leak {qs} {ds} {o} {f} {n} d l = record { outcome = leaks f (heapOf qs ds) l ∙ d .outcome; low = omega arith }
-    where
-      leaks : (f : ℕ) (g : Heap) → 3 ≤ f → effectOf 3 g ≡ effectOf f g
-      leaks zero g l = absurd (omega arith)
-      leaks (suc zero) g l = absurd (omega arith)
-      leaks (suc (suc zero)) g l = absurd (omega arith)
-      leaks (suc (suc (suc f))) g l = refl
+  pub ran-on : {qs ds o : List ℕ} {f n : ℕ} → IsRun op u w x ps cs qs ds o f n → RunOn op u w x ps cs f qs ds
+  ran-on d = record { outcome = d .outcome; low = d .known }
 
   -- on the copies vs, ws, which become qs, ds
   module _ (vs ws : List ℕ) (a : vs ≡ ps) (b : ws ≡ cs) where

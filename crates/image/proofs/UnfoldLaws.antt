@@ -8,13 +8,12 @@ use mathlib.Core.List.{List, [], _∷_, map}
 use lib.Dec.{eqb, leb}
 use lib.ListN.{length, take, drop, length-map}
 use borrow.Author.Tests.{eq-eqb, eqb-true, le-leb, leb-true, lt-leb, ne-eqb}
-use Rattle.model.specs.Heap.{closed, holds}
+use Rattle.model.specs.Heap.{cell, closed, holds}
 use Rattle.model.specs.Image.{Unfolding, cellBytesOf, cellSlot, countersFit, heapOf, refusalUnfold, unfoldHeap, unfoldImage}
 use Rattle.model.specs.Records.{byte, layoutH, shapeOf, valByte, valOf}
 use Rattle.model.specs.Shape.{canonical}
 use Rattle.model.proofs.Lists.{In, map-in}
 use Rattle.model.proofs.Logic.{and-l, and-r, eq-case}
-use Rattle.model.proofs.ReadBack.{SmallSlot}
 use Rattle.model.proofs.ShapeBack.{layout-closed, layout-few, layout-slots, layout-writable}
 use Rattle.spread.specs.Spread.{SpreadReady}
 
@@ -24,23 +23,22 @@ map-same : {A B : Type 0} (f g : A → B) (l : List A) → ((x : A) → In x l �
 map-same f g [] h = refl
 map-same f g (x ∷ l) h = λ i. h x (inl refl) i ∷ map-same f g l (λ y q. h y (inr q)) i
 
--- a byte that is a value in a shape of k nodes does not say "not in use"
-value-slot : (k b : ℕ) → k ≤ 12 → SmallSlot k (holds (valOf b)) → holds (valOf b) ≡ cellSlot b
-value-slot k b f s =
-    eq-case b 0xfd (λ e. absurd (let n : 0xfd < k = subst (λ x. SmallSlot k (holds (valOf x))) e s in omega arith)) (λ n. rw n)
-
 module _ (r : List ℕ) (l : length r ≡ 32) (h : layoutH r ≡ true) where
-  pub shape-image : shapeOf r ≡ heapOf (take 6 (drop 4 r)) (take (byte r 3) (drop 10 r))
-  shape-image =
+  -- no value byte says "not in use"
+  value-slot : (b : ℕ) → In b (take (byte r 3) (drop 10 r)) → holds (valOf b) ≡ cellSlot b
+  value-slot b q =
       let w = layout-writable r l h in
-      let f = layout-few r l h in
-      let e = layout-slots r l h in
-      let ss = take (byte r 3) (drop 10 r) in
-      let s : map (λ b. holds (valOf b)) ss ≡ map cellSlot ss =
-      map-same (λ b. holds (valOf b)) cellSlot ss
-      (λ b q. value-slot (byte r 3) b f
-      (subst (λ n. SmallSlot n (holds (valOf b))) e (w .nexts (holds (valOf b)) (map-in (λ x. holds (valOf x)) b ss q)))) in
-      λ i. record { ptrs = map valOf (take 6 (drop 4 r)); slots = s i }
+      let s = map-in (λ x. holds (valOf x)) b (take (byte r 3) (drop 10 r)) q in
+      eq-case b 0xfd
+      (λ e. absurd (let n : 0xfd < length (shapeOf r .slots) = w .nexts (holds (cell 0xfd)) (subst (λ x. In (holds (valOf x)) (shapeOf r .slots)) e s) in
+      omega (arith, w .few)))
+      (λ n. rw n)
+
+  pub shape-image : shapeOf r ≡ heapOf (take 6 (drop 4 r)) (take (byte r 3) (drop 10 r))
+  shape-image = λ i. record {
+    ptrs = map valOf (take 6 (drop 4 r));
+    slots = map-same (λ b. holds (valOf b)) cellSlot (take (byte r 3) (drop 10 r)) value-slot i;
+  }
 
   -- the successors as the part of the record that ends with the last one
   pub shape-part : shapeOf r ≡ heapOf (take 6 (drop 4 r)) (take (10 + byte r 3 - 10) (drop 10 r))

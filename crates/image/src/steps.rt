@@ -34,7 +34,7 @@ pub fn copy_if_done(fault: u8, from: &[u8], to: &mut [u8])
     }
 }
 
-// Runs a statement on the image, and answers the fault (0 for none). A run numbers the leak 3 or more.
+// Runs a statement on the image, and answers the fault (0 for none).
 pub fn run_on(op: u8, u: Pointer, w: Pointer, x: usize, pointers: &mut [u8], cells: &mut [u8]) -> u8
     requires { ⌜ StepReady op (u .0) (w .0) x (now pointers) (now cells) ⌝ }
     ensures { λ r. ⌜ RunOn op (u .0) (w .0) x (now (pointers .entry)) (now (cells .entry)) r (now (pointers .exit)) (now (cells .exit)) ⌝ }
@@ -42,7 +42,7 @@ pub fn run_on(op: u8, u: Pointer, w: Pointer, x: usize, pointers: &mut [u8], cel
     let mut order = [0u8; 240];
     let mut seen = [0u8; 240];
     let ran = machine::run(op, u, w, x, pointers, cells, &mut order, &mut seen);
-    if ran.fault < 3 { ran.fault } else { 3 }
+    ran.fault
 }
 
 // Runs a statement on copies of the image, ps and cs, which go back only without a fault.

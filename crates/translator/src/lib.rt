@@ -7,7 +7,7 @@ use model::Translated;
 ghost use mathlib.Core.Path.{_≡_};
 ghost use mathlib.Core.List.{_++_, map};
 ghost use Prim.Native.Nat.{_+_, _*_, _≤_};
-ghost use lib.ListN.{length, drop};
+ghost use lib.ListN.{length, drop, replicate};
 ghost use Rattle.model.specs.Answers.{outcomeOf};
 ghost use Rattle.model.specs.Records.{locRecord, recordAt};
 ghost use Rattle.model.specs.Translate.{places, tableOf, translate};
@@ -61,6 +61,14 @@ fn enter_starts(input: &[u8], n: usize, m: usize, locations: &mut [u8])
     }
 }
 
+// Clears both tables.
+fn clear_both(locations: &mut [u8], edges: &mut [u8])
+    ensures { λ _. ⌜ (now (locations .exit) ≡ replicate (length (now (locations .entry))) 0) × (now (edges .exit) ≡ replicate (length (now (edges .entry))) 0) ⌝ }
+{
+    record::clear(locations);
+    record::clear(edges);
+}
+
 // The listing of a checked input, in cleared tables that have a place for each starting shape.
 fn list(input: &[u8], n: usize, m: usize, locations: &mut [u8], edges: &mut [u8]) -> Translated
     requires { ⌜ ListReady (now input) n m (now locations) (now edges) ⌝ }
@@ -76,8 +84,7 @@ fn list(input: &[u8], n: usize, m: usize, locations: &mut [u8], edges: &mut [u8]
             edges: b,
         },
         Explored::Full { number, place } => {
-            record::clear(locations);
-            record::clear(edges);
+            clear_both(locations, edges);
             Translated::Refused { number, place }
         }
     }
@@ -90,8 +97,7 @@ pub fn translate(input: &[u8], locations: &mut [u8], edges: &mut [u8]) -> Transl
     ensures automaton { λ r. ⌜ (outcomeOf r (now (locations .exit)) (now (edges .exit)) .refused .number ≡ 0
         → DemandThree (now (input .entry)) (outcomeOf r (now (locations .exit)) (now (edges .exit)) .tables)) ⌝ }
 {
-    record::clear(locations);
-    record::clear(edges);
+    clear_both(locations, edges);
     match input::check(input) {
         Checked::Bad { number, place } => Translated::Refused { number, place },
         Checked::Good {

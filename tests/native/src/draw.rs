@@ -120,3 +120,46 @@ pub fn damage_record(d: &mut Draw, r: &mut Vec<u8>) {
         r.resize(n, 0);
     }
 }
+
+/// A routine in records: S records and starting shapes, small or large by i.
+pub fn routine(d: &mut Draw, i: usize) -> Vec<u8> {
+    let n = match i % 10 {
+        0 => 1 + d.below(64),
+        1 | 2 => 8 + d.below(24),
+        _ => 1 + d.below(7),
+    };
+    let pointers = 1 + d.below(if i % 10 < 3 { 5 } else { 6 });
+    let mut out = Vec::new();
+    for s in 0..n {
+        let op = [1, 2, 2, 3, 3, 3, 4, 5, 5, 6, 6, 7, 8, 9, 10, 10, 11, 0][d.below(18)];
+        let op = if i % 10 < 3 && op == 0 && !d.one_in(4) { 10 } else { op };
+        let mut r = [0u8; 32];
+        r[0] = 0x53;
+        r[1] = op;
+        if (1..=9).contains(&op) {
+            r[2] = d.below(pointers) as u8;
+        }
+        if matches!(op, 2 | 3 | 5 | 9) {
+            r[3] = d.below(pointers) as u8;
+        }
+        let mut target = || if d.one_in(3) { d.below(n) as u8 } else { ((s + 1) % n) as u8 };
+        if op != 0 {
+            r[4] = target();
+        }
+        if (8..=10).contains(&op) {
+            r[5] = target();
+        }
+        out.extend_from_slice(&r);
+    }
+    let mut shapes: Vec<[u8; 32]> = Vec::new();
+    let most = if d.one_in(8) { 16 } else { 2 };
+    for _ in 0..1 + d.below(most) {
+        let (p, c) = image(d, 14);
+        let shape = reference::fold(&p, &c).record;
+        if !shapes.contains(&shape) || d.one_in(20) {
+            shapes.push(shape);
+        }
+    }
+    shapes.iter().for_each(|s| out.extend_from_slice(s));
+    out
+}

@@ -17,6 +17,10 @@ mod raw {
             pointers: *mut u8, pointers_len: usize, cells: *mut u8, cells_len: usize,
             statement: *const u8, statement_len: usize, pick: u8, cell: usize, answer: *mut u8, answer_len: usize,
         ) -> u8;
+        pub fn currantplane_translate(
+            input: *const u8, input_len: usize, locations: *mut u8, locations_len: usize,
+            edges: *mut u8, edges_len: usize, answer: *mut usize, answer_len: usize,
+        ) -> u8;
     }
 }
 
@@ -48,6 +52,18 @@ pub fn step(pointers: &mut [u8], cells: &mut [u8], statement: &[u8], pick: u8, c
         raw::currantplane_step(
             pointers.as_mut_ptr(), pointers.len(), cells.as_mut_ptr(), cells.len(),
             statement.as_ptr(), statement.len(), pick, cell, answer.as_mut_ptr(), 4,
+        )
+    };
+    (refusal, answer)
+}
+
+/// Refusal, then its place, the number of locations and the number of edges.
+pub fn translate(input: &[u8], locations: &mut [u8], edges: &mut [u8]) -> (u8, [usize; 3]) {
+    let mut answer = [usize::MAX; 3];
+    let refusal = unsafe {
+        raw::currantplane_translate(
+            input.as_ptr(), input.len(), locations.as_mut_ptr(), locations.len(),
+            edges.as_mut_ptr(), edges.len(), answer.as_mut_ptr(), 3,
         )
     };
     (refusal, answer)

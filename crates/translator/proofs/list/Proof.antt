@@ -27,16 +27,17 @@ returns c =
 
 returns-2 : tie.Need-returns-2
 returns-2 c =
-    let b = c .before .before .before .before .before .before .before .before .before .before .before .before .before .before .before .before .before .before .before .before .before .before .before .before .before in
+    let b = c .before .before .before .before .before .before .before .before .before .before .before .before .before .before .before .before .before .before .before .before .before .before .before .before in
     let a = b .args in
-    let k = c .before .before .before .before .before .before .before .before .before .before .before .before .before .before .before .before .before .before .before .before .enter-starts in
-    let x = c .before .before .before .before .before .before .before .before .before .before .before .before .before .before .before .explore-all in
-    let n = c .before .before .before .before .before .before .before .before .before .number in
+    let k = c .before .before .before .before .before .before .before .before .before .before .before .before .before .before .before .before .before .before .before .enter-starts in
+    let x = c .before .before .before .before .before .before .before .before .before .before .before .before .before .before .explore-all in
+    let n = c .before .before .before .before .before .before .before .before .number in
     let i = n .given .0 .0 in
     let j = n .given .0 .1 .0 in
     let e : x .result ≡ explored.Full i j = search needs in
+    let z = c .before .before .before .before .clear-both .ensures in
     none-left (a .input .now) (a .n) (a .m) (a .locations .now) (a .edges .now) _ (b .pre) (k .ensures) (k .kept .1 .1 .1 .0)
-    _ _ _ _ _ i j e (x .ensures) (x .kept .1 .1 .0) (x .kept .1 .1 .1 .0) (c .before .before .before .before .before .before .clear .ensures) (c .before .before .clear2 .ensures)
+    _ _ _ _ _ i j e (x .ensures) (x .kept .1 .1 .0) (x .kept .1 .1 .1 .0) (z .0) (z .1)
 
 pub list-spec : {M : Type 1} → statement M
 list-spec =
@@ -46,7 +47,6 @@ list-spec =
     explore-all-requires
     (λ c. search needs)
     (λ c. search needs)
-    (λ c κs. search needs)
     (λ c κs. search needs)
     (λ c. search needs)
     (λ c. search needs)

@@ -10,48 +10,49 @@ use Rattle.translator.proofs.translate.Tie as tie
 
 returns : tie.Need-returns
 returns c =
-    let a = c .before .before .before .before .before .before .before .before .before .before .before .before .before .before .before .before .before .args in
-    let k = c .before .before .before .before .before .before .before .before .before .before .before .before .clear in
-    let f = c .before .before .before .before .before .before .before .before .clear2 in
-    let o = c .before .before .before .before .before .check in
-    let g = c .before .before .before .n .given in
-    let e : o .result ≡ checked.Good (g .0 .0) (g .0 .1 .0) = search needs in
-    answer-few (a .input .now) (a .locations .now) (a .edges .now) _ _ (k .ensures) (f .ensures) (k .kept .0) (f .kept .0) (o .result) (o .ensures .0) (o .ensures .1) (g .0 .0) (g .0 .1 .0) _ e (c .before .location-places .ensures) (c .if1 .taken)
+    let b = c .before .before .before .before .before in
+    let a = b .before .before .before .before .before .before .before .before .before .before .before .args in
+    let k = b .before .before .before .before .before .clear-both in
+    let o = b .check in
+    let g = c .before .before .before .n .given .0 in
+    let e : o .result ≡ checked.Good (g .0) (g .1 .0) = search needs in
+    answer-few (a .input .now) (a .locations .now) (a .edges .now) _ _ (k .ensures .0) (k .ensures .1) (k .kept .0) (k .kept .1 .0) (o .result) (o .ensures .0) (o .ensures .1)
+    (g .0) (g .1 .0) _ e (c .before .location-places .ensures) (c .if1 .taken)
 
 list-requires : tie.Need-list-requires
 list-requires c κs =
-    let a = c .before .before .before .before .before .before .before .before .before .before .before .before .before .before .before .before .before .before .before .args in
-    let k = c .before .before .before .before .before .before .before .before .before .before .before .before .before .before .clear in
-    let f = c .before .before .before .before .before .before .before .before .before .before .clear2 in
-    let o = c .before .before .before .before .before .before .before .check in
-    let g = c .before .before .before .before .before .n .given in
-    let e : o .result ≡ checked.Good (g .0 .0) (g .0 .1 .0) = search needs in
-    ready-to-list (a .input .now) (a .locations .now) (a .edges .now) _ _ (k .ensures) (f .ensures) (k .kept .0) (f .kept .0) (o .result) (o .ensures .0) (o .ensures .1) (g .0 .0) (g .0 .1 .0) _ e (c .before .before .before .location-places .ensures) (c .before .before .if1 .left)
+    let b = c .before .before .before .before .before .before .before in
+    let a = b .before .before .before .before .before .before .before .before .before .before .before .args in
+    let k = b .before .before .before .before .before .clear-both in
+    let o = b .check in
+    let g = c .before .before .before .before .before .n .given .0 in
+    let e : o .result ≡ checked.Good (g .0) (g .1 .0) = search needs in
+    ready-to-list (a .input .now) (a .locations .now) (a .edges .now) _ _ (k .ensures .0) (k .ensures .1) (k .kept .0) (k .kept .1 .0) (o .result) (o .ensures .0) (o .ensures .1)
+    (g .0) (g .1 .0) _ e (c .before .before .before .location-places .ensures) (c .before .before .if1 .left)
 
 returns-2 : tie.Need-returns-2
 returns-2 c =
-    let a = c .before .before .before .before .before .before .before .before .before .before .before .before .before .before .before .args in
-    let k = c .before .before .before .before .before .before .before .before .before .before .clear in
-    let f = c .before .before .before .before .before .before .clear2 in
-    let o = c .before .before .before .check in
-    let g = c .before .number .given in
-    let e : o .result ≡ checked.Bad (g .0 .0) (g .0 .1 .0) = search needs in
-    answer-bad (a .input .now) (a .locations .now) (a .edges .now) _ _ (k .ensures) (f .ensures) (k .kept .0) (f .kept .0) (o .result) (o .ensures .0) (o .ensures .1) (g .0 .0) (g .0 .1 .0) e
+    let b = c .before .before .before in
+    let a = b .before .before .before .before .before .before .before .before .before .before .before .args in
+    let k = b .before .before .before .before .before .clear-both in
+    let o = b .check in
+    let g = c .before .number .given .0 in
+    let e : o .result ≡ checked.Bad (g .0) (g .1 .0) = search needs in
+    answer-bad (a .input .now) (a .locations .now) (a .edges .now) _ _ (k .ensures .0) (k .ensures .1) (k .kept .0) (k .kept .1 .0) (o .result) (o .ensures .0) (o .ensures .1)
+    (g .0) (g .1 .0) e
 
 returns-3 : tie.Need-returns-3
 returns-3 c =
-    let a = c .before .before .before .before .before .before .before .before .before .before .before .before .before .before .before .before .before .before .before .before .before .before .before .before .args in
-    let k = c .before .before .before .before .before .before .before .before .before .before .before .before .before .before .before .before .before .before .before .clear in
-    let f = c .before .before .before .before .before .before .before .before .before .before .before .before .before .before .before .clear2 in
+    let b = c .before .before .before .before .before .before .before .before .before .before .before .before .before .before .before .before .before in
+    let a = b .before .before .before .before .before .before .args in
     let l = c .before .before .before .before .list in
     answered (a .input .now) (length (a .locations .now)) (length (a .edges .now)) (l .result) _ _
-    (l .ensures ∙ ap₂ (translate (a .input .now)) (k .kept .0) (f .kept .0))
+    (l .ensures ∙ ap₂ (translate (a .input .now)) (b .clear-both .kept .0) (b .clear-both .kept .1 .0))
 
 pub translate-spec : {M : Type 1} → statement M
 translate-spec =
     tie.close
     (tie.spec
-    (λ c κs. search needs)
     (λ c κs. search needs)
     (λ c κs. search needs)
     (λ c. search needs)

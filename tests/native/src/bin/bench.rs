@@ -1,14 +1,17 @@
-//! bench: times of the proved library and of the second translator, on the same inputs in one run. Prints, and judges nothing.
+//! bench: times of the proved library, of the second translator and, where it was linked, of a translator in C, on the same inputs in
+//! one run. Prints, and judges nothing.
 
 use std::hint::black_box;
 use std::time::Instant;
 
 /// The best of several rounds, in nanoseconds for one call.
-fn best(calls: usize, mut f: impl FnMut()) -> f64 {
+fn best<T>(calls: usize, mut f: impl FnMut() -> T) -> f64 {
     (0..7)
         .map(|_| {
             let began = Instant::now();
-            (0..calls).for_each(|_| f());
+            for _ in 0..calls {
+                black_box(f());
+            }
             began.elapsed().as_nanos() as f64 / calls as f64
         })
         .fold(f64::INFINITY, f64::min)
@@ -18,7 +21,7 @@ fn row(what: &str, ours: f64, theirs: f64) {
     println!("{what:<44} {ours:>10.0} ns {theirs:>10.0} ns   {:>6.1}", theirs / ours);
 }
 
-fn main() {
+fn images() {
     println!("{:<44} {:>13} {:>13}   {:>6}", "", "proved", "second", "ratio");
     // one list of 240 cells, and six lists of 40 with shared ends
     let list: Vec<u8> = (0..240).map(|i| if i == 239 { 0xfe } else { i as u8 + 1 }).collect();
@@ -26,8 +29,8 @@ fn main() {
     let one = [0, 0xfe, 0xfe, 0xfe, 0xfe, 0xfe];
     let heads = [0, 40, 80, 120, 160, 200];
     for (what, pointers, cells) in [("fold, a list of 240 cells", one, &list), ("fold, six lists of 40 cells", heads, &six)] {
-        let ours = best(2000, || drop(black_box(native::fold(black_box(&pointers), black_box(cells)))));
-        let theirs = best(2000, || drop(black_box(reference::fold(black_box(&pointers), black_box(cells)))));
+        let ours = best(2000, || native::fold(black_box(&pointers), black_box(cells)));
+        let theirs = best(2000, || reference::fold(black_box(&pointers), black_box(cells)));
         row(what, ours, theirs);
     }
     for (what, op, u, w) in [("step, p1 := p0.next on 240 cells", 3, 1, 0), ("step, test p0 = p1 on 240 cells", 9, 0, 1)] {
@@ -36,12 +39,90 @@ fn main() {
         let (mut p, mut c) = (one, list.clone());
         let ours = best(2000, || {
             p = one;
-            black_box(native::step(black_box(&mut p), black_box(&mut c), &record, 0, 0));
+            native::step(black_box(&mut p), black_box(&mut c), &record, 0, 0)
         });
         let theirs = best(2000, || {
             p = one;
-            black_box(reference::step(black_box(&mut p), black_box(&mut c), &record, 0, 0));
+            reference::step(black_box(&mut p), black_box(&mut c), &record, 0, 0)
         });
         row(what, ours, theirs);
     }
+}
+
+type Tables = (Vec<u8>, Vec<u8>);
+
+#[cfg(peer)]
+fn peer(input: &[u8], t: &mut Tables) -> bool {
+    extern "C" {
+        fn peer_translate(
+            input: *const u8, len: usize, locations: *mut u8, locations_len: usize, edges: *mut u8, edges_len: usize,
+            a: *mut u32, b: *mut u32, number: *mut u32, place: *mut u32,
+        ) -> i32;
+    }
+    let mut n = [0u32; 4];
+    let [a, b, c, d] = &mut n;
+    unsafe { peer_translate(input.as_ptr(), input.len(), t.0.as_mut_ptr(), t.0.len(), t.1.as_mut_ptr(), t.1.len(), a, b, c, d) };
+    true
+}
+
+#[cfg(not(peer))]
+fn peer(_: &[u8], _: &mut Tables) -> bool {
+    false
+}
+
+/// Nanoseconds for one call: proved, second, C. Tables of so many locations and twice as many edges.
+fn times(input: &[u8], places: usize) -> [f64; 3] {
+    let mut t = (vec![0u8; 32 * places], vec![0u8; 64 * places]);
+    let calls = if places > 100 && input.len() > 1000 { 30 } else { 300 };
+    let ours = best(calls, || native::translate(black_box(input), &mut t.0, &mut t.1));
+    let theirs = best(calls.min(20), || reference::translate(black_box(input), &mut t.0, &mut t.1));
+    let c = if peer(input, &mut t) { best(calls, || peer(black_box(input), &mut t)) } else { f64::NAN };
+    [ours, theirs, c]
+}
+
+fn translations() {
+    println!("\n{:<16} {:>5} {:>5} {:>12} {:>12} {:>10} {:>13} {:>9}", "", "loc.", "edges", "proved", "second", "C", "second/proved", "proved/C");
+    let dir = concat!(env!("CARGO_MANIFEST_DIR"), "/inputs");
+    let mut names: Vec<_> = std::fs::read_dir(dir).unwrap().map(|f| f.unwrap().path()).collect();
+    names.sort();
+    for path in &names {
+        let input = std::fs::read(path).unwrap();
+        let (_, [_, locations, edges]) = native::translate(&input, &mut [0; 32_768], &mut [0; 65_536]);
+        let [ours, theirs, c] = times(&input, 1024);
+        let name = path.file_stem().unwrap().to_string_lossy();
+        println!("{name:<16} {locations:>5} {edges:>5} {ours:>9.0} ns {theirs:>9.0} ns {c:>7.0} ns {:>13.1} {:>9.1}", theirs / ours, ours / c);
+    }
+    growth(&std::fs::read(&names[3]).unwrap());
+}
+
+/// The same routine in smaller tables stops with refusal 11 when they are full: how the time for an edge grows with the locations
+/// before it. A straight line through the two smallest, carried to no location, is the time without the search.
+fn growth(input: &[u8]) {
+    println!("\n{:>10} {:>20} {:>20}", "locations", "proved, ns an edge", "C, ns an edge");
+    let mut points = Vec::new();
+    for places in [16, 32, 64, 128, 256, 512, 1000] {
+        let [ours, _, c] = times(input, places);
+        let edges = reached(input, places) as f64;
+        println!("{places:>10} {:>20.1} {:>20.1}", ours / edges, c / edges);
+        points.push((places as f64, ours / edges));
+    }
+    let (last, mid) = (points[6], points[4]);
+    let slope = (last.1 - mid.1) / (last.0 - mid.0);
+    println!("each location before it adds {slope:.3} ns to an edge; without the search an edge takes about {:.1} ns", mid.1 - slope * mid.0);
+}
+
+/// The edges found before the tables are full: the least number of edge places with which 11 still comes.
+fn reached(input: &[u8], places: usize) -> usize {
+    let (mut low, mut high) = (0, 2 * places);
+    while low < high {
+        let middle = (low + high) / 2;
+        let (refusal, _) = native::translate(input, &mut vec![0; 32 * places], &mut vec![0; 32 * middle]);
+        if refusal == 12 { low = middle + 1 } else { high = middle }
+    }
+    low
+}
+
+fn main() {
+    images();
+    translations();
 }
