@@ -4,8 +4,10 @@ use std::process::Command;
 fn main() {
     let dir = concat!(env!("CARGO_MANIFEST_DIR"), "/../../target/staticlib");
     println!("cargo:rustc-link-search=native={dir}");
-    println!("cargo:rustc-link-lib=static=exports");
-    println!("cargo:rerun-if-changed={dir}/libexports.a");
+    for name in ["exports", "translator"] {
+        println!("cargo:rustc-link-lib=static={name}");
+        println!("cargo:rerun-if-changed={dir}/lib{name}.a");
+    }
     println!("cargo:rustc-check-cfg=cfg(peer)");
     println!("cargo:rerun-if-env-changed=PEER");
     if let Ok(peer) = std::env::var("PEER") {
