@@ -95,8 +95,8 @@ fn translations() {
     growth(&std::fs::read(&names[3]).unwrap());
 }
 
-/// The same routine in smaller tables stops with refusal 11 when they are full: how the time for an edge grows with the locations
-/// before it. A straight line through the two smallest, carried to no location, is the time without the search.
+/// The same routine in smaller tables stops with refusal 11 when they are full: how the time for an edge grows with the number of
+/// locations. A straight line through two of the points, carried to no location, estimates the time without the search.
 fn growth(input: &[u8]) {
     println!("\n{:>10} {:>20} {:>20}", "locations", "proved, ns an edge", "C, ns an edge");
     let mut points = Vec::new();
@@ -106,9 +106,9 @@ fn growth(input: &[u8]) {
         println!("{places:>10} {:>20.1} {:>20.1}", ours / edges, c / edges);
         points.push((places as f64, ours / edges));
     }
-    let (last, mid) = (points[6], points[4]);
-    let slope = (last.1 - mid.1) / (last.0 - mid.0);
-    println!("each location before it adds {slope:.3} ns to an edge; without the search an edge takes about {:.1} ns", mid.1 - slope * mid.0);
+    let (low, high) = (points[2], points[5]);
+    let slope = (high.1 - low.1) / (high.0 - low.0);
+    println!("each location adds {slope:.3} ns to an edge; without the search an edge takes about {:.1} ns", low.1 - slope * low.0);
 }
 
 /// The edges found before the tables are full: the least number of edge places with which 11 still comes.
