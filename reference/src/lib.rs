@@ -20,6 +20,7 @@ mod machine;
 mod probe;
 mod random;
 mod records;
+mod routines;
 pub mod selftest;
 mod statement;
 mod text;

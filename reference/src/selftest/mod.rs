@@ -3,16 +3,19 @@
 
 mod counts;
 mod describes;
+mod draws;
 mod exact;
 mod images;
 mod mutate;
+mod refusals;
 mod runs;
 mod tables;
 
 use crate::automaton::Automaton;
 use crate::input::read_routine;
-use crate::random::{random_routine, Random};
+use crate::random::Random;
 use crate::records::hex;
+use crate::routines::random_routine;
 
 pub use counts::Counts;
 

@@ -3,8 +3,9 @@
 
 use super::counts::Counts;
 use super::tables::want_refusal;
-use crate::random::{Drawn, Random};
+use crate::random::Random;
 use crate::records::{Record, NODES, NULL, RECORD, SHAPES, START, STATEMENT, STATEMENTS, UNUSED};
+use crate::routines::Drawn;
 use crate::statement::{Op, OPS};
 use crate::translate::translate;
 

@@ -2,6 +2,7 @@
 
 use super::counts::Counts;
 use super::describes::describes;
+use super::draws::{any_unused_cell, random_edge_number};
 use crate::automaton::{Automaton, Configuration};
 use crate::fold::{fold_heap, Counters};
 use crate::heap::Heap;
@@ -187,26 +188,6 @@ pub fn follow_the_edges(
         check_match(routine, automaton, &running, &at)?;
     }
     Ok(())
-}
-
-fn random_edge_number(random: &mut Random, automaton: &Automaton, at: &Configuration) -> u64 {
-    let leaving = automaton.leaving(at.location);
-    match random.below(20) {
-        0 => random.next(),
-        1 => random.below(automaton.edges.len() + 2) as u64,
-        2 => automaton.edges.len() as u64,
-        _ if leaving.is_empty() => random.below(automaton.edges.len() + 1) as u64,
-        _ => leaving[random.below(leaving.len())] as u64,
-    }
-}
-
-fn any_unused_cell(random: &mut Random, heap: &Heap) -> usize {
-    loop {
-        let cell = random.below(heap.cells.len() + 3);
-        if !heap.in_use(cell) {
-            return cell;
-        }
-    }
 }
 
 fn count_step(counts: &mut Counts, routine: &Routine, running: &Running) {

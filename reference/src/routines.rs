@@ -1,0 +1,116 @@
+//! Random routines and starting shapes for the selftest.
+
+use crate::fold::fold_heap;
+use crate::heap::{Heap, Value, POINTERS};
+use crate::random::{random_heap, Random};
+use crate::records::{Record, RECORD, STATEMENT};
+use crate::statement::OPS;
+
+/// The records of a routine and of its starting shapes.
+pub struct Drawn {
+    pub statements: Vec<Record>,
+    pub shapes: Vec<Record>,
+}
+
+impl Drawn {
+    pub fn input(&self) -> Vec<u8> {
+        [self.statements.concat(), self.shapes.concat()].concat()
+    }
+}
+
+/// A routine that passes all checks. Most are short; some are as long as may
+/// be, and some are made so that their listings grow large.
+pub fn random_routine(random: &mut Random) -> Drawn {
+    if random.chance(4) {
+        return ring_walk(random);
+    }
+    let (statements, shapes) = match random.below(100) {
+        0..=69 => (random.between(1, 8), random.between(1, 3)),
+        70..=94 => (random.between(6, 24), random.between(1, 5)),
+        _ => (random.between(25, 64), random.between(1, 16)),
+    };
+    let pointers = random.between(1, POINTERS);
+    let weights = OP_WEIGHTS[random.weighted(&[5, 2, 3])];
+    let statements = (0..statements)
+        .map(|number| random_statement(random, number, statements, pointers, &weights))
+        .collect();
+    Drawn {
+        statements,
+        shapes: random_shapes(random, shapes),
+    }
+}
+
+/// How often each op is drawn: all kinds, few that leak, many that read and
+/// write.
+const OP_WEIGHTS: [[usize; 12]; 3] = [
+    [1, 2, 4, 5, 2, 4, 3, 2, 3, 3, 4, 1],
+    [1, 0, 1, 1, 0, 1, 1, 1, 3, 4, 5, 2],
+    [1, 1, 5, 9, 1, 7, 4, 3, 2, 2, 4, 1],
+];
+
+/// Pointers that wander over rings by choice: they seldom fault, and stand to
+/// each other in very many ways.
+fn ring_walk(random: &mut Random) -> Drawn {
+    const WEIGHTS: [usize; 12] = [0, 0, 1, 8, 0, 1, 0, 0, 1, 1, 6, 1];
+    let count = random.between(3, 12);
+    // The last pointer keeps all cells reachable and is never moved.
+    let pointers = random.between(2, POINTERS - 1);
+    let statements = (0..count)
+        .map(|number| random_statement(random, number, count, pointers, &WEIGHTS))
+        .collect();
+    let mut heap = Heap::empty();
+    let cells = random.between(1, 8);
+    for cell in 0..cells {
+        let next = if cell + 1 < cells {
+            cell + 1
+        } else {
+            random.below(cells)
+        };
+        heap.cells.push(Some(Value::Cell(next)));
+    }
+    heap.pointers = heap.pointers.map(|_| Value::Cell(random.below(cells)));
+    heap.pointers[POINTERS - 1] = Value::Cell(0);
+    Drawn {
+        statements,
+        shapes: vec![fold_heap(&heap).0],
+    }
+}
+
+/// A statement that passes all checks, at this number of so many.
+pub fn random_statement(
+    random: &mut Random,
+    number: usize,
+    statements: usize,
+    pointers: usize,
+    weights: &[usize; 12],
+) -> Record {
+    let mut record = [0; RECORD];
+    record[0] = STATEMENT;
+    let op = random.weighted(weights);
+    record[1] = op as u8;
+    for (field, used) in OPS[op].used_fields().into_iter().enumerate() {
+        if !used {
+            continue;
+        }
+        let value = match field {
+            0 | 1 => random.below(pointers),
+            2 if random.chance(70) => (number + 1) % statements,
+            _ => random.below(statements),
+        };
+        record[2 + field] = value as u8;
+    }
+    record
+}
+
+/// Different shapes, at least one and at most so many.
+fn random_shapes(random: &mut Random, count: usize) -> Vec<Record> {
+    let mut shapes: Vec<Record> = Vec::new();
+    for _ in 0..count {
+        let most = random.between(0, 18);
+        let (shape, _) = fold_heap(&random_heap(random, most));
+        if !shapes.contains(&shape) {
+            shapes.push(shape);
+        }
+    }
+    shapes
+}
