@@ -53,6 +53,7 @@ pub mod Stepping
 pub mod Single
 pub mod Whole
 pub mod Demand
+pub mod Digits
 pub mod FullListing
 pub mod Promises
 pub mod PromisesShapes

@@ -1,5 +1,4 @@
--- The promises of demand 2 about edges, listings, places and records, those about expansions, and demand 3. Each is a type, and under it stands its
--- proof, which cites a law.
+-- The promises of demand 2 about edges, listings, places, records and expansions, and demand 3. Each is a type; its proof under it cites a law.
 use Prim.Native.Nat.{_+_, _-_, _<_, _≤_, ℕ}
 use mathlib.Core.Path.{_≡_, refl}
 use mathlib.Core.Logic.{_↔_, _⊎_}
@@ -22,6 +21,7 @@ use Rattle.model.proofs.EdgeBack.{edge-branch, edge-from, edge-guard, e
 use Rattle.model.proofs.Effects.{effect-alike, exp-split}
 use Rattle.model.proofs.Facts.{heap-closed, heap-kept, kept-same, unused-of, used-of}
 use Rattle.model.proofs.Folds.{counters-grow, fold-same, order-cat}
+use Rattle.model.proofs.FullListing.{full-exists}
 use Rattle.model.proofs.Listings.{Exact, IsFull, Reached, Refused, UnusedZero, Writable, WritableLoc, linkAt, locAt, stmtRecord}
 use Rattle.model.proofs.Lists.{In, Pairs}
 use Rattle.model.proofs.Moves.{good-writable}
@@ -95,10 +95,10 @@ pub fits-is-accepted : FitsIsAccepted
 fits-is-accepted = fits-accepted
 
 abbrev pub OneListing : Type 0
-OneListing = (r : Routine) (t u : Listing) → IsFull r t → IsFull r u → t ≡ u
+OneListing = (s : List ℕ) (r : Routine) → check s ≡ good r → (t : Listing) × IsFull r t × ((u : Listing) → IsFull r u → u ≡ t)
 
 pub one-full-listing : OneListing
-one-full-listing = full-one
+one-full-listing s r e = let f = full-exists s r e in (f .0, f .1, λ u k. full-one r u (f .0) k (f .1))
 
 -- "for 11 and 12 the number of the location being explored, or, while starting shapes are entered, the number, from 0 among them, of the shape
 -- that found no place"; "For each edge, its target's place comes before its own."
