@@ -49,6 +49,7 @@ pub mod Moves
 pub mod Refusals
 pub mod Outcomes
 pub mod Images
+pub mod RoundTrips
 pub mod Stepping
 pub mod Single
 pub mod Whole

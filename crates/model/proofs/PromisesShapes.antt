@@ -8,7 +8,7 @@ use mathlib.Core.List.{List, map}
 use lib.ListN.{length, length-map}
 use Rattle.model.specs.Base.{mem, numbers}
 use Rattle.model.specs.Heap.{Heap, IsHeap, cell, closed, inUse, kept, next, order}
-use Rattle.model.specs.Image.{unfoldHeap}
+use Rattle.model.specs.Image.{foldImage, heapOf, unfoldHeap, unfoldImage}
 use Rattle.model.specs.Shape.{Seg, canonical, cells, core, counters, nodeVal, segments, shape}
 use Rattle.model.proofs.Canon.{fold-canon}
 use Rattle.model.proofs.Canonical.{canon-canonical, canonical-canon, canonical-is}
@@ -21,6 +21,7 @@ use Rattle.model.proofs.Merge.{merge-ends, merge-exists, merge-heap, me
 use Rattle.model.proofs.Notions.{EveryCore, IsSegment, Merges, MergesTo, Positive, Reaches, Renames, Two, counted, flat, heads, segAt}
 use Rattle.model.proofs.Order.{order-once}
 use Rattle.model.proofs.Reach.{cell-lost, kept-reaches, lost-cell, order-reaches, reaches-order}
+use Rattle.model.proofs.RoundTrips.{fold-unfold-bytes, unfold-fold-bytes}
 use Rattle.model.proofs.SameShape.{fold-unfold, same-renamed}
 use Rattle.model.proofs.Segments.{each-cell-once, itself-again, segment-listed, segment-unique, segments-are, twelve}
 use Rattle.model.proofs.Unfold.{counters-unfold, shape-unfold, unfold-is-heap}
@@ -193,3 +194,20 @@ UnfoldThenFold = (h : Heap) → closed h ≡ true → canonical h ≡ true → (
 pub unfold-then-fold : UnfoldThenFold
 unfold-then-fold h k e cs len pos = let C = canonical-canon h (test-closed h k) e in
     (unfold-is-heap h C cs len pos, shape-unfold h C cs len pos, counters-unfold h C cs len pos)
+
+-- the same for the calls, on bytes: what an accepted unfolding leaves folds to what was unfolded,
+abbrev pub UnfoldThenFoldBytes : Type 0
+UnfoldThenFoldBytes = (r vs ps cs : List ℕ) → length vs ≡ 12 → unfoldImage r vs ps cs .refusal ≡ 0
+    → foldImage (unfoldImage r vs ps cs .ptrBytes) (unfoldImage r vs ps cs .cellBytes) ≡ record { refusal = 0; shapeBytes = r; counts = vs }
+
+pub unfold-then-fold-bytes : UnfoldThenFoldBytes
+unfold-then-fold-bytes = unfold-fold-bytes
+
+-- and what an accepted fold gives unfolds, into as many cells or more, to the heap with its cells renamed
+abbrev pub FoldThenUnfoldBytes : Type 0
+FoldThenUnfoldBytes = (ps cs qs ds : List ℕ) → foldImage ps cs .refusal ≡ 0 → length qs ≡ 6 → length cs ≤ length ds → length ds ≤ 240
+    → let F = foldImage ps cs in let U = unfoldImage (F .shapeBytes) (F .counts) qs ds in
+    (U .refusal ≡ 0) × ((f : ℕ → ℕ) × Renames f (heapOf ps cs) (heapOf (U .ptrBytes) (U .cellBytes)))
+
+pub fold-then-unfold-bytes : FoldThenUnfoldBytes
+fold-then-unfold-bytes = fold-unfold-bytes

@@ -1,0 +1,197 @@
+-- Folding and unfolding on bytes undo each other: a record and its counters come back as they stood, a heap with its cells renamed.
+use Prim.Native.Nat.{_+_, _-_, _<_, _≤_, suc, zero, ℕ}
+use mathlib.Core.Path.{_∙_, _≡_, ap, refl, subst, sym}
+use mathlib.Core.Logic.{inl, inr}
+use mathlib.Core.Bool.{_&&_, _||_, false, true}
+use mathlib.Core.List.{List, [], _++_, _∷_, map}
+use native.Mathlib.Omega.{arith}
+use lib.Dec.{eqb, leb, ltb}
+use lib.ListN.{drop, getD, length, length-append, length-drop, length-map, replicate, take, take-append-drop}
+use lib.Seq.{drop-at, length-take-le, take-at}
+use borrow.Author.Tests.{le-leb, leb-true, lt-ltb, ne-eqb}
+use Rattle.model.specs.Base.{all, sum}
+use Rattle.model.specs.Heap.{Heap, IsHeap, Slot, Val, cell, holds, next, null, order, undef, unused}
+use Rattle.model.specs.Image.{Unfolding, cellBytesOf, cellSlot, foldImage, heapOf, refusalUnfold, unfoldHeap, unfoldImage}
+use Rattle.model.specs.Records.{byte, filled, isZero, layoutH, shapeOf, shapeRecord, slotByte, valByte, valOf, valueByte}
+use Rattle.model.specs.Shape.{Seg, canonical, counters, segments, shape, size}
+use Rattle.model.proofs.Bytes.{all-zero, filled-length, small-up, val-back}
+use Rattle.model.proofs.Canon.{fold-canon}
+use Rattle.model.proofs.Canonical.{canon-canonical, canonical-canon}
+use Rattle.model.proofs.Facts.{heap-closed, heap-kept, test-closed}
+use Rattle.model.proofs.Images.{fold-gives, fold-number, fold-writable, image-accepted, unfold-accepted, unfold-lengths, unfold-number}
+use Rattle.model.proofs.Iso.{renamed-same}
+use Rattle.model.proofs.Listings.{SmallSlot, SmallVal, Writable}
+use Rattle.model.proofs.Lists.{In, all-in, all-of, getD-in, in-append-cases, in-getD, in-map, map-back, map-id}
+use Rattle.model.proofs.Logic.{and-l, and-r, or-l, or-r}
+use Rattle.model.proofs.Notions.{Positive, Renames, flat, renameVal}
+use Rattle.model.proofs.Order.{order-once, pigeon, toured, used-below}
+use Rattle.model.proofs.ReadBack.{shape-length, shape-shape}
+use Rattle.model.proofs.SameShape.{same-renamed}
+use Rattle.model.proofs.ShapeBack.{layout-closed, layout-few, layout-slots, shape-record-back}
+use Rattle.model.proofs.Start.{flat-is}
+use Rattle.model.proofs.Unfold.{counters-unfold, shape-unfold, unfold-is-heap, unfold-length}
+use Rattle.model.proofs.Walks.{Closed, ClosedHeap, closed-in}
+use Rattle.model.proofs.Ways.{count-length}
+
+-- ---- a heap's bytes are read back as the heap, but for slots not in use after its own: its cells keep their names
+
+slot-read : (s : Slot) → ((v : Val) → s ≡ holds v → SmallVal 0xfd v) → cellSlot (slotByte s) ≡ s
+slot-read unused k = refl
+slot-read (holds (cell n)) k = let h : n < 0xfd = k (cell n) refl in
+    rw (ne-eqb n 0xfd (λ e. omega arith), ne-eqb n 0xfe (λ e. omega arith), ne-eqb n 0xff (λ e. omega arith))
+slot-read (holds null) k = refl
+slot-read (holds undef) k = refl
+
+next-read : (ss : List Slot) (m n : ℕ) → ((s : Slot) → In s ss → cellSlot (slotByte s) ≡ s)
+    → getD (map cellSlot (map slotByte ss ++ replicate m 0xfd)) n unused ≡ getD ss n unused
+next-read [] zero n h = refl
+next-read [] (suc m) zero h = refl
+next-read [] (suc m) (suc n) h = next-read [] m n h
+next-read (s ∷ ss) m zero h = h s (inl refl)
+next-read (s ∷ ss) m (suc n) h = next-read ss m n (λ t q. h t (inr q))
+
+rename-none : (v : Val) → renameVal (λ c. c) v ≡ v
+rename-none (cell n) = refl
+rename-none null = refl
+rename-none undef = refl
+
+module _ (g : Heap) (cl : ClosedHeap g) (few : length (g .slots) ≤ 240) where
+  few-small : (v : Val) → Closed (next g) v → SmallVal 0xfd v
+  few-small (cell c) k = omega (arith, used-below (g .slots) c k)
+  few-small null k = tt
+  few-small undef k = tt
+
+  heap-read : (n : ℕ) → Renames (λ c. c) g (heapOf (map valByte (g .ptrs)) (cellBytesOf n g))
+  heap-read n =
+      let stand : (c : ℕ) → next (heapOf (map valByte (g .ptrs)) (cellBytesOf n g)) c ≡ next g c =
+      λ c. next-read (g .slots) (n - length (map slotByte (g .slots))) c
+      (λ s q. slot-read s (λ v e. let r = in-getD (g .slots) unused s q in few-small v (cl .1 (r .0) v (r .2 ∙ e)))) in
+      record {
+        ptrsAre = map-back valByte valOf (g .ptrs)
+            (λ v q. val-back v (small-up 0xfd 0xfe v (omega arith) (few-small v (closed-in (next g) (g .ptrs) v (cl .0) q))))
+            ∙ sym (map-id (renameVal (λ c. c)) (g .ptrs) (λ v q. rename-none v));
+        nextsAre = λ c v e. stand c ∙ e ∙ ap holds (sym (rename-none v));
+        onto = λ c u. (c, (u .0, sym (stand c) ∙ u .1), refl);
+        oneToOne = λ c d u w e. e;
+      }
+
+sum-filled : (cs : List ℕ) (m : ℕ) → sum (λ v. v) (cs ++ replicate m 0) ≡ sum (λ v. v) cs
+sum-filled [] zero = refl
+sum-filled [] (suc m) = omega (arith, sum-filled [] m)
+sum-filled (c ∷ cs) m = ap (λ x. c + x) (sum-filled cs m)
+
+zeros-pass : (m : ℕ) → all isZero (replicate m 0) ≡ true
+zeros-pass zero = refl
+zeros-pass (suc m) = zeros-pass m
+
+-- counters with zeros after the first k are the first k, filled up
+filled-back : (k : ℕ) (vs : List ℕ) → length vs ≡ 12 → k ≤ 12 → all isZero (drop k vs) ≡ true → filled 12 (take k vs) ≡ vs
+filled-back k vs l h z =
+    let e : 12 - length (take k vs) ≡ length (drop k vs) = omega (arith, length-take-le k vs (omega arith), length-drop k vs) in
+    ap (λ m. take k vs ++ replicate m 0) e ∙ ap (λ x. take k vs ++ x) (sym (all-zero (drop k vs) z)) ∙ take-append-drop k vs
+
+sizes-sum : (ss : List Seg) → sum (λ v. v) (map size ss) ≡ length (flat ss)
+sizes-sum [] = refl
+sizes-sum (s ∷ ss) = omega (arith, sizes-sum ss, length-append (s .rest) (flat ss))
+
+-- the counters of a heap add up to no more than its slots
+counters-room : (h : Heap) → IsHeap h → sum (λ v. v) (counters h) ≤ length (h .slots)
+counters-room h x =
+    let cl = heap-closed h x in
+    let few = pigeon (length (h .slots)) (order h) (order-once h) (λ n q. used-below (h .slots) n (toured h cl .used n q)) in
+    omega (arith, sizes-sum (segments h), ap length (flat-is h cl (heap-kept h x)))
+
+-- ---- unfolding, then folding
+
+unfolded : (r vs ps cs : List ℕ) → refusalUnfold r vs (length ps) (length cs) ≡ 0 → let g = unfoldHeap (shapeOf r) (take (byte r 3) vs) in
+    unfoldImage r vs ps cs ≡ record { refusal = 0; ptrBytes = map valByte (g .ptrs); cellBytes = cellBytesOf (length cs) g }
+unfolding unfoldImage
+unfolded r vs ps cs e = rw (e, unfoldImage)
+
+-- what an accepted unfolding leaves is a heap of the shape read, with the counters given
+unfolded-heap : (r vs ps cs : List ℕ) → length vs ≡ 12 → unfoldImage r vs ps cs .refusal ≡ 0
+    → let h = heapOf (unfoldImage r vs ps cs .ptrBytes) (unfoldImage r vs ps cs .cellBytes) in
+    IsHeap h × (shape h ≡ shapeOf r) × (counters h ≡ take (byte r 3) vs) × (filled 12 (take (byte r 3) vs) ≡ vs)
+unfolded-heap r vs ps cs l z =
+    let e = sym (unfold-number r vs ps cs) ∙ z in
+    let A = unfold-accepted r vs (length ps) (length cs) .0 e in
+    let S = shapeOf r in
+    let ws = take (byte r 3) vs in
+    let g = unfoldHeap S ws in
+    let few = layout-few r (A .2) (A .3) in
+    let t = leb (sum (λ v. v) vs) (length cs) in
+    let p = all (leb 1) ws in let o = all isZero (drop (byte r 3) vs) in
+    let po = and-l (p && o) t (A .5) in
+    let len : length ws ≡ length (S .slots) = length-take-le (byte r 3) vs (omega arith) ∙ sym (layout-slots r (A .2) (A .3)) in
+    let C = canonical-canon S (test-closed S (layout-closed r (A .2) (A .3))) (A .4) in
+    let pos : Positive ws = λ n q. leb-true 1 (getD ws n 1) (all-in (leb 1) ws (getD ws n 1) (and-l p o po) (getD-in ws 1 n q)) in
+    let F : filled 12 ws ≡ vs = filled-back (byte r 3) vs l few (and-r p o po) in
+    let room = leb-true (sum (λ v. v) vs) (length cs) (and-r (p && o) t (A .5)) in
+    let short : length (g .slots) ≤ 240 = omega (arith, unfold-length S ws len, sum-filled ws (12 - length ws), ap (sum (λ v. v)) F, A .1) in
+    let I = unfold-is-heap S C ws len pos in
+    let R = renamed-same (λ c. c) g (heapOf (map valByte (g .ptrs)) (cellBytesOf (length cs) g)) I (heap-read g (heap-closed g I) short (length cs)) in
+    let q = ap (λ (u : Unfolding). heapOf (u .ptrBytes) (u .cellBytes)) (unfolded r vs ps cs e) in
+    (subst IsHeap (sym q) (R .0), ap shape q ∙ R .1 ∙ shape-unfold S C ws len pos, ap counters q ∙ R .2 ∙ counters-unfold S C ws len pos, F)
+
+-- folding what an accepted unfolding leaves is accepted, and gives back the record and the counters that were unfolded
+pub unfold-fold-bytes : (r vs ps cs : List ℕ) → length vs ≡ 12 → unfoldImage r vs ps cs .refusal ≡ 0
+    → foldImage (unfoldImage r vs ps cs .ptrBytes) (unfoldImage r vs ps cs .cellBytes) ≡ record { refusal = 0; shapeBytes = r; counts = vs }
+unfold-fold-bytes r vs ps cs l z =
+    let P = unfoldImage r vs ps cs .ptrBytes in
+    let D = unfoldImage r vs ps cs .cellBytes in
+    let A = unfold-accepted r vs (length ps) (length cs) .0 (sym (unfold-number r vs ps cs) ∙ z) in
+    let L = unfold-lengths r vs ps cs in
+    let X = unfolded-heap r vs ps cs l z in
+    let n : foldImage P D .refusal ≡ 0 = fold-number P D ∙ image-accepted P D .1 (L .0 ∙ A .0, omega (arith, L .1, A .1), X .0) in
+    let G = fold-gives P D n in
+    let s = G .0 ∙ ap shapeRecord (X .1) ∙ shape-record-back r (A .2) (A .3) in
+    λ i. record { refusal = n i; shapeBytes = s i; counts = (G .1 ∙ ap (filled 12) (X .2) ∙ X .3) i }
+
+-- ---- folding, then unfolding
+
+slot-passes : (k : ℕ) (s : Slot) → SmallSlot k s → valueByte k (slotByte s) ≡ true
+slot-passes k unused h = absurd h
+slot-passes k (holds (cell n)) h = or-l (ltb n k || eqb n 0xfe) (eqb n 0xff) (or-l (ltb n k) (eqb n 0xfe) (lt-ltb n k h))
+slot-passes k (holds null) h = or-l (ltb 0xfe k || true) false (or-r (ltb 0xfe k) true refl)
+slot-passes k (holds undef) h = or-r (ltb 0xff k || false) true refl
+
+-- the record of a shape keeps the layout
+layout-written : (h : Heap) → Writable h → layoutH (shapeRecord h) ≡ true
+layout-written h W =
+    let k = length (h .slots) in
+    let ps = map valByte (h .ptrs) in
+    let ss = map slotByte (h .slots) in
+    let z : List ℕ = replicate (28 - length (ps ++ ss)) 0 in
+    let l : length (ps ++ ss) ≡ 6 + k = omega (arith, length-append ps ss, length-map (h .ptrs) valByte, length-map (h .slots) slotByte, W .six) in
+    let v : all (valueByte k) (take (6 + k) ((ps ++ ss) ++ z)) ≡ true =
+    ap (all (valueByte k)) (take-at (ps ++ ss) z (6 + k) l) ∙ all-of (valueByte k) (ps ++ ss) (λ b i. in-append-cases b ps ss i
+    (λ j. let r = in-map valByte b (h .ptrs) j in ap (valueByte k) (r .2) ∙ slot-passes k (holds (r .0)) (W .pointers (r .0) (r .1)))
+    (λ j. let r = in-map slotByte b (h .slots) j in ap (valueByte k) (r .2) ∙ slot-passes k (r .0) (W .nexts (r .0) (r .1)))) in
+    let e : suc (suc (suc (suc (6 + k)))) ≡ 10 + k = omega arith in
+    let o : all isZero (drop (10 + k) (shapeRecord h)) ≡ true = subst (λ n. all isZero (drop n (shapeRecord h)) ≡ true) e
+    (ap (all isZero) (drop-at (ps ++ ss) z (6 + k) l) ∙ zeros-pass (28 - length (ps ++ ss))) in
+    rw (le-leb k 12 (W .few), v, o)
+
+-- unfolding what an accepted fold gives is accepted where there is room for the cells, and leaves the heap with its cells renamed
+pub fold-unfold-bytes : (ps cs qs ds : List ℕ) → foldImage ps cs .refusal ≡ 0 → length qs ≡ 6 → length cs ≤ length ds → length ds ≤ 240
+    → let F = foldImage ps cs in let U = unfoldImage (F .shapeBytes) (F .counts) qs ds in
+    (U .refusal ≡ 0) × ((f : ℕ → ℕ) × Renames f (heapOf ps cs) (heapOf (U .ptrBytes) (U .cellBytes)))
+fold-unfold-bytes ps cs qs ds e q6 room most =
+    let A = image-accepted ps cs .0 (sym (fold-number ps cs) ∙ e) in
+    let G = fold-gives ps cs e in
+    let h = heapOf ps cs in let r = shapeRecord (shape h) in let k = length (shape h .slots) in
+    let ws = counters h in
+    let z : List ℕ = replicate (12 - length ws) 0 in
+    let W = fold-writable h (A .2) (length-map ps valOf ∙ A .0) in
+    let S : shapeOf r ≡ shape h = shape-shape (shape h) W in
+    let c = ap canonical S ∙ canon-canonical (shape h) (fold-canon h (heap-closed h (A .2)) (heap-kept h (A .2))) in
+    let l = count-length h (heap-closed h (A .2)) (heap-kept h (A .2)) in
+    let t : take k (ws ++ z) ≡ ws = take-at ws z k l in
+    let p : all (leb 1) (take k (ws ++ z)) ≡ true =
+    ap (all (leb 1)) t ∙ all-of (leb 1) ws (λ n q. le-leb 1 n (omega (arith, in-map size n (segments h) q .2))) in
+    let o : all isZero (drop k (ws ++ z)) ≡ true = ap (all isZero) (drop-at ws z k l) ∙ zeros-pass (12 - length ws) in
+    let s : sum (λ v. v) (ws ++ z) ≤ length ds = omega (arith, sum-filled ws (12 - length ws), counters-room h (A .2), length-map cs cellSlot) in
+    let n : unfoldImage r (ws ++ z) qs ds .refusal ≡ 0 = unfold-number r (ws ++ z) qs ds ∙ unfold-accepted r (ws ++ z) (length qs) (length ds) .1
+    (q6, most, shape-length (shape h) W, layout-written (shape h) W, c, rw (p, o, le-leb (sum (λ v. v) (ws ++ z)) (length ds) s)) in
+    let X = unfolded-heap r (ws ++ z) qs ds (filled-length 12 ws (G .3)) n in
+    rw (G .0, G .1) (n, same-renamed h _ (A .2) (X .0) (sym (X .1 ∙ S)) (sym (X .2 ∙ t)))
