@@ -1,4 +1,4 @@
--- Laws on lists: the same part of two lists, lists that differ at a place, and places by number.
+-- Laws on lists: parts of two lists that are the same, and places by number.
 use Prim.Native.Nat.{ℕ, zero, suc, _+_, _≤_, _<_}
 use mathlib.Core.Path.{_≡_, refl, sym, ap, ap₂, _∙_}
 use mathlib.Core.Bool.{Bool, true, false, cond}
@@ -8,7 +8,6 @@ use lib.Dec.{eqb}
 use lib.ListN.{length, take, drop, getD, length-take, length-drop}
 use lib.Seq.{ext-getD, getD-take, getD-drop}
 use Rattle.model.specs.Base.{sameList, placeOf, numbers}
-use Rattle.model.proofs.Logic.{not-true}
 use Rattle.model.proofs.Same.{bytes-same, same-bytes-refl}
 
 -- a part of a list, by place
@@ -18,18 +17,22 @@ part-at t a n k h = getD-take n (drop a t) k 0 h ∙ getD-drop a t k 0
 pub part-length : (t : List ℕ) (a n : ℕ) → a + n ≤ length t → length (take n (drop a t)) ≡ n
 part-length t a n h = simp (length-take, length-drop) (omega arith)
 
--- lists that differ at a place
-pub same-differ : (l m : List ℕ) (k : ℕ) → (getD l k 0 ≡ getD m k 0 → ⊥) → sameList eqb l m ≡ false
-same-differ l m k h = not-true (sameList eqb l m) (λ e. h (ap (λ z. getD z k 0) (bytes-same l m e)))
+-- the n elements of t from a on are those of r from b on
+abbrev pub Agree : List ℕ → ℕ → List ℕ → ℕ → ℕ → Type 0
+Agree t a r b n = (k : ℕ) → k < n → getD t (a + k) 0 ≡ getD r (b + k) 0
 
--- a part of a list that agrees with another list at each place
-pub same-part : (t r : List ℕ) (a n : ℕ) → a + n ≤ length t → length r ≡ n → ((k : ℕ) → k < n → getD t (a + k) 0 ≡ getD r k 0)
-    → sameList eqb (take n (drop a t)) r ≡ true
-same-part t r a n h l f =
+-- parts of two lists are the same exactly where they agree at each place
+pub same-agree : (t : List ℕ) (a : ℕ) (r : List ℕ) (b n : ℕ) → sameList eqb (take n (drop a t)) (take n (drop b r)) ≡ true → Agree t a r b n
+same-agree t a r b n e k h =
+    sym (part-at t a n k h) ∙ ap (λ z. getD z k 0) (bytes-same (take n (drop a t)) (take n (drop b r)) e) ∙ part-at r b n k h
+
+pub agree-same : (t : List ℕ) (a : ℕ) (r : List ℕ) (b n : ℕ) → a + n ≤ length t → b + n ≤ length r → Agree t a r b n
+    → sameList eqb (take n (drop a t)) (take n (drop b r)) ≡ true
+agree-same t a r b n h l f =
     let p = part-length t a n h in
-    let e : take n (drop a t) ≡ r = ext-getD 0 (take n (drop a t)) r (p ∙ sym l)
-    (λ k q. let q′ : k < n = omega arith in part-at t a n k q′ ∙ f k q′) in
-    ap (λ z. sameList eqb z r) e ∙ same-bytes-refl r
+    let e : take n (drop a t) ≡ take n (drop b r) = ext-getD 0 (take n (drop a t)) (take n (drop b r)) (p ∙ sym (part-length r b n l))
+    (λ k q. let q′ : k < n = omega arith in part-at t a n k q′ ∙ f k q′ ∙ sym (part-at r b n k q′)) in
+    ap (λ z. sameList eqb z (take n (drop b r))) e ∙ same-bytes-refl (take n (drop b r))
 
 pub length-numbers : (i n : ℕ) → length (numbers i n) ≡ n
 length-numbers i zero = refl

@@ -18,6 +18,10 @@ placedAt t k r = take (32 * k) t ++ (r ++ drop (32 * k + 32) t)
 abbrev pub fourAt : List ℕ → ℕ → ℕ
 fourAt t n = word t n + 0x1_0000 * word t (n + 2)
 
+-- eight bytes from n on as a number, the low byte first
+abbrev pub eightAt : List ℕ → ℕ → ℕ
+eightAt t n = fourAt t n + 0x1_0000_0000 * fourAt t (n + 4)
+
 -- bytes 1 to 8 of the record at n, as a number
 abbrev pub keyAt : List ℕ → ℕ → ℕ
-keyAt t n = fourAt t (n + 1) + 0x1_0000_0000 * fourAt t (n + 5)
+keyAt t n = eightAt t (n + 1)

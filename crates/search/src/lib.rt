@@ -5,7 +5,7 @@ ghost use lib.Dec.{eqb};
 ghost use lib.ListN.{length, take, drop};
 ghost use Rattle.model.specs.Base.{sameList};
 ghost use Rattle.model.specs.Records.{word};
-ghost use Rattle.search.specs.Search.{foundAt, fourAt, keyAt};
+ghost use Rattle.search.specs.Search.{foundAt, fourAt, eightAt, keyAt};
 
 // Two bytes as a number, the low byte first.
 fn two(t: &[u8], at: usize) -> u16
@@ -23,28 +23,39 @@ fn four(t: &[u8], at: usize) -> u32
     two(t, at) as u32 + 0x1_0000 * (two(t, at + 2) as u32)
 }
 
+// Eight bytes as a number, the low byte first; the compiler makes one load of it.
+fn eight(t: &[u8], at: usize) -> u64
+    requires { ⌜ at + 8 ≤ length (now t) ⌝ }
+    ensures { λ r. ⌜ r ≡ eightAt (now (t .entry)) at ⌝ }
+{
+    four(t, at) as u64 + 0x1_0000_0000 * (four(t, at + 4) as u64)
+}
+
 // The key of the record at `at`: bytes 1 to 8, in which most locations differ (statement, fault, node count, five pointers).
-// The compiler makes one load of it, so that most records are passed by one comparison.
+// Most records are passed by one comparison of keys.
 fn key(t: &[u8], at: usize) -> u64
     requires { ⌜ at + 9 ≤ length (now t) ⌝ }
     ensures { λ r. ⌜ r ≡ keyAt (now (t .entry)) at ⌝ }
 {
-    four(t, at + 1) as u64 + 0x1_0000_0000 * (four(t, at + 5) as u64)
+    eight(t, at + 1)
 }
 
-// Whether the 32 bytes at `at` are those of rec; it stops at the first that differs.
+// Whether the eight bytes at `at` are those of rec at `from`.
+fn same_eight(table: &[u8], at: usize, rec: &[u8], from: usize) -> bool
+    requires { ⌜ (at + 8 ≤ length (now table)) × (from + 8 ≤ length (now rec)) ⌝ }
+    ensures { λ r. ⌜ r ≡ sameList eqb (take 8 (drop at (now (table .entry)))) (take 8 (drop from (now (rec .entry)))) ⌝ }
+{
+    eight(table, at) == eight(rec, from)
+}
+
+// Whether the 32 bytes at `at` are those of rec.
 fn same_at(table: &[u8], at: usize, rec: &[u8]) -> bool
     requires { ⌜ (at + 32 ≤ length (now table)) × (length (now rec) ≡ 32) ⌝ }
     ensures { λ r. ⌜ r ≡ sameList eqb (take 32 (drop at (now (table .entry)))) (now (rec .entry)) ⌝ }
 {
-    let mut i = 0;
-    while i < 32 {
-        if table[at + i] != rec[i] {
-            return false;
-        }
-        i += 1;
-    }
-    true
+    same_eight(table, at, rec, 0)
+        && (same_eight(table, at + 8, rec, 8)
+            && (same_eight(table, at + 16, rec, 16) && same_eight(table, at + 24, rec, 24)))
 }
 
 // The same, with the keys compared first.

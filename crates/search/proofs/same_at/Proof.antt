@@ -1,48 +1,60 @@
--- `search::same_at` meets its contract: the bytes before i are the same.
-use Prim.Native.Nat.{ℕ, _+_, _-_, _≤_, _<_}
-use mathlib.Core.Path.{_≡_, sym, _∙_}
+-- `search::same_at` meets its contract: the record is compared in four parts of eight bytes.
+use Prim.Native.Nat.{_+_}
+use mathlib.Core.Path.{sym, _∙_}
 use native.Mathlib.Omega.{arith}
-use lib.ListN.{take, drop, getD}
-use borrow.Author.Count.{below-more}
+use lib.Dec.{eqb}
+use lib.ListN.{drop, take}
 use borrow.Author.Needs.{needs}
-use Rattle.search.proofs.ListLaws.{part-at, same-differ, same-part}
+use Rattle.model.specs.Base.{sameList}
+use Rattle.model.proofs.Logic.{bool-ext}
+use Rattle.search.proofs.Keys.{part-differ, part-same, parts-same}
 use Rattle.search.proofs.same_at.Statement.{statement}
 use Rattle.search.proofs.same_at.Tie as tie
 
-abbrev Inv-loop : tie.InvT-loop
-Inv-loop table at rec i₀ i = (i ≤ 32) × ((k : ℕ) → k < i → getD table (at + k) 0 ≡ getD rec k 0)
-
-abbrev μ-loop : tie.MeasureT-loop
-μ-loop table at rec i₀ i = 32 - i
-
-returns : tie.Need-returns Inv-loop μ-loop
+returns : tie.Need-returns
 returns c =
-    let a = c .before .before .before .before .before .args in
-    let i = c .before .before .before .before .loop .i in
-    let h : i < 32 = omega arith in
-    sym (same-differ (take 32 (drop (a .at) (a .table .now))) (a .rec .now) i (λ e. c .if1 .taken (sym (part-at (a .table .now) (a .at) 32 i h) ∙ e)))
+    let s = c .before .before .before .before .before .before .before .before .before in
+    let a = s .args in
+    let t = a .table .now in
+    let r = a .rec .now in
+    bool-ext (c .same-eight4 .result) (sameList eqb (take 32 (drop (a .at) t)) r)
+    (λ e. parts-same t (a .at) r (s .pre .1) (s .pre .0)
+    (sym (c .before .before .before .before .before .before .same-eight .ensures) ∙ c .before .before .before .before .before .if1 .taken)
+    (sym (c .before .before .before .before .same-eight2 .ensures) ∙ c .before .before .before .if2 .taken)
+    (sym (c .before .before .same-eight3 .ensures) ∙ c .before .if3 .taken)
+    (sym (c .same-eight4 .ensures) ∙ e))
+    (λ e. c .same-eight4 .ensures ∙ part-same t (a .at) r (s .pre .1) (a .at + 24) 24 8 (omega arith) (s .pre .0) (omega arith) e)
 
-loop-again : tie.Need-loop-again Inv-loop μ-loop
-loop-again c = (omega arith, below-more _ _ (c .before .before .before .before .loop .inv .1) (c .if1 .left))
-
-returns-2 : tie.Need-returns-2 Inv-loop μ-loop
+returns-2 : tie.Need-returns-2
 returns-2 c =
-    let a = c .before .before .args in
-    let p = c .before .before .pre in
-    sym (same-part (a .table .now) (a .rec .now) (a .at) 32 (p .0) (p .1) (λ k h. c .before .loop .inv .1 k (omega arith)))
+    let s = c .before .before .before .before .before .before .before .before in
+    let a = s .args in
+    c .if3 .left ∙ sym (part-differ (a .table .now) (a .at) (a .rec .now) (s .pre .1) (a .at + 16) 16 8 (omega arith) (s .pre .0) (omega arith) (sym (c .before .same-eight3 .ensures) ∙ c .if3 .left))
+
+returns-3 : tie.Need-returns-3
+returns-3 c =
+    let s = c .before .before .before .before .before .before in
+    let a = s .args in
+    c .if2 .left ∙ sym (part-differ (a .table .now) (a .at) (a .rec .now) (s .pre .1) (a .at + 8) 8 8 (omega arith) (s .pre .0) (omega arith) (sym (c .before .same-eight2 .ensures) ∙ c .if2 .left))
+
+returns-4 : tie.Need-returns-4
+returns-4 c =
+    let s = c .before .before .before .before in
+    let a = s .args in
+    c .if1 .left ∙ sym (part-differ (a .table .now) (a .at) (a .rec .now) (s .pre .1) (a .at) 0 8 (omega arith) (s .pre .0) (omega arith) (sym (c .before .same-eight .ensures) ∙ c .if1 .left))
 
 pub same-at-spec : {M : Type 1} → statement M
 same-at-spec =
     tie.close
     (tie.spec
-    Inv-loop
-    μ-loop
+    (λ c κs. search needs)
     (λ c. search needs)
+    (λ c κs. search needs)
     (λ c. search needs)
+    (λ c κs. search needs)
     (λ c. search needs)
-    (λ c. search needs)
+    (λ c κs. search needs)
     returns
-    (λ c. search needs)
-    (λ c. search needs)
-    loop-again
-    returns-2)
+    returns-2
+    returns-3
+    returns-4)
