@@ -7,7 +7,7 @@ use mathlib.Core.List.{List, map}
 use lib.Dec.{eqb, leb, ltb}
 use lib.ListN.{length, getD, drop}
 use lib.Seq.{getD-set-same, getD-set-other}
-use borrow.Author.Tests.{eqb-false, le-leb, lt-ltb, ltb-false}
+use borrow.Author.Tests.{eqb-false, le-leb, lt-ltb}
 use Rattle.model.specs.Base.{any, count}
 use Rattle.model.specs.Image.{cellSlot}
 use Rattle.model.specs.Records.{valOf}
@@ -21,17 +21,15 @@ use Rattle.visit.specs.Visit.{Held}
 -- ---- a cell holds the value v
 
 once-other : (n v : ℕ) (h : List ℕ) (c : ℕ) → (c ≡ v → ⊥) → getD (heldOnce n v h) c 0 ≡ getD h c 0
-once-other n v h c ne =
-    bool-case (ltb v n) (λ t. rw t (bool-case (ltb (getD h v 0) 2) (λ u. rw u (getD-set-other h v c (getD h v 0 + 1) 0 ne)) (λ u. rw u))) (λ f. rw f)
+once-other n v h c ne = bool-case (ltb v n) (λ t. rw t (getD-set-other h v c (cond (eqb (getD h v 0) 0) 1 2) 0 ne)) (λ f. rw f)
 
--- below 2 the count goes up by one; at 2 nothing that follows matters
+-- a first holder makes the count 1; from 1 on the count is 2, and nothing that follows matters
 once-same : (n c : ℕ) (h : List ℕ) (k : ℕ) → n ≤ length h → c < n → leb 2 (getD (heldOnce n c h) c 0 + k) ≡ leb 2 (getD h c 0 + (1 + k))
 once-same n c h k w q =
     let b : c < length h = omega arith in
-    rw (lt-ltb c n q)
-    (bool-case (ltb (getD h c 0) 2)
-    (λ u. rw (u, getD-set-same h c (getD h c 0 + 1) 0 b) (let e : getD h c 0 + 1 + k ≡ getD h c 0 + (1 + k) = omega arith in ap (leb 2) e))
-    (λ u. let m : 2 ≤ getD h c 0 = ltb-false (getD h c 0) 2 u in rw u (le-leb 2 (getD h c 0 + k) (omega arith) ∙ sym (le-leb 2 (getD h c 0 + (1 + k)) (omega arith)))))
+    rw (lt-ltb c n q, getD-set-same h c (cond (eqb (getD h c 0) 0) 1 2) 0 b)
+    (eq-case (getD h c 0) 0 (λ z. rw z (let e : 1 + k ≡ 0 + (1 + k) = omega arith in ap (leb 2) e)) (λ u. rw u
+    (let m = eqb-false (getD h c 0) 0 u in le-leb 2 (2 + k) (omega arith) ∙ sym (le-leb 2 (getD h c 0 + (1 + k)) (omega arith)))))
 
 once-step : (n v : ℕ) (h : List ℕ) (c k : ℕ) → n ≤ 240 → n ≤ length h → c < n
     → leb 2 (getD (heldOnce n v h) c 0 + k) ≡ leb 2 (getD h c 0 + (cond (eqb c v) 1 0 + k))

@@ -1,7 +1,7 @@
--- The search for a lost cell, turn by turn: a cell in use without a mark ends it, any other leaves it to the cells after.
+-- The search for a lost cell, turn by turn: a cell in use without a mark is one, any other leaves it to the cells after.
 use Prim.Native.Nat.{ℕ, _+_, suc, _<_, _≤_}
 use native.Mathlib.Numerals.{add-one}
-use mathlib.Core.Path.{_≡_, sym, ap, _∙_}
+use mathlib.Core.Path.{_≡_, refl, sym, ap, _∙_}
 use mathlib.Core.Bool.{Bool, true, false, not, _&&_}
 use mathlib.Core.List.{List, _∷_, map}
 use lib.Dec.{eqb}
@@ -28,11 +28,12 @@ kept-step s cs i h =
     ap (eachUsed (hasMark s) i) (map-step cellSlot cs i h) ∙ each-step s i (getD cs i 0) (map cellSlot (drop (i + 1) cs))
     ∙ ap (λ k. not (lostAt (getD cs i 0) (getD s i 0)) && eachUsed (hasMark s) k (map cellSlot (drop (i + 1) cs))) (sym (add-one i))
 
-pub kept-lost : (s cs : List ℕ) (i : ℕ) → i < length cs → lostAt (getD cs i 0) (getD s i 0) ≡ true → keptFrom s cs i ≡ false
-kept-lost s cs i h e = kept-step s cs i h ∙ ap (λ b. not b && keptFrom s cs (i + 1)) e
+-- one cell more: it, and what was kept before it
+pub kept-more : (s cs : List ℕ) (i : ℕ) (before : Bool) → i < length cs
+    → before && keptFrom s cs i ≡ (not (lostAt (getD cs i 0) (getD s i 0)) && before) && keptFrom s cs (i + 1)
+kept-more s cs i true h = kept-step s cs i h ∙ bool-case (lostAt (getD cs i 0) (getD s i 0)) (λ t. rw t) (λ f. rw f)
+kept-more s cs i false h = bool-case (lostAt (getD cs i 0) (getD s i 0)) (λ t. rw t) (λ f. rw f)
 
-pub kept-more : (s cs : List ℕ) (i : ℕ) → i < length cs → lostAt (getD cs i 0) (getD s i 0) ≡ false → keptFrom s cs i ≡ keptFrom s cs (i + 1)
-kept-more s cs i h e = kept-step s cs i h ∙ ap (λ b. not b && keptFrom s cs (i + 1)) e
-
-pub kept-end : (s cs : List ℕ) (i : ℕ) → length cs ≤ i → keptFrom s cs i ≡ true
-kept-end s cs i h = ap (eachUsed (hasMark s) i) (map-end cellSlot cs i h)
+pub kept-end : (s cs : List ℕ) (i : ℕ) (before : Bool) → length cs ≤ i → before && keptFrom s cs i ≡ before
+kept-end s cs i true h = ap (eachUsed (hasMark s) i) (map-end cellSlot cs i h)
+kept-end s cs i false h = refl

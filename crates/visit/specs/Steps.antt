@@ -43,9 +43,9 @@ pub record Walked (cs l : List ℕ) (v : ℕ) (o s : List ℕ) (r : ℕ) : Type 
 abbrev pub lostAt : ℕ → ℕ → Bool
 lostAt b m = not (eqb b 0xfd) && eqb m 0
 
--- ---- one holder of the value v, of n cells: a count stands at 2, a pointer counts twice
+-- ---- one holder of the value v, of n cells: a first one makes the count 1, any other 2; a pointer counts twice
 abbrev pub heldOnce : ℕ → ℕ → List ℕ → List ℕ
-heldOnce n v h = cond (ltb v n) (cond (ltb (getD h v 0) 2) (set h v (getD h v 0 + 1)) h) h
+heldOnce n v h = cond (ltb v n) (set h v (cond (eqb (getD h v 0) 0) 1 2)) h
 
 abbrev pub heldTwice : ℕ → ℕ → List ℕ → List ℕ
 heldTwice n v h = cond (ltb v n) (set h v 2) h

@@ -2,7 +2,7 @@
 // A heap image is pointer bytes and cell bytes: a cell number, 0xfe null, 0xff undefined, for a cell 0xfd not in use.
 // Each is linear in the number of cells: a cell is marked when seen, its holders are counted once.
 ghost use mathlib.Core.Path.{_≡_};
-ghost use mathlib.Core.Bool.{true, not};
+ghost use mathlib.Core.Bool.{true, not, _&&_, cond};
 ghost use mathlib.Core.List.{map};
 ghost use Prim.Native.Nat.{_≤_, _<_};
 ghost use lib.Dec.{eqb};
@@ -122,43 +122,50 @@ pub fn visit(pointers: &[u8], cells: &[u8], order: &mut [u8], seen: &mut [u8]) -
 
 // ---- lost cells
 
-// Whether a cell that holds the byte b is lost: in use and without a mark.
-fn is_lost(b: u8, mark: u8) -> bool
-    ensures { λ r. ⌜ r ≡ lostAt b mark ⌝ }
+// Whether, beside what was kept before, a cell that holds the byte b is: it is lost where it is in use and without a mark.
+fn kept_too(before: bool, b: u8, mark: u8) -> bool
+    ensures { λ r. ⌜ r ≡ not (lostAt b mark) && before ⌝ }
 {
     if b == 0xfd {
+        return before;
+    }
+    if mark == 0 {
         return false;
     }
-    mark == 0
+    before
 }
 
-// Whether every cell in use has a mark.
+// Whether every cell in use has a mark. All cells are looked at: that is quicker than to stop at the first that is lost.
 pub fn nothing_lost(cells: &[u8], seen: &[u8]) -> bool
     requires { ⌜ length (now cells) ≤ length (now seen) ⌝ }
     ensures { λ r. ⌜ r ≡ eachUsed (λ c. not (eqb (getD (now (seen .entry)) c 0) 0)) 0 (map cellSlot (now (cells .entry))) ⌝ }
 {
+    let mut kept = true;
     let mut i = 0;
     while i < cells.len() {
-        if is_lost(cells[i], seen[i]) {
-            return false;
-        }
+        kept = kept_too(kept, cells[i], seen[i]);
         i += 1;
     }
-    true
+    kept
 }
 
 // ---- core cells
 
-// A cell holds the value v: its count goes up by one, and stands at 2.
+// The count after one holder more: a first one makes it 1, any other 2.
+fn one_more(count: u8) -> u8
+    ensures { λ r. ⌜ r ≡ cond (eqb count 0) 1 2 ⌝ }
+{
+    if count == 0 { 1 } else { 2 }
+}
+
+// A cell holds the value v: it has one holder more.
 fn hold_once(held: &mut [u8], n: usize, v: u8)
     requires { ⌜ n ≤ length (now held) ⌝ }
     ensures { λ _. ⌜ now (held .exit) ≡ heldOnce n v (now (held .entry)) ⌝ }
 {
     let c = v as usize;
     if c < n {
-        if held[c] < 2 {
-            held[c] += 1;
-        }
+        held[c] = one_more(held[c]);
     }
 }
 
