@@ -25,11 +25,7 @@ fn copy_record(part: &[u8], rec: &mut [u8])
     requires { ⌜ (32 ≤ length (now part)) × (length (now rec) ≡ 32) ⌝ }
     ensures { λ _. ⌜ now (rec .exit) ≡ take 32 (now (part .entry)) ⌝ }
 {
-    let mut k = 0;
-    while k < 32 {
-        rec[k] = part[k];
-        k += 1;
-    }
+    bytes::copy(&part[..32], rec);
 }
 
 // A way out of a location: split at a node, or whole with a pick; and the byte of its guard, which is on the node.

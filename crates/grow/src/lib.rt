@@ -1,9 +1,8 @@
 // A listing in two lent tables grows by one edge: its target is looked for, and takes the next place where it is new.
 use model::Node;
 ghost use mathlib.Core.Path.{_≡_};
-ghost use mathlib.Core.List.{_++_};
 ghost use Prim.Native.Nat.{_+_, _*_, _≤_};
-ghost use lib.ListN.{length, drop};
+ghost use lib.ListN.{length};
 ghost use Rattle.model.specs.Translate.{places};
 ghost use Rattle.record.specs.Written.{placed};
 ghost use Rattle.grow.specs.Grow.{GrowReady, Grows};
@@ -16,23 +15,11 @@ pub enum Grown {
 }
 
 // How many records a table of len bytes has a place for.
-fn places(most: usize, len: usize) -> usize
+pub fn places(most: usize, len: usize) -> usize
     ensures { λ r. ⌜ r ≡ places most len ⌝ }
 {
     let fit = len / 32;
     if fit < most { fit } else { most }
-}
-
-// Writes a record's 32 bytes at the start of the part.
-fn copy_record(part: &mut [u8], rec: &[u8])
-    requires { ⌜ (32 ≤ length (now part)) × (length (now rec) ≡ 32) ⌝ }
-    ensures { λ _. ⌜ now (part .exit) ≡ now (rec .entry) ++ drop 32 (now (part .entry)) ⌝ }
-{
-    let mut i = 0;
-    while i < 32 {
-        part[i] = rec[i];
-        i += 1;
-    }
 }
 
 // The record as number n of the table.
@@ -41,7 +28,7 @@ fn put_record(table: &mut [u8], n: usize, rec: &[u8])
     ensures { λ _. ⌜ now (table .exit) ≡ placed (now (table .entry)) n (now (rec .entry)) ⌝ }
 {
     let at = 32 * n;
-    copy_record(&mut table[at..], rec);
+    bytes::copy(rec, &mut table[at..]);
 }
 
 // A target with number j, the next one where it is new: it is written there, and the count of locations is answered.

@@ -10,29 +10,17 @@ ghost use Prim.Native.Nat.{_+_, _*_, _≤_};
 ghost use lib.ListN.{length, drop, replicate};
 ghost use Rattle.model.specs.Answers.{outcomeOf};
 ghost use Rattle.model.specs.Records.{locRecord, recordAt};
-ghost use Rattle.model.specs.Translate.{places, tableOf, translate};
+ghost use Rattle.model.specs.Translate.{tableOf, translate};
 ghost use Rattle.model.specs.Runs.{DemandThree};
 ghost use Rattle.record.specs.Written.{placed};
 ghost use Rattle.translator.specs.Starts.{startBytes, startLocs, StartsReady, ListReady};
-
-// How many locations a table of len bytes has a place for.
-fn location_places(len: usize) -> usize
-    ensures { λ r. ⌜ r ≡ places 1024 len ⌝ }
-{
-    let fit = len / 32;
-    if fit < 1024 { fit } else { 1024 }
-}
 
 // Writes the location record of a starting shape: the shape's record with another tag, at statement 0 without a fault.
 fn enter_start(part: &mut [u8], rec: &[u8])
     requires { ⌜ (32 ≤ length (now part)) × (length (now rec) ≡ 32) ⌝ }
     ensures { λ _. ⌜ now (part .exit) ≡ startBytes (now (rec .entry)) ++ drop 32 (now (part .entry)) ⌝ }
 {
-    let mut i = 0;
-    while i < 32 {
-        part[i] = rec[i];
-        i += 1;
-    }
+    bytes::copy(rec, part);
     part[0] = 0x4c;
     part[1] = 0;
     part[2] = 0;
@@ -104,7 +92,7 @@ pub fn translate(input: &[u8], locations: &mut [u8], edges: &mut [u8]) -> Transl
             statements: n,
             shapes: m,
         } => {
-            let most = location_places(locations.len());
+            let most = grow::places(1024, locations.len());
             if most < m {
                 return Translated::Refused {
                     number: 11,

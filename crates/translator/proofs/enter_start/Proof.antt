@@ -1,53 +1,29 @@
--- `enter_start` meets its contract: the first i bytes are copied; then the first three are set.
-use Prim.Native.Nat.{ℕ, _-_, _≤_, _<_}
-use mathlib.Core.Path.{_≡_, ap, _∙_}
-use mathlib.Core.List.{List, _++_}
+-- `enter_start` meets its contract: the record is copied; then its first three bytes are set.
+use mathlib.Core.Path.{ap, _∙_}
+use mathlib.Core.List.{List}
+use Prim.Native.Nat.{ℕ}
 use native.Mathlib.Omega.{arith}
-use lib.ListN.{length, getD, set, take, drop, length-set}
+use lib.ListN.{drop, length-set, set}
 use borrow.Author.Needs.{needs}
-use Rattle.grow.proofs.Copy.{copy-end, copy-turn}
+use Rattle.grow.proofs.Copy.{record-copied}
 use Rattle.translator.proofs.Starts.{start-stored}
 use Rattle.translator.proofs.enter_start.Statement.{statement}
 use Rattle.translator.proofs.enter_start.Tie as tie
 
-abbrev Inv-loop : tie.InvT-loop
-Inv-loop part₀ rec i₀ part i = (i ≤ 32) × (length part ≡ length part₀) × (part ≡ take i rec ++ drop i part₀)
-
-abbrev μ-loop : tie.MeasureT-loop
-μ-loop part₀ rec i₀ part i = 32 - i
-
-loop-again : tie.Need-loop-again Inv-loop μ-loop
-loop-again c =
-    let a = c .before .before .before .args in
-    let l = c .before .before .loop in
-    let h : l .i < length (a .part .now) = omega arith in
-    let k : l .i < length (a .rec .now) = omega arith in (
-      omega arith,
-      simp length-set (l .inv .1),
-      ap (λ (r : List ℕ). set r (l .i) (getD (a .rec .now) (l .i) 0)) (l .inv .2) ∙ copy-turn (a .part .now) (a .rec .now) (l .i) h k,
-    )
-
-returns : tie.Need-returns Inv-loop μ-loop
+returns : tie.Need-returns
 returns c =
-    let l = c .before .loop in
-    let a = c .before .before .args in
-    ap (λ (p : List ℕ). set (set (set p 0 0x4c) 1 0) 2 0) (l .inv .2 ∙ copy-end (a .part .now) (a .rec .now) (l .i) (omega arith) (omega arith))
-    ∙ start-stored (a .rec .now) (drop 32 (a .part .now)) (omega arith)
+    let s = c .before .before .before .before .before .before in
+    let a = s .args in
+    ap (λ (p : List ℕ). set (set (set p 0 0x4c) 1 0) 2 0) (c .before .before .copy .ensures .1 ∙ record-copied (a .part .now) (a .rec .now) (s .pre .1))
+    ∙ start-stored (a .rec .now) (drop 32 (a .part .now)) (omega (arith, s .pre .1))
 
 pub enter-start-spec : {M : Type 1} → statement M
 enter-start-spec =
     tie.close
     (tie.spec
-    Inv-loop
-    μ-loop
+    (λ c κs. search needs)
     (λ c. search needs)
+    (λ c. simp length-set (omega (arith, c .before .before .copy .kept .1 .0)))
+    (λ c. simp length-set (omega (arith, c .before .before .copy .kept .1 .0)))
     (λ c. search needs)
-    (λ c. search needs)
-    (λ c. search needs)
-    (λ c. search needs)
-    loop-again
-    (λ c. search needs)
-    (λ c. simp length-set (omega arith))
-    (λ c. simp length-set (omega arith))
-    (λ c. simp length-set (omega arith))
     returns)

@@ -17,7 +17,7 @@ returns c =
     let g = c .before .before .before .n .given .0 in
     let e : o .result ≡ checked.Good (g .0) (g .1 .0) = search needs in
     answer-few (a .input .now) (a .locations .now) (a .edges .now) _ _ (k .ensures .0) (k .ensures .1) (k .kept .0) (k .kept .1 .0) (o .result) (o .ensures .0) (o .ensures .1)
-    (g .0) (g .1 .0) _ e (c .before .location-places .ensures) (c .if1 .taken)
+    (g .0) (g .1 .0) _ e (c .before .places .ensures) (c .if1 .taken)
 
 list-requires : tie.Need-list-requires
 list-requires c κs =
@@ -28,7 +28,7 @@ list-requires c κs =
     let g = c .before .before .before .before .before .n .given .0 in
     let e : o .result ≡ checked.Good (g .0) (g .1 .0) = search needs in
     ready-to-list (a .input .now) (a .locations .now) (a .edges .now) _ _ (k .ensures .0) (k .ensures .1) (k .kept .0) (k .kept .1 .0) (o .result) (o .ensures .0) (o .ensures .1)
-    (g .0) (g .1 .0) _ e (c .before .before .before .location-places .ensures) (c .before .before .if1 .left)
+    (g .0) (g .1 .0) _ e (c .before .before .before .places .ensures) (c .before .before .if1 .left)
 
 returns-2 : tie.Need-returns-2
 returns-2 c =
