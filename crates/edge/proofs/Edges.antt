@@ -35,7 +35,7 @@ accepted allocates e h p u = ap (λ s. not (inUse s)) u
 accepted other e h p u = refl
 
 -- the pick is read by choose only, which splits nothing
-step-way : (sp : Bool) (g : Guard) (v p : ℕ) (st : Stmt) (h : Heap) → isStop (kind (st .op)) ≡ false → p ≤ 1 → (sp ≡ true → access (st .op) h ≡ cell v)
+pub step-way : (sp : Bool) (g : Guard) (v p : ℕ) (st : Stmt) (h : Heap) → isStop (kind (st .op)) ≡ false → p ≤ 1 → (sp ≡ true → access (st .op) h ≡ cell v)
     → stepBy st (length (h .slots)) (wayOf sp g v p h) ≡ answerOf st (branch (st .op) p h) (run (st .op) (length (h .slots)) (wayOf sp always v p h .heap))
 step-way true g v p st h goes few a =
     let k = length (h .slots) in
@@ -58,7 +58,7 @@ fault-edge : (s k : ℕ) (y : Way) (x : Fault) (a : Answer) (E : Edge) → a ≡
     → record { branchNo = 0; guard = y .guard; to = failed s x; updates = [] } ≡ E
 fault-edge s k y x a E e q = head-eq-of-cons-eq (sym (ap (edgeBy s k y) e) ∙ q)
 
-went-edge : (s k : ℕ) (y : Way) (b t : ℕ) (h : Heap) (a : Answer) (E : Edge) → a ≡ went b t h → edgeBy s k y a ≡ E ∷ []
+pub went-edge : (s k : ℕ) (y : Way) (b t : ℕ) (h : Heap) (a : Answer) (E : Edge) → a ≡ went b t h → edgeBy s k y a ≡ E ∷ []
     → record { branchNo = b; guard = y .guard; to = at t (shape h); updates = map (updateOf k (y .weight)) (segments h) } ≡ E
 went-edge s k y b t h a E e q = head-eq-of-cons-eq (sym (ap (edgeBy s k y) e) ∙ q)
 

@@ -3,3 +3,4 @@ pub mod Heaps
 pub mod Running
 pub mod Leaving
 pub mod Edges
+pub mod Keeping

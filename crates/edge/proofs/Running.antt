@@ -21,7 +21,7 @@ use Rattle.edge.proofs.Heaps.{new-whole, opened-closed, opened-fresh, o
 use Rattle.edge.proofs.Ready.{accepted-fields, location-wide, nodes-few, nodes-is, node-used, shape-is}
 
 -- the pointers alone decide the branch
-branch-pointers : (op : Op) (p : ℕ) (g h : Heap) → g .ptrs ≡ h .ptrs → branch op p g ≡ branch op p h
+pub branch-pointers : (op : Op) (p : ℕ) (g h : Heap) → g .ptrs ≡ h .ptrs → branch op p g ≡ branch op p h
 branch-pointers stop p g h e = refl
 branch-pointers (setNull u) p g h e = refl
 branch-pointers (copy u w) p g h e = refl

@@ -1,11 +1,13 @@
-// One edge of a location: the statement is run on the location's shape, opened for the way, and the result is folded.
+// One edge of a location: the statement is run on the location's shape, opened for the way, and the result is folded. A statement that keeps the heap needs no run.
 use model::Node;
 use model::Pointer;
 use model::Statement;
+ghost use Prim.Native.Nat.{ℕ, _≤_};
+ghost use mathlib.Core.Bool.{Bool, false};
 ghost use mathlib.Core.Path.{_≡_};
-ghost use lib.ListN.{length};
+ghost use lib.ListN.{length, set};
 ghost use Rattle.model.specs.Machine.{target};
-ghost use Rattle.model.specs.Records.{stmtOf};
+ghost use Rattle.model.specs.Records.{byte, stmtOf};
 ghost use Rattle.edge.specs.Edge.{EdgeReady, LeavesBy};
 ghost use Rattle.edge.specs.Parts.{IsLeft, LeaveReady, RunsReady, WayRan};
 
@@ -104,8 +106,8 @@ fn leave(
     m
 }
 
-// The edge by one way out of a location: its target's record, its updates, its branch, and how many new nodes there are.
-pub fn one_edge(
+// The edge by running the statement and folding what the run leaves.
+fn run_edge(
     location: &[u8],
     statement: &[u8],
     split: bool,
@@ -138,25 +140,78 @@ pub fn one_edge(
             nodes: 0,
         };
     }
-    let branch = gone.branch;
     let n = gone.cells;
-    let visited = gone.visited;
-    let k = location[3] as usize;
+    let to = target_of(statement, gone.branch);
+    Left {
+        branch: gone.branch,
+        nodes: leave(
+            &pointers,
+            &cells[..n],
+            &order,
+            gone.visited,
+            location[3] as usize,
+            split,
+            node,
+            to,
+            target,
+            updates,
+        ),
+    }
+}
+
+// Writes the location's record with another statement.
+fn move_to(location: &[u8], to: Statement, target: &mut [u8])
+    requires { ⌜ (length (now location) ≡ 32) × (length (now target) ≡ 32) ⌝ }
+    ensures { λ _. ⌜ now (target .exit) ≡ set (now (location .entry)) 1 (to .0) ⌝ }
+{
+    let mut i: usize = 0;
+    while i < 32 {
+        target[i] = location[i];
+        i += 1;
+    }
+    target[1] = to.0;
+}
+
+// The edge of a statement that leaves the heap as it is: a test, choose or skip. The shape and the counters stay, whatever the way.
+fn keep_edge(
+    location: &[u8],
+    statement: &[u8],
+    pick: u8,
+    target: &mut [u8],
+    updates: &mut [u16],
+) -> Left
+    requires { ⌜ (8 ≤ byte (now statement) 1) × EdgeReady (now location) (now statement) false 0 pick (now target) (now updates) ⌝ }
+    ensures { λ r. ⌜ ((sp : Bool) (v : ℕ) → LeavesBy (now (location .entry)) (now (statement .entry)) sp v pick (now (target .exit)) (now (updates .exit)) (r .branch) (r .nodes)) ⌝ }
+{
+    let op = statement[1];
+    let u = Pointer(statement[2]);
+    let w = Pointer(statement[3]);
+    let branch = effect::branch_of(op, u, w, pick, &location[4..10]);
     let to = target_of(statement, branch);
-    let m = leave(
-        &pointers,
-        &cells[..n],
-        &order,
-        visited,
-        k,
-        split,
-        node,
-        to,
-        target,
-        updates,
-    );
+    move_to(location, to, target);
+    way::carry_updates(updates);
     Left {
         branch: branch,
-        nodes: m,
+        nodes: location[3] as usize,
+    }
+}
+
+// The edge by one way out of a location: its target's record, its updates, its branch, and how many new nodes there are.
+pub fn one_edge(
+    location: &[u8],
+    statement: &[u8],
+    split: bool,
+    node: Node,
+    pick: u8,
+    target: &mut [u8],
+    updates: &mut [u16],
+) -> Left
+    requires { ⌜ EdgeReady (now location) (now statement) split (node .0) pick (now target) (now updates) ⌝ }
+    ensures { λ r. ⌜ LeavesBy (now (location .entry)) (now (statement .entry)) split (node .0) pick (now (target .exit)) (now (updates .exit)) (r .branch) (r .nodes) ⌝ }
+{
+    if 8 <= statement[1] {
+        keep_edge(location, statement, pick, target, updates)
+    } else {
+        run_edge(location, statement, split, node, pick, target, updates)
     }
 }

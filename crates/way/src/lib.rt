@@ -180,3 +180,15 @@ pub fn sum_updates(
 {
     sum_cells(&order[..n], node, k, split, at, &mut updates[..m]);
 }
+
+// The codes of the updates when the heap stays as it is: each of the 12 counters is its own old counter.
+pub fn carry_updates(updates: &mut [u16])
+    requires { ⌜ 12 ≤ length (now updates) ⌝ }
+    ensures { λ _. ⌜ ((j : ℕ) → j < 12 → getD (now (updates .exit)) j 0 ≡ 4096 + 2 ^ j) ⌝ }
+{
+    let mut j: usize = 0;
+    while j < 12 {
+        updates[j] = 0x1000 + flag(j as u8);
+        j += 1;
+    }
+}
