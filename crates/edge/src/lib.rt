@@ -164,11 +164,7 @@ fn move_to(location: &[u8], to: Statement, target: &mut [u8])
     requires { ⌜ (length (now location) ≡ 32) × (length (now target) ≡ 32) ⌝ }
     ensures { λ _. ⌜ now (target .exit) ≡ set (now (location .entry)) 1 (to .0) ⌝ }
 {
-    let mut i: usize = 0;
-    while i < 32 {
-        target[i] = location[i];
-        i += 1;
-    }
+    bytes::copy(location, target);
     target[1] = to.0;
 }
 

@@ -1,3 +1,2 @@
-pub mod Copy
 pub mod Kept
 pub mod Held

@@ -3,7 +3,7 @@ use model::Node;
 use model::Pointer;
 ghost use Prim.Native.Nat.{ℕ, _+_, _^_, _≤_, _<_};
 ghost use mathlib.Core.Bool.{true};
-ghost use mathlib.Core.List.{List, _++_};
+ghost use mathlib.Core.List.{List};
 ghost use mathlib.Core.Path.{_≡_};
 ghost use lib.ListN.{length, getD, replicate, take, drop};
 ghost use Rattle.model.specs.Edges.{access};
@@ -32,18 +32,6 @@ pub fn access(op: u8, u: Pointer, w: Pointer, pointers: &[u8]) -> u8
         5 => held_by(u, pointers),
         7 => held_by(u, pointers),
         _ => 0xfe,
-    }
-}
-
-// Writes from over the front of to.
-fn copy_front(from: &[u8], to: &mut [u8])
-    requires { ⌜ length (now from) ≤ length (now to) ⌝ }
-    ensures { λ _. ⌜ now (to .exit) ≡ now (from .entry) ++ drop (length (now (from .entry))) (now (to .entry)) ⌝ }
-{
-    let mut i = 0;
-    while i < from.len() {
-        to[i] = from[i];
-        i += 1;
     }
 }
 
@@ -83,8 +71,8 @@ pub fn open_way(
 {
     let k = rec[3] as usize;
     let end = 10 + k;
-    copy_front(&rec[4..10], pointers);
-    copy_front(&rec[10..end], cells);
+    bytes::copy(&rec[4..10], pointers);
+    bytes::copy(&rec[10..end], cells);
     open_cells(cells, k, op, split, node)
 }
 

@@ -3,8 +3,8 @@ use Prim.Native.Nat.{_*_}
 use mathlib.Core.Path.{_∙_}
 use native.Mathlib.Omega.{arith}
 use borrow.Author.Needs.{needs}
+use Rattle.record.proofs.Copied.{copied-front}
 use Rattle.record.proofs.Placed.{put-back}
-use Rattle.grow.proofs.Copy.{record-copied}
 use Rattle.grow.proofs.put_record.Statement.{statement}
 use Rattle.grow.proofs.put_record.Tie as tie
 
@@ -12,7 +12,7 @@ returns : tie.Need-returns
 returns c =
     let s = c .before .before .before .before .before .before in
     let a = s .args in
-    put-back (a .table .now) (a .rec .now) _ (32 * a .n) 32 (omega arith) (c .before .before .copy .ensures .1 ∙ record-copied _ (a .rec .now) (s .pre .1))
+    put-back (a .table .now) (a .rec .now) _ (32 * a .n) 32 (omega arith) (c .before .before .copy .ensures .1 ∙ copied-front (a .rec .now) _ (s .pre .1))
 
 pub put-record-spec : {M : Type 1} → statement M
 put-record-spec =

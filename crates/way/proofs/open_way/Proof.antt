@@ -1,7 +1,10 @@
 -- `way::open_way` meets its contract: the copies are the record's pointers and successors, opened as the way asks.
+use Prim.Native.Nat.{_+_, _-_}
 use mathlib.Core.Path.{ap, ap₂, _∙_}
+use mathlib.Core.List.{_++_}
 use native.Mathlib.Omega.{arith}
-use lib.ListN.{take}
+use lib.ListN.{drop, length, take}
+use lib.Seq.{take-length}
 use borrow.Author.Needs.{needs}
 use Rattle.model.specs.Image.{heapOf}
 use Rattle.model.specs.Records.{byte}
@@ -17,8 +20,10 @@ returns c =
     let r = a .rec .now in
     let o = c .before .before .open-cells in
     let k = byte r 3 in
-    let first = c .before .before .before .before .before .before .before .before .before .before .before .copy-front .ensures in
-    let second = c .before .before .before .before .before .before .copy-front2 .ensures in
+    let f = take 6 (drop 4 r) in
+    let g = take ((10 + k) - 10) (drop 10 r) in
+    let first = c .before .before .before .before .before .before .before .before .before .before .before .copy .ensures .1 ∙ ap (λ t. t ++ drop (length f) (a .pointers .now)) (take-length f) in
+    let second = c .before .before .before .before .before .before .copy2 .ensures .1 ∙ ap (λ t. t ++ drop (length g) (a .cells .now)) (take-length g) in
     let ps = first ∙ ready-pointers r (a .pointers .now) (a .cells .now) (a .op) (a .node .0) (a .split) (s .pre) in
     let cs = ap (take k) second ∙ ready-cells r (a .pointers .now) (a .cells .now) (a .op) (a .node .0) (a .split) (s .pre) in (
       ps,
