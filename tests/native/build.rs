@@ -1,13 +1,7 @@
-// Links the proved library as `rt staticlib` wrote it and, where PEER names a folder with a translator in C, that one for the benchmark.
+// Links a translator in C for the benchmark, where PEER names a folder that holds one.
 use std::process::Command;
 
 fn main() {
-    let dir = concat!(env!("CARGO_MANIFEST_DIR"), "/../../target/staticlib");
-    println!("cargo:rustc-link-search=native={dir}");
-    for name in ["exports", "translator"] {
-        println!("cargo:rustc-link-lib=static={name}");
-        println!("cargo:rerun-if-changed={dir}/lib{name}.a");
-    }
     println!("cargo:rustc-check-cfg=cfg(peer)");
     println!("cargo:rerun-if-env-changed=PEER");
     if let Ok(peer) = std::env::var("PEER") {

@@ -1,0 +1,96 @@
+//! The words of the command line.
+
+use crate::source::Failure;
+use std::str::FromStr;
+
+/// A command's options: which take a value.
+pub type Known = &'static [(&'static str, bool)];
+
+/// A command's file and options.
+#[derive(Debug)]
+pub struct Arguments {
+    command: String,
+    pub file: String,
+    options: Vec<(&'static str, String)>,
+}
+
+/// A wrong use, with how to get the right one.
+pub fn wrong(command: &str, message: impl std::fmt::Display) -> Failure {
+    Failure::bad_use(format!("{command}: {message}\nTry `currantplane help {command}`."))
+}
+
+impl Arguments {
+    pub fn read(command: &str, words: &[String], known: Known) -> Result<Arguments, Failure> {
+        let mut files: Vec<&String> = Vec::new();
+        let mut options: Vec<(&'static str, String)> = Vec::new();
+        let mut rest = words.iter();
+        while let Some(word) = rest.next() {
+            if !word.starts_with('-') || word == "-" {
+                files.push(word);
+                continue;
+            }
+            let (name, mut value) = match word.split_once('=') {
+                Some((name, value)) => (name, Some(value.to_string())),
+                None => (word.as_str(), None),
+            };
+            let Some(&(name, takes)) = known.iter().find(|(k, _)| *k == name) else {
+                return Err(wrong(command, format!("there is no option {name}")));
+            };
+            if takes && value.is_none() {
+                value = rest.next().cloned();
+            }
+            if takes != value.is_some() {
+                return Err(wrong(command, format!("{name} takes {}", if takes { "a value" } else { "no value" })));
+            }
+            if options.iter().any(|(n, _)| *n == name) {
+                return Err(wrong(command, format!("{name} stands there twice")));
+            }
+            options.push((name, value.unwrap_or_default()));
+        }
+        match files[..] {
+            [file] => Ok(Arguments { command: command.into(), file: file.clone(), options }),
+            _ => Err(wrong(command, format!("one FILE is needed (`-` for standard input), and {} given", files.len()))),
+        }
+    }
+
+    pub fn has(&self, name: &str) -> bool {
+        self.value(name).is_some()
+    }
+
+    pub fn value(&self, name: &str) -> Option<&str> {
+        self.options.iter().find(|(n, _)| *n == name).map(|(_, value)| value.as_str())
+    }
+
+    /// The file that an option names for the result; `-` is standard output, as when none is named.
+    pub fn output(&self, name: &str) -> Option<String> {
+        self.value(name).filter(|file| *file != "-").map(String::from)
+    }
+
+    /// A number of at most `most`; `usual` where none is given.
+    pub fn number(&self, name: &str, usual: usize, most: usize) -> Result<usize, Failure> {
+        let Some(word) = self.value(name) else { return Ok(usual) };
+        match word.parse() {
+            Ok(n) if n <= most => Ok(n),
+            _ => Err(wrong(&self.command, format!("{name} takes a number from 0 to {most}, not `{word}`"))),
+        }
+    }
+
+    /// Numbers with commas between them; none where nothing is given.
+    pub fn numbers<T: FromStr>(&self, name: &str) -> Result<Vec<T>, Failure> {
+        let words = self.value(name).unwrap_or("");
+        let parts = words.split(',').map(str::trim).filter(|_| !words.is_empty());
+        let read = |word: &str| {
+            word.parse().map_err(|_| wrong(&self.command, format!("{name} takes numbers with commas between them, not `{word}`")))
+        };
+        parts.map(read).collect()
+    }
+
+    /// At most one of these may be given.
+    pub fn only_one(&self, names: &[&str]) -> Result<(), Failure> {
+        let given: Vec<&str> = names.iter().copied().filter(|n| self.has(n)).collect();
+        if given.len() > 1 {
+            return Err(wrong(&self.command, format!("{} do not go together", given.join(" and "))));
+        }
+        Ok(())
+    }
+}

@@ -1,0 +1,139 @@
+//! The automaton: what the proved translator wrote into its tables, read into named parts.
+
+use crate::record::{Shape, NODES, SIZE};
+
+pub const MOST_LOCATIONS: usize = 1024;
+pub const MOST_EDGES: usize = 2048;
+
+/// The sizes of the two tables, in records.
+#[derive(Clone, Copy, Debug)]
+pub struct Places {
+    pub locations: usize,
+    pub edges: usize,
+}
+
+pub const ALL_PLACES: Places = Places { locations: MOST_LOCATIONS, edges: MOST_EDGES };
+
+#[derive(Clone, Copy, PartialEq, Eq, Debug)]
+pub struct Refusal {
+    pub number: u8,
+    pub place: usize,
+}
+
+/// The two tables as they were written, one record after the other.
+pub struct Tables {
+    pub locations: Vec<u8>,
+    pub edges: Vec<u8>,
+}
+
+/// Asks the proved translator.
+pub fn tables(records: &[u8], places: Places) -> Result<Tables, Refusal> {
+    let (mut locations, mut edges) = (vec![0; SIZE * places.locations], vec![0; SIZE * places.edges]);
+    let (number, [place, l, e]) = currantplane::translate(records, &mut locations, &mut edges);
+    if number != 0 {
+        return Err(Refusal { number, place });
+    }
+    locations.truncate(SIZE * l);
+    edges.truncate(SIZE * e);
+    Ok(Tables { locations, edges })
+}
+
+/// Whether the records pass the checks of the input. These come before those of the tables, so tables without a place tell.
+pub fn check(records: &[u8]) -> Result<(), Refusal> {
+    match tables(records, Places { locations: 0, edges: 0 }) {
+        Err(refusal) if refusal.number < 11 => Err(refusal),
+        _ => Ok(()),
+    }
+}
+
+#[derive(Clone, PartialEq, Eq, Debug)]
+pub struct Location {
+    pub statement: usize,
+    pub fault: u8,
+    pub shape: Shape,
+}
+
+/// On the counter of a node.
+#[derive(Clone, Copy, PartialEq, Eq, Debug)]
+pub enum Guard {
+    Always,
+    IsOne(usize),
+    AtLeastTwo(usize),
+}
+
+impl Guard {
+    pub fn holds(self, counters: &[u64]) -> bool {
+        let counter = |node: usize| counters.get(node).copied().unwrap_or(0);
+        match self {
+            Guard::Always => true,
+            Guard::IsOne(node) => counter(node) == 1,
+            Guard::AtLeastTwo(node) => counter(node) >= 2,
+        }
+    }
+}
+
+/// A new counter: a constant and the old counters that are added to it.
+#[derive(Clone, Copy, PartialEq, Eq, Debug)]
+pub struct Update {
+    pub constant: i64,
+    added: u16,
+}
+
+impl Update {
+    fn read(bits: u16) -> Update {
+        Update { constant: i64::from(bits >> 12 & 3) - 1, added: bits & 0xfff }
+    }
+
+    pub fn added(self) -> impl Iterator<Item = usize> {
+        (0..NODES).filter(move |node| self.added >> node & 1 == 1)
+    }
+
+    pub fn apply(self, counters: &[u64]) -> i64 {
+        self.constant + self.added().map(|node| counters.get(node).copied().unwrap_or(0) as i64).sum::<i64>()
+    }
+}
+
+#[derive(Clone, Debug)]
+pub struct Edge {
+    pub branch: u8,
+    pub from: usize,
+    pub to: usize,
+    pub guard: Guard,
+    /// One for each node of the target.
+    pub updates: Vec<Update>,
+}
+
+#[derive(Clone, Debug)]
+pub struct Automaton {
+    pub locations: Vec<Location>,
+    pub edges: Vec<Edge>,
+}
+
+impl Automaton {
+    pub fn read(tables: &Tables) -> Automaton {
+        let locations: Vec<Location> = tables.locations.chunks_exact(SIZE).map(read_location).collect();
+        let edges = tables.edges.chunks_exact(SIZE).map(|record| read_edge(record, &locations)).collect();
+        Automaton { locations, edges }
+    }
+
+    /// The edges that leave a location, with their numbers.
+    pub fn leaving(&self, location: usize) -> impl Iterator<Item = (usize, &Edge)> {
+        self.edges.iter().enumerate().filter(move |(_, edge)| edge.from == location)
+    }
+}
+
+fn read_location(record: &[u8]) -> Location {
+    Location { statement: record[1] as usize, fault: record[2], shape: Shape::read(record) }
+}
+
+fn read_edge(record: &[u8], locations: &[Location]) -> Edge {
+    let pair = |at: usize| u16::from_le_bytes([record[at], record[at + 1]]);
+    let (to, node) = (pair(4) as usize, record[7] as usize);
+    let guard = match record[6] {
+        0 => Guard::Always,
+        1 => Guard::IsOne(node),
+        _ => Guard::AtLeastTwo(node),
+    };
+    let updates = (0..locations[to].shape.count).map(|i| Update::read(pair(8 + 2 * i))).collect();
+    Edge { branch: record[1], from: pair(2) as usize, to, guard, updates }
+}

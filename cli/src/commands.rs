@@ -1,0 +1,144 @@
+//! What each command does: a result to be written, or a failure with nothing written.
+
+use crate::arguments::{wrong, Arguments};
+use crate::automaton::{check, tables, Places, Refusal, ALL_PLACES, MOST_EDGES, MOST_LOCATIONS};
+use crate::graph;
+use crate::help;
+use crate::listing::Listing;
+use crate::record::SIZE;
+use crate::refusal;
+use crate::run::{Options, Run};
+use crate::source::{bytes, is_records, Failure, Source, REFUSED};
+use crate::style::Style;
+use crate::text;
+
+/// The program `translate` reads no more of its input.
+const MOST_READ: usize = 4096;
+
+/// What is written, and where: to a file, or to standard output.
+#[derive(Debug)]
+pub struct Done {
+    pub output: Vec<u8>,
+    pub file: Option<String>,
+    pub status: u8,
+}
+
+impl Done {
+    fn printed(text: impl Into<Vec<u8>>) -> Done {
+        Done { output: text.into(), file: None, status: 0 }
+    }
+}
+
+/// Where the result goes.
+#[derive(Clone, Copy)]
+pub struct Screen {
+    pub terminal: bool,
+    pub style: Style,
+}
+
+pub fn perform(words: &[String], screen: Screen) -> Result<Done, Failure> {
+    let Some((command, rest)) = words.split_first() else {
+        return Err(Failure { status: 2, message: help::usage() });
+    };
+    if matches!(command.as_str(), "help" | "--help" | "-h") {
+        return helped(rest.first());
+    }
+    if rest.iter().any(|w| w == "--help" || w == "-h") {
+        return helped(Some(command));
+    }
+    match command.as_str() {
+        "assemble" => assemble(rest, screen),
+        "disassemble" => disassemble(rest),
+        "translate" => translate(rest, screen),
+        "run" => run(rest, screen),
+        _ => Err(Failure::bad_use(format!("there is no command `{command}`\n{}", help::usage().trim_end()))),
+    }
+}
+
+fn helped(command: Option<&String>) -> Result<Done, Failure> {
+    match help::of(command.map(String::as_str)) {
+        Some(text) => Ok(Done::printed(text)),
+        None => {
+            Err(Failure::bad_use(format!("there is no command `{}`\n{}", command.map_or("", |c| c), help::usage().trim_end())))
+        }
+    }
+}
+
+fn assemble(words: &[String], screen: Screen) -> Result<Done, Failure> {
+    let given = Arguments::read("assemble", words, &[("-o", true)])?;
+    let source = Source::open(&given.file)?;
+    if source.text.is_none() {
+        return Err(wrong("assemble", format!("{} holds records, and a text is needed", source.name)));
+    }
+    check(&source.records).map_err(|r| refusal::failure(r, &source, ALL_PLACES))?;
+    let file = given.output("-o");
+    // bytes would only disturb a terminal
+    let as_hex = file.is_none() && screen.terminal;
+    let output = if as_hex { hex_lines(&source.records).into_bytes() } else { source.records };
+    Ok(Done { output, file, status: 0 })
+}
+
+fn disassemble(words: &[String]) -> Result<Done, Failure> {
+    let given = Arguments::read("disassemble", words, &[("-o", true)])?;
+    let bytes = bytes(&given.file)?;
+    if !is_records(&bytes) {
+        return Err(wrong("disassemble", format!("{} holds text, and records are needed", given.file)));
+    }
+    let source = Source::of_bytes(&given.file, bytes)?;
+    let routine = source.routine().map_err(|r| refusal::failure(r, &source, ALL_PLACES))?;
+    Ok(Done { output: text::disassemble(&routine).into_bytes(), file: given.output("-o"), status: 0 })
+}
+
+fn translate(words: &[String], screen: Screen) -> Result<Done, Failure> {
+    let known = &[("--hex", false), ("--dot", false), ("--svg", true), ("--locations", true), ("--edges", true)];
+    let given = Arguments::read("translate", words, known)?;
+    given.only_one(&["--hex", "--dot", "--svg"])?;
+    let places = Places {
+        locations: given.number("--locations", MOST_LOCATIONS, MOST_LOCATIONS)?,
+        edges: given.number("--edges", MOST_EDGES, MOST_EDGES)?,
+    };
+    let source = Source::open(&given.file)?;
+    if given.has("--hex") {
+        return Ok(hex(&source.records, places));
+    }
+    let refused = |r: Refusal| refusal::failure(r, &source, places);
+    let automaton = source.automaton(places).map_err(refused)?;
+    let routine = source.routine().map_err(refused)?;
+    let dot = || graph::dot(&source, &routine, &automaton);
+    if given.has("--svg") {
+        return Ok(Done { output: graph::svg(&dot())?, file: given.output("--svg"), status: 0 });
+    }
+    if given.has("--dot") {
+        return Ok(Done::printed(dot()));
+    }
+    Ok(Done::printed(Listing { source: &source, routine: &routine, automaton: &automaton, style: screen.style }.text()))
+}
+
+/// Exactly what the program `translate` prints.
+fn hex(records: &[u8], places: Places) -> Done {
+    match tables(&records[..records.len().min(MOST_READ)], places) {
+        Ok(tables) => Done::printed(hex_lines(&tables.locations) + &hex_lines(&tables.edges)),
+        Err(r) => Done { output: format!("refused {} {}\n", r.number, r.place).into_bytes(), file: None, status: REFUSED },
+    }
+}
+
+fn hex_lines(records: &[u8]) -> String {
+    records.chunks(SIZE).map(|record| refusal::hex(record) + "\n").collect()
+}
+
+fn run(words: &[String], screen: Screen) -> Result<Done, Failure> {
+    let known = &[("--heap", true), ("--shape", true), ("--picks", true), ("--steps", true)];
+    let given = Arguments::read("run", words, known)?;
+    let options = Options {
+        heap: given.numbers("--heap")?,
+        shape: given.number("--shape", 0, 15)?,
+        picks: given.numbers("--picks")?,
+        steps: given.number("--steps", 200, 1_000_000)?,
+    };
+    let source = Source::open(&given.file)?;
+    let refused = |r: Refusal| refusal::failure(r, &source, ALL_PLACES);
+    let automaton = source.automaton(ALL_PLACES).map_err(refused)?;
+    let routine = source.routine().map_err(refused)?;
+    let ran = Run { source: &source, routine: &routine, automaton: &automaton, style: screen.style }.go(&options)?;
+    Ok(Done { output: ran.text.into_bytes(), file: None, status: if ran.matched { 0 } else { REFUSED } })
+}

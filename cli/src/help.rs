@@ -1,0 +1,90 @@
+//! Help texts.
+
+const PROVED: &str = "\
+What is proved: every translation, and in `run` every unfolded heap, plain step and folded shape,
+comes from the proved library. What is not proved: this tool, which reads text, takes the edges of
+the automaton in `run`, and prints.
+";
+
+const TOP: &str = "\
+currantplane: translates list routines into counter automata, for people
+
+  currantplane translate FILE     the automaton as a listing, in hex, as a graph or as a picture
+  currantplane run FILE           the routine on a heap and the automaton beside it, step by step
+  currantplane assemble FILE      a text to records
+  currantplane disassemble FILE   records to a text
+  currantplane help COMMAND       more on a command
+
+FILE is a routine as text (docs/TEXT.md has the grammar) or as records; `-` is standard input. A
+file that is empty, holds a zero byte or is not UTF-8 is taken as records.
+
+Exit status: 0 accepted; 1 refused, or a mismatch in `run`; 2 bad use or bad text. With 2, and where
+records or a picture were refused, nothing is written. Colours only on a terminal, and not where
+NO_COLOR is set.
+";
+
+const TRANSLATE: &str = "\
+currantplane translate FILE [--hex | --dot | --svg OUT] [--locations N] [--edges N]
+
+Prints the automaton of a routine: each location with its statement and its shape, each edge with
+its condition and its updates, the faults, and totals.
+
+  --hex            exactly what the program `translate` prints: a record a line, locations then
+                   edges, or `refused NUMBER PLACE`. As the program does, it judges the first 4,096
+                   bytes of the records alone
+  --dot            a graph for Graphviz
+  --svg OUT        a picture, written to OUT; needs Graphviz (Debian package `graphviz`)
+  --locations N    the places of the location table; without it, 1024, which is the most
+  --edges N        the places of the edge table; without it, 2048, which is the most
+
+A refusal is explained: its number, the record or the line, what it means, what to change.
+";
+
+const RUN: &str = "\
+currantplane run FILE [--heap N,N,..] [--shape I] [--picks P,P,..] [--steps N]
+
+Runs the routine on a heap and the automaton beside it, and compares the two after every step: the
+heap's shape and counters with the location and the automaton's counters.
+
+  --heap N,N,..    how many cells each node of the starting shape stands for, at most 240 in all
+  --shape I        the starting shape, counted from 0; without it, 0
+  --picks P,P,..   what each `choose` picks in turn, 0 or 1; when none is left the run ends
+  --steps N        the most steps; without it, 200
+
+`new` takes the lowest cell that is not in use.
+";
+
+const ASSEMBLE: &str = "\
+currantplane assemble FILE [-o OUT]
+
+Writes the records of a text to OUT, or to standard output: bytes, or hex lines on a terminal. What
+the proved checks of the input refuse is explained and not written. docs/TEXT.md has the grammar.
+
+  -o OUT           the file for the records; it stays as it was when something is wrong
+";
+
+const DISASSEMBLE: &str = "\
+currantplane disassemble FILE [-o OUT]
+
+Writes a text for records. Assembling that text gives the same records again.
+
+  -o OUT           the file for the text; it stays as it was when something is wrong
+";
+
+/// The first page, or a command's; none for an unknown command.
+pub fn of(command: Option<&str>) -> Option<String> {
+    let page = match command {
+        None | Some("help") => TOP,
+        Some("translate") => TRANSLATE,
+        Some("run") => RUN,
+        Some("assemble") => ASSEMBLE,
+        Some("disassemble") => DISASSEMBLE,
+        Some(_) => return None,
+    };
+    Some(format!("{page}\n{PROVED}"))
+}
+
+/// For a wrong use.
+pub fn usage() -> String {
+    "usage: currantplane translate|run|assemble|disassemble FILE [OPTIONS]\nTry `currantplane help`.\n".into()
+}

@@ -1,0 +1,19 @@
+//! The command-line tool over the proved library. What is translated, folded, unfolded and stepped is so by proved code;
+//! reading text and printing, which is all that stands here, is not proved.
+
+pub mod arguments;
+pub mod automaton;
+pub mod chains;
+pub mod commands;
+pub mod drawing;
+pub mod graph;
+pub mod help;
+pub mod listing;
+pub mod machine;
+pub mod names;
+pub mod record;
+pub mod refusal;
+pub mod run;
+pub mod source;
+pub mod style;
+pub mod text;

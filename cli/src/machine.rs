@@ -1,0 +1,104 @@
+//! The routine on a heap, and the automaton beside it: one proved step of the one, one edge of the other.
+
+use crate::automaton::Automaton;
+use crate::record::{Record, NODES, POINTERS};
+
+/// As many cells as a heap image has.
+pub const CELLS: usize = 240;
+const UNUSED: u8 = 0xfd;
+
+/// The routine: its heap and the statement that is next, or the one that faulted.
+#[derive(Clone)]
+pub struct Machine {
+    pub pointers: [u8; POINTERS],
+    pub cells: [u8; CELLS],
+    pub statement: usize,
+    pub fault: u8,
+}
+
+/// What became of a step. A refusal is its number.
+#[derive(Clone, Copy, PartialEq, Eq, Debug)]
+pub enum Stepped {
+    Made { branch: u8 },
+    Stopped,
+    Refused(u8),
+}
+
+impl Machine {
+    /// The heap of a starting shape with these counters, unfolded by the proved library.
+    pub fn start(shape: &Record, counters: &[u32]) -> Result<Machine, u8> {
+        let mut all = [0; NODES];
+        all[..counters.len()].copy_from_slice(counters);
+        let mut machine = Machine { pointers: [0; POINTERS], cells: [0; CELLS], statement: 0, fault: 0 };
+        match currantplane::unfold(shape, &all, &mut machine.pointers, &mut machine.cells) {
+            0 => Ok(machine),
+            refusal => Err(refusal),
+        }
+    }
+
+    /// A step of the proved library; new takes the lowest cell that is not in use. A fault is a step of branch 0.
+    pub fn step(&mut self, statement: &Record, pick: u8) -> Stepped {
+        let cell = self.cells.iter().position(|&c| c == UNUSED).unwrap_or(CELLS);
+        let (refusal, [fault, stop, branch, next]) =
+            currantplane::step(&mut self.pointers, &mut self.cells, statement, pick, cell);
+        match (refusal, fault, stop) {
+            (0, 0, 0) => self.statement = next as usize,
+            (0, 0, _) => return Stepped::Stopped,
+            (0, fault, _) => self.fault = fault,
+            (refusal, ..) => return Stepped::Refused(refusal),
+        }
+        Stepped::Made { branch }
+    }
+}
+
+/// The automaton's place: a location and its counters.
+#[derive(Clone, PartialEq, Eq, Debug)]
+pub struct Configuration {
+    pub location: usize,
+    pub counters: Vec<u64>,
+}
+
+impl Configuration {
+    /// Takes the enabled edge of this branch and gives its number; there must be exactly one.
+    pub fn follow(&mut self, automaton: &Automaton, branch: u8) -> Result<usize, String> {
+        let enabled: Vec<_> =
+            automaton.leaving(self.location).filter(|(_, e)| e.branch == branch && e.guard.holds(&self.counters)).collect();
+        let [(number, edge)] = enabled[..] else {
+            return Err(format!("{} edges of branch {branch} are enabled at location {}", enabled.len(), self.location));
+        };
+        let new: Vec<i64> = edge.updates.iter().map(|u| u.apply(&self.counters)).collect();
+        self.location = edge.to;
+        self.counters = new
+            .iter()
+            .map(|&c| u64::try_from(c).map_err(|_| format!("edge {number} makes a counter {c}")))
+            .collect::<Result<_, _>>()?;
+        Ok(number)
+    }
+}
+
+/// Whether the location with its counters describes the heap, which the proved library folds; the message says how not.
+pub fn compare(automaton: &Automaton, at: &Configuration, machine: &Machine) -> Result<(), String> {
+    let location = &automaton.locations[at.location];
+    if (location.statement, location.fault) != (machine.statement, machine.fault) {
+        return Err(format!(
+            "the location has statement {} and fault {}, the routine statement {} and fault {}",
+            location.statement, location.fault, machine.statement, machine.fault
+        ));
+    }
+    if machine.fault != 0 {
+        return Ok(());
+    }
+    let (refusal, record, counters) = currantplane::fold(&machine.pointers, &machine.cells);
+    if refusal != 0 {
+        return Err(format!("the heap is no heap image: refusal {refusal}"));
+    }
+    if location.shape != crate::record::Shape::read(&record) {
+        return Err("the heap has another shape than the location".into());
+    }
+    let count = location.shape.count;
+    let folded: Vec<u64> = counters[..count].iter().map(|&c| u64::from(c)).collect();
+    if folded != at.counters {
+        return Err(format!("the heap's counters are {folded:?}, the automaton's {:?}", at.counters));
+    }
+    Ok(())
+}

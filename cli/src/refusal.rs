@@ -1,0 +1,232 @@
+//! Refusals in words: the number and its place come from the proved library, the words from here.
+
+use crate::automaton::{Places, Refusal};
+use crate::record::{Op, Shape, NODES, NULL, POINTERS, SIZE};
+use crate::source::{Failure, Source, REFUSED};
+use crate::style::paragraph;
+
+/// What each number from 1 on means, and what to change.
+const MEANINGS: [(&str, &str); 16] = [
+    (
+        "the input is empty, or its length is no multiple of 32 bytes",
+        "records have 32 bytes each and no header: complete the last one or cut it off",
+    ),
+    ("a routine has 1 to 64 statements", "leave statements out, or write two routines"),
+    ("a routine has 1 to 16 starting shapes", "translate the routine twice, each time from some of the shapes"),
+    (
+        "a record is neither S nor H, or an S stands after an H",
+        "put statements (byte 0 is 0x53) first and starting shapes (byte 0 is 0x48) after them",
+    ),
+    ("the op of a statement is above 11", "use an op from 0 (stop) to 11 (skip)"),
+    (
+        "a pointer that the statement uses is above 5, or a byte that it does not use is not zero",
+        "use pointers 0 to 5, and set all other bytes to zero",
+    ),
+    ("a target is no statement", "name a statement of this routine as the target"),
+    ("a starting shape breaks the layout of its record", "write the shape as text and let `assemble` lay it out"),
+    (
+        "a node of a starting shape is unreachable or not core, or the nodes are numbered otherwise than at first visit",
+        "a node stands for a whole row of cells, of any length: leave out a node that only one other node leads to, or \
+         that no pointer reaches",
+    ),
+    ("a starting shape stands there twice", "leave one of the two out"),
+    (
+        "the table has no place for a new location",
+        "set pointers to null when they are no longer needed, use fewer of them or fewer starting shapes; or give a \
+         larger --locations, at most 1024",
+    ),
+    (
+        "the table has no place for an edge",
+        "set pointers to null when they are no longer needed, use fewer of them or fewer starting shapes; or give a \
+         larger --edges, at most 2048",
+    ),
+    ("a heap has six pointers and at most 240 cells, and its values name cells in use", "use fewer cells"),
+    ("no pointer reaches a cell of the heap", "let a pointer lead to every cell"),
+    (
+        "each node stands for at least one cell, and a heap here has at most 240 cells",
+        "give numbers from 1 on to --heap that sum to 240 at most",
+    ),
+    (
+        "a pick is neither 0 nor 1, or no cell is left for new",
+        "give only 0 and 1 to --picks, or fewer cells to --heap, which has 240 in all",
+    ),
+];
+
+/// What a number means and what to change.
+pub fn meaning(number: u8) -> (&'static str, &'static str) {
+    MEANINGS[number as usize - 1]
+}
+
+pub fn failure(refusal: Refusal, source: &Source, places: Places) -> Failure {
+    Failure { status: REFUSED, message: words(refusal, source, places) }
+}
+
+/// The explanation of a refusal, which tables of so many places may have caused.
+pub fn words(refusal: Refusal, source: &Source, places: Places) -> String {
+    let (means, change) = meaning(refusal.number);
+    let mut out = format!("{}: refused {}{}\n", source.name, refusal.number, place_words(refusal, source));
+    out.push_str(&lines_of(refusal, source));
+    out.push_str(&paragraph("  meaning: ", 11, means));
+    if let Some(here) = here(refusal, source, places) {
+        out.push_str(&paragraph("  here:    ", 11, &here));
+    }
+    out + &paragraph("  change:  ", 11, change)
+}
+
+/// How many S records there are.
+fn statements(source: &Source) -> usize {
+    source.records.chunks_exact(SIZE).filter(|r| r[0] == b'S').count()
+}
+
+fn place_words(refusal: Refusal, source: &Source) -> String {
+    let Refusal { number, place } = refusal;
+    match number {
+        4 => format!(" at record {place}"),
+        5..=7 => format!(" at record {place}, which is statement {place}"),
+        8..=10 => format!(" at record {place}, which is starting shape {}", place - statements(source).min(place)),
+        _ => String::new(),
+    }
+}
+
+/// The lines of the text that the record comes from; for too many records, the first that is too many.
+fn lines_of(refusal: Refusal, source: &Source) -> String {
+    let record = match refusal.number {
+        2 => 64,
+        3 => statements(source) + 16,
+        4..=10 => refusal.place,
+        _ => return String::new(),
+    };
+    let Some(text) = &source.text else { return hex_of(refusal, source) };
+    let Some(&(first, last)) = text.assembled.lines.get(record) else { return String::new() };
+    let shown = text.content.lines().enumerate().skip(first - 1).take(last + 1 - first);
+    shown.map(|(at, line)| format!(" {:>4} | {}\n", at + 1, line.trim_end())).collect()
+}
+
+fn hex_of(refusal: Refusal, source: &Source) -> String {
+    match refusal.number {
+        4..=10 => format!("  record:  {}\n", hex(source.record(refusal.place))),
+        _ => String::new(),
+    }
+}
+
+pub fn hex(bytes: &[u8]) -> String {
+    bytes.iter().map(|b| format!("{b:02x}")).collect()
+}
+
+/// What is wrong in this input, as far as it is more than the meaning.
+fn here(refusal: Refusal, source: &Source, places: Places) -> Option<String> {
+    let Refusal { number, place } = refusal;
+    let record = source.record(place);
+    match number {
+        1 => Some(format!("it has {} bytes{}", source.records.len(), taken_as_records(source))),
+        2 => Some(format!("there are {}", statements(source))),
+        3 => Some(format!("there are {}", source.records.len() / SIZE - statements(source))),
+        4 if record[0] == b'S' => Some("an S record stands after an H record".into()),
+        4 => Some(format!("byte 0 is 0x{:02x}{}", record[0], taken_as_records(source))),
+        5 => Some(format!("the op is {}", record[1])),
+        6 => pointer_words(record),
+        7 => target_words(record, statements(source)),
+        8 => Some(layout_words(record)),
+        9 => node_words(&Shape::read(record), &node_names(source, place)),
+        10 => equal_words(source, place),
+        11 if place == places.locations => {
+            Some(format!("starting shape {place} finds no place: the table has {}", places.locations))
+        }
+        11 => Some(format!("all {} places were in use when location {place} was explored", places.locations)),
+        12 => Some(format!("all {} places were in use when location {place} was explored", places.edges)),
+        _ => None,
+    }
+}
+
+/// For a text that was none: why it was not read as one.
+fn taken_as_records(source: &Source) -> &'static str {
+    match source.records.is_empty() {
+        true => "",
+        false => " (the file is taken as records, since it holds a zero byte or is not UTF-8)",
+    }
+}
+
+fn pointer_words(record: &[u8]) -> Option<String> {
+    let op = *Op::ALL.get(record[1] as usize)?;
+    let used = [(2, "u", op.uses_u()), (3, "w", op.uses_w())];
+    if let Some((at, name, _)) = used.into_iter().find(|&(at, _, used)| used && record[at] as usize >= POINTERS) {
+        return Some(format!("pointer {name} (byte {at}) is {}", record[at]));
+    }
+    let uses = |at: usize| match at {
+        0 | 1 => true,
+        2 => op.uses_u(),
+        3 => op.uses_w(),
+        4 => op.uses_first(),
+        5 => op.uses_second(),
+        _ => false,
+    };
+    let at = (0..SIZE).find(|&at| !uses(at) && record[at] != 0)?;
+    Some(format!("op {} does not use byte {at}, and it is {}", record[1], record[at]))
+}
+
+fn target_words(record: &[u8], count: usize) -> Option<String> {
+    let op = *Op::ALL.get(record[1] as usize)?;
+    let used = [(4, "first", op.uses_first()), (5, "second", op.uses_second())];
+    let (at, name, _) = used.into_iter().find(|&(at, _, used)| used && record[at] as usize >= count)?;
+    Some(format!("the {name} target (byte {at}) is {}, and the statements are 0 to {}", record[at], count - 1))
+}
+
+fn layout_words(record: &[u8]) -> String {
+    let count = record[3] as usize;
+    if count > NODES {
+        return format!("the node count (byte 3) is {count}, and at most {NODES} is allowed");
+    }
+    let value = |b: u8| (b as usize) < count || b >= NULL;
+    let right = |at: usize| match at {
+        0 | 3 => true,
+        4..=9 => value(record[at]),
+        10..=21 if at < 10 + count => value(record[at]),
+        _ => record[at] == 0,
+    };
+    let wanted = |at: usize| match at {
+        4..=21 if at < 10 + count => format!("a node below {count}, 0xfe for null or 0xff for undefined"),
+        _ => "0".into(),
+    };
+    match (0..SIZE).find(|&at| !right(at)) {
+        Some(at) => format!("byte {at} is 0x{:02x} and must be {}", record[at], wanted(at)),
+        None => "the record is not whole".into(),
+    }
+}
+
+/// The names that the text gives the nodes, or their numbers.
+fn node_names(source: &Source, place: usize) -> Vec<String> {
+    let given = source.text.as_ref().and_then(|t| t.assembled.nodes.get(place - statements(source).min(place)));
+    let name = |n: usize| given.and_then(|names| names.get(n)).map_or(format!("node {n}"), |name| format!("`{name}`"));
+    (0..NODES).map(name).collect()
+}
+
+fn node_words(shape: &Shape, names: &[String]) -> Option<String> {
+    let mut order: Vec<u8> = Vec::new();
+    for &start in &shape.pointers {
+        let mut value = start;
+        while value < NULL && !order.contains(&value) {
+            order.push(value);
+            value = shape.successors[value as usize];
+        }
+    }
+    let nodes = 0..shape.count;
+    if let Some(lost) = nodes.clone().find(|&n| !order.contains(&(n as u8))) {
+        return Some(format!("no pointer reaches {}", names[lost]));
+    }
+    let holders = |n: usize| nodes.clone().filter(|&m| shape.successors[m] as usize == n).collect::<Vec<_>>();
+    let inner = nodes.clone().find(|&n| !shape.pointers.contains(&(n as u8)) && holders(n).len() < 2);
+    if let Some(n) = inner {
+        let before = &names[holders(n).first().copied()?];
+        return Some(format!("nothing but {before} leads to {0}, so the cells of {0} belong to {before}", names[n]));
+    }
+    let (at, found) = order.iter().enumerate().find(|&(at, &n)| at != n as usize)?;
+    Some(format!("node {found} is visited as number {at}"))
+}
+
+fn equal_words(source: &Source, place: usize) -> Option<String> {
+    let first = statements(source);
+    let earlier = (first..place).find(|&p| source.record(p) == source.record(place))?;
+    let line = source.text.as_ref().and_then(|t| t.assembled.lines.get(earlier));
+    let on_line = line.map_or(String::new(), |(line, _)| format!(", line {line}"));
+    Some(format!("it is equal to starting shape {} (record {earlier}{on_line})", earlier - first))
+}

@@ -1,0 +1,136 @@
+//! The command line: exit statuses, help, what is written and what is not.
+
+mod common;
+
+use common::{example, folder, root, text, tool};
+use std::process::Stdio;
+
+fn status(words: &[&str], input: &[u8]) -> i32 {
+    tool(words, input).status.code().expect("no signal")
+}
+
+#[test]
+fn exit_statuses() {
+    let good = example("reverse");
+    for words in [["translate", "-"], ["assemble", "-"]] {
+        assert_eq!(status(&words, good.as_bytes()), 0);
+        assert_eq!(status(&words, b"stop\nshape\np0 -> a -> b\n"), 1);
+        assert_eq!(status(&words, b"stp\n"), 2);
+    }
+    assert_eq!(status(&["disassemble", "examples/tortoise.records"], b""), 0);
+    assert_eq!(status(&["disassemble", "-"], &[0; 32]), 1);
+    assert_eq!(status(&["translate", "examples/leak.txt", "--locations", "1024", "--edges=2048"], b""), 0);
+    let wrong: [&[&str]; 16] = [
+        &[],
+        &["translat", "-"],
+        &["translate"],
+        &["translate", "examples/reverse.txt", "examples/leak.txt"],
+        &["translate", "examples/none.txt"],
+        &["translate", "examples"],
+        &["translate", "--hexx", "examples/reverse.txt"],
+        &["translate", "--hex", "--dot", "examples/reverse.txt"],
+        &["translate", "--hex", "--hex", "examples/reverse.txt"],
+        &["translate", "--hex=1", "examples/reverse.txt"],
+        &["translate", "examples/reverse.txt", "--svg"],
+        &["translate", "examples/reverse.txt", "--locations", "1025"],
+        &["translate", "examples/reverse.txt", "--edges", "-1"],
+        &["assemble", "examples/reverse.records"],
+        &["disassemble", "examples/reverse.txt"],
+        &["help", "me"],
+    ];
+    for words in wrong {
+        let done = tool(words, b"");
+        let said = text(&done.stderr);
+        assert_eq!(done.status.code(), Some(2), "{words:?} {said}");
+        assert!(done.stdout.is_empty() && (said.contains("currantplane") && said.ends_with('\n')), "{words:?} {said}");
+    }
+}
+
+#[test]
+fn help_says_what_is_proved() {
+    for words in [
+        vec!["help"],
+        vec!["--help"],
+        vec!["-h"],
+        vec!["help", "translate"],
+        vec!["run", "--help"],
+        vec!["help", "assemble"],
+        vec!["disassemble", "-h"],
+    ] {
+        let done = tool(&words, b"");
+        let said = text(&done.stdout);
+        assert_eq!((done.status.code(), done.stderr.len()), (Some(0), 0), "{words:?}");
+        assert!(said.contains("What is proved: ") && said.contains("What is not proved: "), "{said}");
+        assert!(said.lines().all(|l| l.len() <= 100), "{said}");
+    }
+    for option in ["--hex", "--dot", "--svg", "--locations", "--edges"] {
+        assert!(text(&tool(&["help", "translate"], b"").stdout).contains(option));
+    }
+    for option in ["--heap", "--shape", "--picks", "--steps"] {
+        assert!(text(&tool(&["help", "run"], b"").stdout).contains(option));
+    }
+}
+
+#[test]
+fn files_are_written_whole_or_not_at_all() {
+    let folder = folder("written");
+    let file = folder.join("out");
+    let name = file.to_str().unwrap();
+    std::fs::write(&file, "as it was").unwrap();
+    for (words, input) in [
+        (["assemble", "-", "-o", name], "stp\n"),
+        (["assemble", "-", "-o", name], "stop\nshape\np0 -> a -> b\n"),
+        (["disassemble", "-", "-o", name], "S\0"),
+        (["translate", "-", "--svg", name], "stop\n"),
+        (["translate", "-", "--svg", name], "stop\nshape\np0 -> a -> b\n"),
+    ] {
+        assert_ne!(status(&words, input.as_bytes()), 0);
+        assert_eq!(std::fs::read_to_string(&file).unwrap(), "as it was", "{words:?}");
+    }
+    let done = tool(&["assemble", "examples/reverse.txt", "-o", name], b"");
+    assert_eq!((done.status.code(), done.stdout.len(), done.stderr.len()), (Some(0), 0, 0));
+    let records = std::fs::read(root().join("examples/reverse.records")).unwrap();
+    assert_eq!(std::fs::read(&file).unwrap(), records);
+    assert_eq!(tool(&["assemble", "-"], example("reverse").as_bytes()).stdout, records);
+    assert_eq!(status(&["assemble", "examples/reverse.txt", "-o", "/nowhere/out"], b""), 2);
+}
+
+#[test]
+fn text_and_records_give_the_same() {
+    let records = tool(&["assemble", "examples/ring.txt"], b"").stdout;
+    for option in ["--hex", "--locations=1000"] {
+        let of_text = text(&tool(&["translate", "examples/ring.txt", option], b"").stdout);
+        let of_records = text(&tool(&["translate", "-", option], &records).stdout);
+        // records have no labels and no file name
+        let plain = of_text.replace("examples/ring.txt", "standard input").replace(" (turn)", "").replace(" (alone)", "");
+        assert_eq!(plain, of_records);
+    }
+}
+
+#[test]
+fn no_colours_without_a_terminal() {
+    for words in [vec!["translate", "examples/leak.txt"], vec!["run", "examples/leak.txt", "--heap", "2"]] {
+        assert!(!tool(&words, b"").stdout.contains(&0x1b));
+    }
+}
+
+#[test]
+fn a_reader_that_goes_away_is_no_failure() {
+    let mut child = common::command()
+        .args(["translate", "examples/remove.txt"])
+        .stdout(Stdio::piped())
+        .stderr(Stdio::piped())
+        .spawn()
+        .unwrap();
+    drop(child.stdout.take());
+    let done = child.wait_with_output().unwrap();
+    assert_eq!((done.status.code(), text(&done.stderr)), (Some(0), String::new()));
+}
+
+#[test]
+fn a_full_disk_is_told() {
+    let full = std::fs::OpenOptions::new().write(true).open("/dev/full").unwrap();
+    let done = common::command().args(["translate", "examples/leak.txt"]).stdout(full).stderr(Stdio::piped()).output().unwrap();
+    assert_eq!(done.status.code(), Some(2));
+    assert!(text(&done.stderr).starts_with("currantplane: cannot write standard output: "));
+}

@@ -1,0 +1,83 @@
+//! Graphs and pictures.
+
+mod common;
+
+use common::{example, folder, text, tool, Draw};
+use tool::automaton::{tables, Automaton, ALL_PLACES};
+use tool::drawing::shape_lines;
+use tool::names;
+use tool::source::Source;
+use tool::text::assemble;
+
+#[test]
+fn a_graph_has_every_location_and_edge() {
+    for name in common::EXAMPLES {
+        let shown = text(&tool(&["translate", &format!("examples/{name}.txt"), "--dot"], b"").stdout);
+        let tables = tables(&assemble(&example(name)).unwrap().records, ALL_PLACES).unwrap();
+        let automaton = Automaton::read(&tables);
+        let count = |what: &str| shown.lines().filter(|l| l.contains(what)).count();
+        assert_eq!(count("[label=<<B>location "), automaton.locations.len());
+        assert_eq!(count(" -> l"), automaton.edges.len());
+        for (number, location) in automaton.locations.iter().enumerate() {
+            let line = shown.lines().find(|l| l.starts_with(&format!("  l{number} ["))).unwrap();
+            assert_eq!(line.contains("fillcolor"), location.fault != 0, "{line}");
+            assert_eq!(line.contains("penwidth"), line.contains(", start</B>"), "{line}");
+        }
+        for (edge, line) in automaton.edges.iter().zip(shown.lines().filter(|l| l.contains(" -> l"))) {
+            assert!(line.starts_with(&format!("  l{} -> l{} [", edge.from, edge.to)), "{line}");
+        }
+    }
+}
+
+/// What a box or an arrow says: its lines, quoted.
+fn said(lines: &[String]) -> String {
+    lines.iter().map(|l| l.replace('>', "&gt;") + "<BR ALIGN=\"LEFT\"/>").collect()
+}
+
+#[test]
+fn boxes_and_arrows_say_what_the_listing_says() {
+    let mut d = Draw::new(9);
+    let mut faults = [0; 4];
+    for _ in 0..400 {
+        let source = Source::of_bytes("a", d.routine(9)).unwrap();
+        let Ok(automaton) = source.automaton(ALL_PLACES) else { continue };
+        let routine = source.routine().unwrap();
+        let shown = tool::graph::dot(&source, &routine, &automaton);
+        for (number, location) in automaton.locations.iter().enumerate() {
+            let line = shown.lines().find(|l| l.starts_with(&format!("  l{number} ["))).unwrap();
+            let statement = &routine.statements[location.statement];
+            let mut lines = vec![format!("{}: {}", location.statement, names::statement(statement))];
+            let short = |pieces: &Vec<String>| pieces.join(" ").len() <= 52;
+            if location.fault != 0 {
+                lines.extend(names::fault(location.fault, statement));
+                assert!(line.contains(&format!("FAULT {}</B>", location.fault)), "{line}");
+            } else if shape_lines(&location.shape, &routine.idle_pointers()).iter().all(short) {
+                lines.extend(shape_lines(&location.shape, &routine.idle_pointers()).iter().map(|p| p.join(" ")));
+            }
+            assert!(line.replace("&#160;", " ").contains(&said(&lines)), "{lines:?} is not in {line}");
+            assert_eq!(line.contains("fillcolor"), location.fault != 0, "{line}");
+            faults[location.fault as usize] += 1;
+        }
+        for (edge, line) in automaton.edges.iter().zip(shown.lines().filter(|l| l.contains(" -> l"))) {
+            let from = &automaton.locations[edge.from];
+            let mut lines = vec![names::condition(edge, &routine.statements[from.statement])];
+            lines.extend(names::updates(edge, from.shape.count));
+            lines.retain(|l| !l.is_empty() && l != "counters kept");
+            assert!(line.contains(&said(&lines)), "{lines:?} is not in {line}");
+        }
+    }
+    assert!(faults.iter().all(|&n| n > 50), "{faults:?}");
+}
+
+#[test]
+fn without_graphviz_nothing_is_written() {
+    let file = folder("no-graphviz").join("picture.svg");
+    std::fs::write(&file, "as it was").unwrap();
+    let mut asked = common::command();
+    let done =
+        asked.env("PATH", folder("no-programs")).args(["translate", "examples/leak.txt", "--svg"]).arg(&file).output().unwrap();
+    assert_eq!(done.status.code(), Some(2));
+    let said = text(&done.stderr);
+    assert!(said.contains("package `graphviz`") && said.contains("--dot"), "{said}");
+    assert_eq!(std::fs::read_to_string(&file).unwrap(), "as it was");
+}

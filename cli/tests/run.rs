@@ -1,0 +1,187 @@
+//! Runs beside the automaton: they match, and a changed automaton is told.
+
+mod common;
+
+use common::{example, text, tool, Draw};
+use tool::automaton::{Automaton, Guard, ALL_PLACES};
+use tool::record::Routine;
+use tool::run::{End, Options, Ran, Run};
+use tool::source::Source;
+use tool::style::Style;
+
+fn open(name: &str) -> (Source, Routine, Automaton) {
+    let source = Source::of_bytes(name, example(name).into_bytes()).unwrap();
+    let (routine, automaton) = (source.routine().unwrap(), source.automaton(ALL_PLACES).unwrap());
+    (source, routine, automaton)
+}
+
+fn go(source: &Source, routine: &Routine, automaton: &Automaton, options: &Options) -> Ran {
+    Run { source, routine, automaton, style: Style::PLAIN }.go(options).unwrap_or_else(|f| panic!("{}", f.message))
+}
+
+fn options(d: &mut Draw, routine: &Routine, most: usize) -> Options {
+    let shape = d.below(routine.shapes.len());
+    Options {
+        heap: (0..routine.shapes[shape].count).map(|_| 1 + d.below(most) as u32).collect(),
+        shape,
+        picks: (0..60).map(|_| d.below(2) as u8).collect(),
+        steps: 120,
+    }
+}
+
+#[test]
+fn random_runs_match() {
+    let mut d = Draw::new(3);
+    let (mut runs, mut steps, mut faults, mut stops) = (0, 0, [0; 4], 0);
+    for round in 0..1500 {
+        let source = Source::of_bytes("a", d.routine(if round % 4 == 0 { 40 } else { 9 })).unwrap();
+        let Ok(automaton) = source.automaton(ALL_PLACES) else { continue };
+        let routine = source.routine().unwrap();
+        for most in [1, 2, 3, 9] {
+            let ran = go(&source, &routine, &automaton, &options(&mut d, &routine, most));
+            assert!(ran.matched, "{}", ran.text);
+            assert!(ran.text.lines().all(|l| l.chars().count() <= 100), "{}", ran.text);
+            assert_eq!(ran.text.matches("\n  match ").count(), ran.steps + 1, "{}", ran.text);
+            assert_eq!(ran.text.matches("\n  edge ").count(), ran.steps);
+            runs += 1;
+            steps += ran.steps;
+            match ran.end {
+                End::Fault(fault) => faults[fault as usize] += 1,
+                End::Stop => stops += 1,
+                _ => {}
+            }
+        }
+    }
+    assert!(runs > 5000 && steps > 20_000 && stops > 100, "{runs} runs, {steps} steps, {stops} stops");
+    assert!(faults[1..].iter().all(|&n| n > 50), "{faults:?}");
+}
+
+/// The examples that are right never fault, from any starting shape; the two that are wrong always do.
+#[test]
+fn examples_do_what_they_say() {
+    let mut d = Draw::new(4);
+    for name in common::EXAMPLES {
+        let (source, routine, automaton) = open(name);
+        for _ in 0..400 {
+            let options = options(&mut d, &routine, 7);
+            let ran = go(&source, &routine, &automaton, &options);
+            let expected = match name {
+                "leak" => vec![End::Fault(3)],
+                "freed" => vec![End::Fault(2)],
+                "ring" => vec![End::Stop, End::NoPick, End::NoMoreSteps],
+                _ => vec![End::Stop],
+            };
+            assert!(ran.matched && expected.contains(&ran.end), "{name}: {:?}\n{}", ran.end, ran.text);
+        }
+    }
+}
+
+#[test]
+fn one_cell_and_forty() {
+    let shown = text(&tool(&["run", "examples/two-lists.txt", "--heap", "1,40"], b"").stdout);
+    assert!(shown.contains("p1 -> 1 -> 2 -> .. 37 more .. -> 40 -> null\n"), "{shown}");
+    assert!(shown.contains("statement 4: p2 := p2.next\n  edge 4     if c0 = 1: counters kept\n"), "{shown}");
+    assert!(shown.contains("  match      location 5 at statement 5, c0 = 1, c1 = 40\n"), "{shown}");
+    assert!(
+        shown.ends_with(
+            "9 steps and 9 edges, each pair matched. The routine stands at a stop, and no edge leaves the\nlocation.\n"
+        ),
+        "{shown}"
+    );
+}
+
+/// Every change of an edge or a location of reversal that a run of three cells passes is told.
+#[test]
+fn a_changed_automaton_is_told() {
+    let (source, routine, whole) = open("reverse");
+    let three = || Options { heap: vec![3], shape: 0, picks: Vec::new(), steps: 200 };
+    let right = go(&source, &routine, &whole, &three());
+    let told = |change: &dyn Fn(&mut Automaton), what: &str| {
+        let mut changed = whole.clone();
+        change(&mut changed);
+        let ran = go(&source, &routine, &changed, &three());
+        assert!(
+            !ran.matched && matches!(ran.end, End::Mismatch(_)) && ran.text.contains("\nMISMATCH after "),
+            "{what}: {}",
+            ran.text
+        );
+    };
+    let taken: Vec<usize> = (0..whole.edges.len()).filter(|n| right.text.contains(&format!("\n  edge {n} "))).collect();
+    assert!(taken.len() > 15);
+    for &n in &taken {
+        told(&|a| a.edges[n].to = (a.edges[n].to + 1) % a.locations.len(), "target");
+        told(&|a| a.edges[n].branch ^= 1, "branch");
+        told(&|a| a.edges[n].from = 12, "source");
+        told(&|a| a.edges[n].updates[0].constant += 1, "update");
+        told(&|a| drop(a.edges.remove(n)), "removed");
+        let to = whole.edges[n].to;
+        told(&|a| a.locations[to].statement = (a.locations[to].statement + 1) % 8, "statement");
+        told(&|a| a.locations[to].shape.pointers[5] = 0xff, "shape");
+    }
+    told(&|a| a.edges[5].guard = Guard::IsOne(0), "guard");
+    told(&|a| a.edges[8].guard = Guard::AtLeastTwo(1), "guard");
+    told(&|a| a.locations[0].shape.pointers[4] = 0xff, "start");
+    let added = |a: &mut Automaton, from: usize| a.edges.push(tool::automaton::Edge { from, ..a.edges[0].clone() });
+    told(&|a| added(a, 12), "an edge more, from the stop");
+    told(&|a| added(a, 4), "an edge more, beside the one that is enabled");
+}
+
+/// At a fault too, statement and fault must be the routine's.
+#[test]
+fn a_changed_fault_is_told() {
+    let (source, routine, whole) = open("leak");
+    let two = || Options { heap: vec![2], shape: 0, picks: Vec::new(), steps: 200 };
+    assert_eq!(go(&source, &routine, &whole, &two()).end, End::Fault(3));
+    for (fault, statement) in [(2, 3), (0, 3), (3, 2)] {
+        let mut changed = whole.clone();
+        (changed.locations[5].fault, changed.locations[5].statement) = (fault, statement);
+        let ran = go(&source, &routine, &changed, &two());
+        assert!(matches!(ran.end, End::Mismatch(_)), "{fault} {statement}: {}", ran.text);
+    }
+}
+
+#[test]
+fn guards_hold_of_their_own_counter() {
+    for (counters, one, more) in [([0, 5], false, false), ([1, 5], true, false), ([2, 0], false, true), ([40, 1], false, true)] {
+        assert_eq!((Guard::IsOne(0).holds(&counters), Guard::AtLeastTwo(0).holds(&counters)), (one, more));
+        assert!(Guard::Always.holds(&counters));
+    }
+}
+
+/// The guard on the sum of all counters, which was the old fault.
+#[test]
+fn a_guard_on_the_sum_is_told() {
+    let (source, routine, mut automaton) = open("two-lists");
+    // 41 cells in all: by the sum, only the edge for two or more is open
+    automaton.edges.retain(|e| e.from != 4 || e.guard != Guard::IsOne(0));
+    automaton.edges.iter_mut().filter(|e| e.from == 4).for_each(|e| e.guard = Guard::AtLeastTwo(1));
+    let ran = go(&source, &routine, &automaton, &Options { heap: vec![1, 40], shape: 0, picks: Vec::new(), steps: 200 });
+    assert!(matches!(ran.end, End::Mismatch(_)), "{}", ran.text);
+    assert!(ran.text.contains("\n  MISMATCH   location 6 at statement 5, c0 = 1, c1 = 0, c2 = 40\n"), "{}", ran.text);
+}
+
+#[test]
+fn how_runs_end() {
+    let ends = |words: &[&str], status: i32, expected: &str| {
+        let done = tool(words, b"");
+        let said = (text(&done.stdout) + &text(&done.stderr)).replace('\n', " ");
+        assert!(said.contains(expected), "{expected} is not in {said}");
+        assert_eq!(done.status.code(), Some(status), "{said}");
+    };
+    ends(
+        &["run", "examples/insert.txt", "--heap", "2"],
+        0,
+        "2 steps and 2 edges, each pair matched. The run waits at choose: --picks has no pick left.",
+    );
+    ends(
+        &["run", "examples/ring.txt", "--heap", "2", "--picks", "0,0,0", "--steps", "4"],
+        0,
+        "4 steps and 4 edges, each pair matched. The run could go on",
+    );
+    ends(&["run", "examples/leak.txt", "--heap", "2"], 0, "The run ends with fault 3, leak, and no edge leaves the location.");
+    ends(&["run", "examples/insert.txt", "--shape", "1"], 0, "The routine stands at a stop");
+    ends(&["run", "examples/insert.txt", "--shape", "2"], 2, "--shape 2: the routine has 2 starting shapes, counted from 0");
+    let drawn = "starting shape 0 needs 2, one for each node:     p0 -> n0(c0) -> null     p1 -> n1(c1) -> null";
+    ends(&["run", "examples/two-lists.txt", "--heap", "3"], 2, drawn);
+    ends(&["run", "examples/two-lists.txt", "--heap", "3,x"], 2, "--heap takes numbers with commas between them, not `x`");
+}

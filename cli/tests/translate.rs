@@ -1,0 +1,247 @@
+//! Listings, hex, graphs and pictures.
+
+mod common;
+
+use common::{example, root, text, tool, Draw};
+use std::collections::HashMap;
+use tool::automaton::{tables, Automaton, Tables, ALL_PLACES};
+use tool::listing::Listing;
+use tool::source::Source;
+use tool::style::Style;
+
+fn listing(source: &Source) -> Option<(String, Tables)> {
+    let tables = tables(&source.records, ALL_PLACES).ok()?;
+    let (routine, automaton) = (source.routine().unwrap(), Automaton::read(&tables));
+    Some((Listing { source, routine: &routine, automaton: &automaton, style: Style::PLAIN }.text(), tables))
+}
+
+fn of_text(name: &str) -> Source {
+    Source::of_bytes(name, example(name).into_bytes()).unwrap()
+}
+
+#[test]
+fn hex_is_what_the_program_prints() {
+    let mut cases = 0;
+    for entry in std::fs::read_dir(root().join("tests/cases")).unwrap() {
+        let input = entry.unwrap().path();
+        if input.extension().is_some_and(|e| e == "in") {
+            let done = tool(&["translate", input.to_str().unwrap(), "--hex"], b"");
+            let expected = std::fs::read(input.with_extension("out")).unwrap();
+            assert!(done.stdout == expected, "{} gives\n{}", input.display(), text(&done.stdout));
+            assert_eq!(done.status.code(), Some(i32::from(expected.starts_with(b"refused"))), "{}", input.display());
+            cases += 1;
+        }
+    }
+    assert!(cases >= 30, "only {cases} cases");
+}
+
+#[test]
+fn hex_judges_the_first_4096_bytes() {
+    // 128 S records, and one byte too many
+    let mut records = vec![0x53; 4096];
+    records.push(0);
+    let cut = tool(&["translate", "-", "--hex"], &records);
+    assert_eq!((text(&cut.stdout), cut.status.code()), ("refused 2 0\n".into(), Some(1)));
+    let whole = tool(&["translate", "-"], &records);
+    assert!(text(&whole.stderr).contains("refused 1"), "{}", text(&whole.stderr));
+}
+
+/// A listing's blocks, with wrapped lines joined.
+fn joined(listing: &str) -> Vec<Vec<String>> {
+    let mut out: Vec<Vec<String>> = Vec::new();
+    for block in listing.split("\n\n") {
+        let mut lines: Vec<String> = Vec::new();
+        for line in block.lines() {
+            if line.starts_with(&" ".repeat(19)) {
+                lines.last_mut().unwrap().push_str(&format!(" {}", line.trim()));
+            } else {
+                lines.push(line.into());
+            }
+        }
+        out.push(lines);
+    }
+    out
+}
+
+fn number(word: &str) -> u8 {
+    word.trim_start_matches(|c: char| !c.is_ascii_digit()).split(|c: char| !c.is_ascii_digit()).next().unwrap().parse().unwrap()
+}
+
+/// The L record that a block of the listing tells of.
+fn location_record(block: &[String]) -> [u8; 32] {
+    let mut record = [0; 32];
+    record[0] = 0x4c;
+    let said = &block[0][15..];
+    let statement = said.split_once("statement ").unwrap().1;
+    record[1] = number(statement);
+    if said.starts_with("FAULT") {
+        record[2] = number(said);
+        return record;
+    }
+    record[4..10].fill(0xfe);
+    let mut nodes = HashMap::new();
+    for chain in block[1..].iter().filter(|l| l.starts_with("     ")).flat_map(|l| l.trim().split("   ")) {
+        let parts: Vec<&str> = chain.split(" -> ").collect();
+        let value = |part: &str| match part {
+            "null" => 0xfe,
+            "undefined" => 0xff,
+            node => number(node),
+        };
+        if parts.len() > 1 {
+            parts[0].split(", ").for_each(|p| record[4 + number(p) as usize] = value(parts[1]));
+            nodes.extend(parts[1..].windows(2).map(|w| (value(w[0]), value(w[1]))));
+        }
+    }
+    record[3] = nodes.len() as u8;
+    nodes.iter().for_each(|(node, next)| record[10 + *node as usize] = *next);
+    record
+}
+
+/// The E record that a line of the listing tells of.
+fn edge_record(line: &str, from: usize, old: u8, new: u8) -> [u8; 32] {
+    let (condition, rest) = line[15..].split_once("to location ").unwrap();
+    let condition = condition.trim();
+    let mut record = [0; 32];
+    record[0] = 0x45;
+    record[1] = u8::from(condition == "false" || condition == "pick 1");
+    record[2..4].copy_from_slice(&(from as u16).to_le_bytes());
+    let to: u16 = rest.split(|c: char| !c.is_ascii_digit()).next().unwrap().parse().unwrap();
+    record[4..6].copy_from_slice(&to.to_le_bytes());
+    if let Some(guard) = condition.strip_prefix("if ") {
+        record[6] = if guard.ends_with(" = 1") { 1 } else { 2 };
+        assert!(guard.ends_with(" = 1") || guard.ends_with(" >= 2"), "{line}");
+        record[7] = number(guard);
+    }
+    if rest.contains("FAULT") {
+        return record;
+    }
+    let updates: Vec<String> = match rest.split_once(": ").map_or("", |u| u.1) {
+        "" => Vec::new(),
+        "counters kept" => (0..old).map(|n| format!("c{n}' = c{n}")).collect(),
+        told => told.split(", ").map(String::from).collect(),
+    };
+    assert_eq!(updates.len(), new as usize, "{line}");
+    for (n, update) in updates.iter().enumerate() {
+        let sum = update.strip_prefix(&format!("c{n}' = ")).unwrap();
+        let mut bits: u16 = 1 << 12;
+        for term in sum.replace("- ", "+ -").split(" + ") {
+            match term.trim() {
+                "-1" => bits -= 1 << 12,
+                "1" => bits += 1 << 12,
+                "0" => {}
+                counter => bits |= 1 << number(counter),
+            }
+        }
+        record[8 + 2 * n..10 + 2 * n].copy_from_slice(&bits.to_le_bytes());
+    }
+    record
+}
+
+/// Reads both tables back from the listing.
+fn tables_of(listing: &str) -> (Vec<u8>, Vec<u8>) {
+    let blocks = joined(listing);
+    let told = &blocks[1..blocks.len() - 1];
+    let locations: Vec<[u8; 32]> = told.iter().map(|b| location_record(b)).collect();
+    let mut edges: Vec<[u8; 32]> = Vec::new();
+    for (from, block) in told.iter().enumerate() {
+        assert!(block[0].starts_with(&format!("location {from} ")), "{}", block[0]);
+        for line in block.iter().filter(|l| l.starts_with("  edge ")) {
+            assert!(line.starts_with(&format!("  edge {} ", edges.len())), "{line}");
+            let to: usize =
+                line.split_once("to location ").unwrap().1.split(|c: char| !c.is_ascii_digit()).next().unwrap().parse().unwrap();
+            edges.push(edge_record(line, from, locations[from][3], locations[to][3]));
+        }
+    }
+    (locations.concat(), edges.concat())
+}
+
+fn no_long_lines(shown: &str) {
+    for line in shown.lines() {
+        assert!(line.chars().count() <= 100, "{} columns: {line}", line.chars().count());
+        assert!(!line.contains('\x1b') && line.trim_end() == line, "{line:?}");
+    }
+}
+
+#[test]
+fn listings_tell_the_whole_tables() {
+    let mut d = Draw::new(2);
+    let (mut seen, mut large) = (0, 0);
+    for round in 0..2400 {
+        let records = d.routine(if round % 2 == 0 { 64 } else { 9 });
+        let source = Source::of_bytes("a", records).unwrap();
+        if let Some((shown, tables)) = listing(&source) {
+            no_long_lines(&shown);
+            let (locations, edges) = tables_of(&shown);
+            assert!(locations == tables.locations && edges == tables.edges, "{shown}");
+            seen += 1;
+            large += usize::from(locations.len() > 200 * 32);
+        }
+    }
+    assert!(seen > 1000 && large > 30, "{seen} listings, {large} large ones");
+}
+
+#[test]
+fn listings_of_the_examples_tell_the_whole_tables() {
+    for name in common::EXAMPLES {
+        let (shown, tables) = listing(&of_text(name)).unwrap();
+        no_long_lines(&shown);
+        assert_eq!(tables_of(&shown), (tables.locations, tables.edges), "{name}");
+    }
+}
+
+#[test]
+fn long_labels_are_cut() {
+    let label = "x".repeat(300);
+    let source = Source::of_bytes("a", format!("{label}: p0 := p0.next goto {label}\nshape\np0 -> a\n").into_bytes()).unwrap();
+    no_long_lines(&listing(&source).unwrap().0);
+}
+
+/// The shelf cases, as algebra.
+#[test]
+fn shelf_cases_in_words() {
+    let cases = [
+        ("p0 := p0.next", "p0, p1 -> a", "if c0 = 1   to location 1: counters kept"),
+        ("p0 := p0.next", "p0, p1 -> a", "if c0 >= 2  to location 2: c0' = c0 - 1, c1' = 1"),
+        ("p0 := p0.next", "p0 -> a -> a", "if c0 >= 2  to location 1: counters kept"),
+        ("p0 := p0.next", "p0 -> a", "if c0 = 1   to location 1, FAULT 3: leak"),
+        ("p0.next := null", "p0 -> a -> b -> b", "if c0 >= 2  to location 1, FAULT 3: leak"),
+        ("p0.next := null", "p0 -> a -> b\np1 -> c -> b", "if c0 = 1   to location 1: c0' = c0, c1' = c1 + c2"),
+        ("p0 := new", "", "to location 1: c0' = 1"),
+        ("p1 := null", "p0 -> a -> b\np1 -> b", "to location 1: c0' = c0 + c1"),
+        ("free p0", "", "to location 1\n"),
+        ("p0.next := null", "p0 -> undefined", "to location 1, FAULT 2: through undefined"),
+        ("p0.next := null", "", "to location 1, FAULT 1: through null"),
+        ("test p0 = p1", "p0, p1 -> undefined", "true  to location 1\n"),
+    ];
+    for (statement, chains, expected) in cases {
+        let body = format!("{statement}\nstop\nshape\n{chains}\n");
+        let (shown, _) = listing(&Source::of_bytes("a", body.into_bytes()).unwrap()).unwrap();
+        assert!(shown.contains(expected), "{expected} is not in\n{shown}");
+    }
+}
+
+#[test]
+fn faults_in_words() {
+    let cases = [
+        ("p0 := p1.next", "", "reads through p1, which is null"),
+        ("p0 := p1.next", "p1 -> undefined", "reads through p1, which is undefined: its cell was freed, or it never had one"),
+        ("p2.next := p1", "", "writes through p2, which is null"),
+        ("p2.next := null", "p2 -> undefined", "writes through p2, which is undefined: its cell was freed, or it never had one"),
+        ("free p3", "p3 -> undefined", "frees p3, which is undefined: its cell was freed, or it never had one"),
+        ("p0 := null", "p0 -> a", "a cell is lost (leak): no pointer reaches it any more"),
+    ];
+    for (statement, chains, expected) in cases {
+        let body = format!("{statement}\nstop\nshape\n{chains}\n");
+        let (shown, _) = listing(&Source::of_bytes("a", body.into_bytes()).unwrap()).unwrap();
+        assert!(
+            shown.contains(&format!("at statement 0: {statement}\n               {expected}\n")),
+            "{expected} is not in\n{shown}"
+        );
+        assert!(shown.contains("(1 start, 0 stops, 1 fault), 1 edge\nLocations with a fault: 1\n"), "{shown}");
+    }
+    let (shown, _) = listing(&of_text("two-lists")).unwrap();
+    assert!(
+        shown.ends_with("\nNo location has a fault: no run from the starting shapes faults, however long the lists are.\n"),
+        "{shown}"
+    );
+}
