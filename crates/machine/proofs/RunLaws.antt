@@ -1,25 +1,28 @@
 -- A run and a fold by their parts: from what each callee ensures to what the next asks, and to what the whole ensures.
-use Prim.Native.Nat.{ℕ, _≤_}
+use Prim.Native.Nat.{ℕ, _≤_, _<_}
 use native.Mathlib.Omega.{arith}
 use mathlib.Core.Path.{_≡_, _∙_, ap, subst, sym}
-use mathlib.Core.Bool.{true, false, not}
-use mathlib.Core.List.{List, [], _++_, append-nil, map}
+use mathlib.Core.Bool.{true, false, not, _||_}
+use mathlib.Core.List.{List, [], _∷_, _++_, append-nil, map}
 use lib.Dec.{eqb}
 use lib.ListN.{length, getD, take, drop, drop-of-length-le, length-map}
 use lib.Seq.{take-append-seam}
+use borrow.Author.Tests.{eq-eqb, eqb-true}
 use Rattle.model.specs.Base.{mem}
 use Rattle.model.specs.Heap.{closed, eachUsed, kept, next, order}
 use Rattle.model.specs.Image.{cellSlot, heapOf}
 use Rattle.model.specs.Machine.{Fault, atNull, atUndef, effect, faultNumber, leak}
 use Rattle.model.specs.Records.{opOf, slotByte}
 use Rattle.model.specs.Shape.{Seg, core, last, nodeSlot, segments, shape}
-use Rattle.model.proofs.Facts.{heap-closed, unused-of}
-use Rattle.model.proofs.Order.{toured}
+use Rattle.model.proofs.Facts.{heap-closed, kept-test, test-closed, unused-of}
+use Rattle.model.proofs.Logic.{bool-case, eq-case, or-cases}
+use Rattle.model.proofs.Order.{pigeon, toured, used-below}
 use Rattle.model.proofs.Segments.{twelve}
+use Rattle.model.proofs.Walks.{Used}
 use Rattle.effect.specs.Effect.{effectOf}
 use Rattle.effect.specs.Laws.{answer-done, answer-fault, effect-closed, image-slots}
 use Rattle.effect.proofs.Ops.{new-op}
-use Rattle.visit.specs.Laws.{kept-marked}
+use Rattle.visit.specs.Laws.{kept-marked, visited-length}
 use Rattle.visit.specs.Visit.{Held, VisitReady, Visited}
 use Rattle.segment.specs.Cut.{CutReady, IsCut, heldCore, segs}
 use Rattle.segment.specs.Fold.{AllIn, LastsIn, foldByte}
@@ -74,6 +77,22 @@ module _ {op u w x : ℕ} {ps cs o s : List ℕ} (p : RunReady op u w x ps cs o 
 
     -- n cells are visited: t is their order, and m marks them
     module _ {t m : List ℕ} {n : ℕ} (d : Visited qs ds t m n) where
+      -- where all cells were visited, none is lost
+      all-kept : n ≡ length ds → length ds ≤ length t → kept (heapOf qs ds) ≡ true
+      all-kept q room =
+          let g = heapOf qs ds in
+          let T = toured g (test-closed g done-closed) in
+          let low : (c : ℕ) → Used (next g) c → c < length ds = λ c v. omega (arith, used-below (g .slots) c v, length-map ds cellSlot) in
+          kept-test g (λ c v. bool-case (mem c (order g)) (λ i. i) (λ i. absurd
+          (let few = pigeon (length ds) (c ∷ order g) (i, T .nodup)
+          (λ b j. or-cases (eqb b c) (mem b (order g)) j (λ k. subst (λ a. a < length ds) (sym (eqb-true b c k)) (low c v)) (λ k. low b (T .used b k))) in
+          omega (arith, visited-length d room))))
+
+      -- so that the number of visited cells may be looked at first
+      pub number-first : length ds ≤ length t
+          → eqb n (length ds) || eachUsed (λ c. not (eqb (getD m c 0) 0)) 0 (map cellSlot ds) ≡ eachUsed (λ c. not (eqb (getD m c 0) 0)) 0 (map cellSlot ds)
+      number-first room = eq-case n (length ds) (λ q. rw (eq-eqb n (length ds) q) (sym (kept-marked d ∙ all-kept q room))) (λ q. rw q)
+
       pub run-done : eachUsed (λ c. not (eqb (getD m c 0) 0)) 0 (map cellSlot ds) ≡ true → IsRun op u w x ps cs qs ds t 0 n
       run-done k =
           let i : kept (heapOf qs ds) ≡ true = sym (kept-marked d) ∙ k in

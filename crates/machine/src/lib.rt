@@ -1,12 +1,30 @@
 // A statement run on a heap image that is lent, and the shape of what it leaves. The plain step and the translator both run this.
 use model::Pointer;
+ghost use mathlib.Core.Path.{_≡_};
+ghost use mathlib.Core.Bool.{not, _||_};
+ghost use mathlib.Core.List.{map};
 ghost use Prim.Native.Nat.{_≤_};
+ghost use lib.Dec.{eqb};
+ghost use lib.ListN.{length, getD};
+ghost use Rattle.model.specs.Heap.{eachUsed};
+ghost use Rattle.model.specs.Image.{cellSlot};
 ghost use Rattle.machine.specs.Run.{RunReady, IsRun, ShapeReady, IsShape};
 
 // What a run gives: the fault (0 for none) and, without one, how many cells were visited.
 pub struct Ran {
     pub fault: u8,
     pub visited: usize,
+}
+
+// Whether no cell is lost, where n cells have marks: if that is all of them, there is nothing to look for.
+fn keeps_all(cells: &[u8], seen: &[u8], n: usize) -> bool
+    requires { ⌜ length (now cells) ≤ length (now seen) ⌝ }
+    ensures { λ r. ⌜ r ≡ eqb n (length (now (cells .entry))) || eachUsed (λ c. not (eqb (getD (now (seen .entry)) c 0) 0)) 0 (map cellSlot (now (cells .entry))) ⌝ }
+{
+    if n == cells.len() {
+        return true;
+    }
+    visit::nothing_lost(cells, seen)
 }
 
 // Runs a statement: faults 1 and 2 first, then the effect, then fault 3 if a cell is lost.
@@ -31,7 +49,7 @@ pub fn run(
         };
     }
     let n = visit::visit(&pointers[..], &cells[..], order, seen);
-    if visit::nothing_lost(&cells[..], &seen[..]) {
+    if keeps_all(&cells[..], &seen[..], n) {
         Ran {
             fault: 0,
             visited: n,

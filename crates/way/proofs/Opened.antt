@@ -6,7 +6,7 @@ use mathlib.Core.Path.{_≡_, refl, ap, ap₂, sym, _∙_}
 use native.Mathlib.Omega.{arith}
 use lib.Dec.{eqb, ltb}
 use lib.ListN.{List·getD-map, drop, drop-of-length-le, getD, length, length-drop, length-map, set, take}
-use lib.Seq.{drop-drop, getD-take, length-take-le, set-append-left, take-add, take-at, take-set-lt}
+use lib.Seq.{drop-drop, getD-take, length-take-le, set-append-left, take-add, take-append-le, take-set-lt, take-take}
 use borrow.Author.Tests.{eqb-true, ltb-true, ne-eqb}
 use Rattle.model.specs.Base.{all}
 use Rattle.model.specs.Edges.{stepBy, whole, always}
@@ -111,10 +111,11 @@ module _ (r p c : List ℕ) (op n : ℕ) (sp : Bool) (R : OpenReady r p c op n s
   successors-length : length (take (byte r 3) (drop 10 r)) ≡ byte r 3
   successors-length = length-take-le (byte r 3) (drop 10 r) (omega (arith, R .wide, R .few, length-drop 10 r))
 
-  pub ready-cells : take (byte r 3) (take (10 + byte r 3 - 10) (drop 10 r) ++ drop (length (take (10 + byte r 3 - 10) (drop 10 r))) c) ≡ take (byte r 3) (drop 10 r)
+  pub ready-cells : take (byte r 3) (take 12 (drop 10 r) ++ drop (length (take 12 (drop 10 r))) c) ≡ take (byte r 3) (drop 10 r)
   ready-cells =
-      let e : 10 + byte r 3 - 10 ≡ byte r 3 = omega arith in
-      rw e (take-at (take (byte r 3) (drop 10 r)) (drop (length (take (byte r 3) (drop 10 r))) c) (byte r 3) successors-length)
+      let f = take 12 (drop 10 r) in
+      let all : length f ≡ 12 = length-take-le 12 (drop 10 r) (omega (arith, R .wide, length-drop 10 r)) in
+      take-append-le (byte r 3) f (drop (length f) c) (omega (arith, R .few)) ∙ take-take (byte r 3) 12 (drop 10 r) (omega (arith, R .few))
 
   successors-values : all (valueByte (byte r 3)) (take (byte r 3) (drop 10 r)) ≡ true
   successors-values =

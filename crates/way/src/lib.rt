@@ -70,9 +70,9 @@ pub fn open_way(
     ensures heap { λ r. ⌜ heapOf (now (pointers .exit)) (take r (now (cells .exit))) ≡ openedHeap split op (node .0) (shapeOf (now (rec .entry))) ⌝ }
 {
     let k = rec[3] as usize;
-    let end = 10 + k;
     bytes::copy(&rec[4..10], pointers);
-    bytes::copy(&rec[10..end], cells);
+    // all twelve successors, of which the first k count: a copy of one length is quicker
+    bytes::copy(&rec[10..22], cells);
     open_cells(cells, k, op, split, node)
 }
 

@@ -1,7 +1,8 @@
 -- `machine::run` meets its contract: a fault of the effect, a run that keeps its cells, and one that loses a cell. Assumes nothing.
 use borrow.Author.Needs.{needs}
 use mathlib.Core.Path.{_≡_, sym, _∙_}
-use Rattle.machine.proofs.RunLaws.{run-faults, run-done, run-leaks, visit-ready}
+use native.Mathlib.Omega.{arith}
+use Rattle.machine.proofs.RunLaws.{number-first, run-faults, run-done, run-leaks, visit-ready}
 use Rattle.machine.proofs.run.Statement.{statement}
 use Rattle.machine.proofs.run.Tie as tie
 
@@ -24,8 +25,12 @@ returns-2 c =
     let e = v .before .before .before .before .before .before .before .before .before .before in
     let s = e .before .before .before .before .before .before .before in
     let z : e .run-effect .result ≡ 0 = search needs in
-    run-done (s .pre) (e .run-effect .last .1 .1 .1 .1 .0) (e .run-effect .last .1 .1 .1 .1 .1 .0) (e .run-effect .ensures .0) z (v .visit .ensures)
-    (sym (c .before .nothing-lost .ensures) ∙ c .if2 .taken)
+    let qs = e .run-effect .last .1 .1 .1 .1 .0 in
+    let ds = e .run-effect .last .1 .1 .1 .1 .1 .0 in
+    let room = visit-ready (s .pre) qs ds (e .run-effect .ensures .0) z .room in
+    run-done (s .pre) qs ds (e .run-effect .ensures .0) z (v .visit .ensures)
+    (sym (number-first (s .pre) qs ds (e .run-effect .ensures .0) z (v .visit .ensures) (omega (arith, room, v .visit .kept .1 .1 .0)))
+    ∙ sym (c .before .keeps-all .ensures) ∙ c .if2 .taken)
 
 returns-3 : tie.Need-returns-3
 returns-3 c =
@@ -33,8 +38,12 @@ returns-3 c =
     let e = v .before .before .before .before .before .before .before .before .before .before in
     let s = e .before .before .before .before .before .before .before in
     let z : e .run-effect .result ≡ 0 = search needs in
-    run-leaks (s .pre) (e .run-effect .last .1 .1 .1 .1 .0) (e .run-effect .last .1 .1 .1 .1 .1 .0) (e .run-effect .ensures .0) z (v .visit .ensures)
-    (sym (c .before .nothing-lost .ensures) ∙ c .if2 .left)
+    let qs = e .run-effect .last .1 .1 .1 .1 .0 in
+    let ds = e .run-effect .last .1 .1 .1 .1 .1 .0 in
+    let room = visit-ready (s .pre) qs ds (e .run-effect .ensures .0) z .room in
+    run-leaks (s .pre) qs ds (e .run-effect .ensures .0) z (v .visit .ensures)
+    (sym (number-first (s .pre) qs ds (e .run-effect .ensures .0) z (v .visit .ensures) (omega (arith, room, v .visit .kept .1 .1 .0)))
+    ∙ sym (c .before .keeps-all .ensures) ∙ c .if2 .left)
 
 pub run-spec : {M : Type 1} → statement M
 run-spec =

@@ -1,5 +1,4 @@
 -- `way::open_way` meets its contract: the copies are the record's pointers and successors, opened as the way asks.
-use Prim.Native.Nat.{_+_, _-_}
 use mathlib.Core.Path.{ap, ap₂, _∙_}
 use mathlib.Core.List.{_++_}
 use native.Mathlib.Omega.{arith}
@@ -21,7 +20,7 @@ returns c =
     let o = c .before .before .open-cells in
     let k = byte r 3 in
     let f = take 6 (drop 4 r) in
-    let g = take ((10 + k) - 10) (drop 10 r) in
+    let g = take 12 (drop 10 r) in
     let first = c .before .before .before .before .before .before .before .before .before .before .before .copy .ensures .1 ∙ ap (λ t. t ++ drop (length f) (a .pointers .now)) (take-length f) in
     let second = c .before .before .before .before .before .before .copy2 .ensures .1 ∙ ap (λ t. t ++ drop (length g) (a .cells .now)) (take-length g) in
     let ps = first ∙ ready-pointers r (a .pointers .now) (a .cells .now) (a .op) (a .node .0) (a .split) (s .pre) in
@@ -41,7 +40,6 @@ pub open-way-spec : {M : Type 1} → statement M
 open-way-spec =
     tie.close
     (tie.spec
-    (λ c. search needs)
     (λ c. search needs)
     (λ c. search needs)
     (λ c. search needs)

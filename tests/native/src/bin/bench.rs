@@ -93,22 +93,56 @@ fn translations() {
         println!("{name:<16} {locations:>5} {edges:>5} {ours:>9.0} ns {theirs:>9.0} ns {c:>7.0} ns {:>13.1} {:>9.1}", theirs / ours, ours / c);
     }
     growth(&std::fs::read(&names[3]).unwrap());
+    println!("\nwithout the checks of the input, and ours without the search for known locations, ns an edge:");
+    println!("{:<16} {:>10} {:>10} {:>9} {:>24}", "", "proved", "C", "proved/C", "one record looked at");
+    for path in &names[3..] {
+        let [edge, look, c] = parts(&std::fs::read(path).unwrap());
+        let name = path.file_stem().unwrap().to_string_lossy();
+        println!("{name:<16} {edge:>10.1} {c:>10.1} {:>9.1} {look:>21.2} ns", edge / c);
+    }
 }
 
 /// The same routine in smaller tables stops with refusal 11 when they are full: how the time for an edge grows with the number of
-/// locations. A straight line through two of the points, carried to no location, estimates the time without the search.
+/// locations.
 fn growth(input: &[u8]) {
     println!("\n{:>10} {:>20} {:>20}", "locations", "proved, ns an edge", "C, ns an edge");
-    let mut points = Vec::new();
     for places in [16, 32, 64, 128, 256, 512, 1000] {
         let [ours, _, c] = times(input, places);
         let edges = reached(input, places) as f64;
         println!("{places:>10} {:>20.1} {:>20.1}", ours / edges, c / edges);
-        points.push((places as f64, ours / edges));
     }
-    let (low, high) = (points[2], points[5]);
-    let slope = (high.1 - low.1) / (high.0 - low.0);
-    println!("each location adds {slope:.3} ns to an edge; without the search an edge takes about {:.1} ns", low.1 - slope * low.0);
+}
+
+/// The time of an edge without the search, of one record that the search looks at, and of an edge in C. The number of records looked at
+/// is known from the listing, so two unknowns are fitted to the times in tables of several sizes; the time in tables without a place,
+/// which is that of the checks, is taken off.
+fn parts(input: &[u8]) -> [f64; 3] {
+    let [checks, _, c_checks] = times(input, 0);
+    let [mut ee, mut es, mut ss, mut et, mut st] = [0.0; 5];
+    for places in [64, 128, 256, 512, 1000] {
+        let edges = reached(input, places);
+        let (e, s, t) = (edges as f64, looked_at(input, edges) as f64, times(input, places)[0] - checks);
+        // each point weighs as its relative error, so that the small tables count too
+        let w = 1.0 / (t * t);
+        (ee, es, ss, et, st) = (ee + w * e * e, es + w * e * s, ss + w * s * s, et + w * e * t, st + w * s * t);
+    }
+    let d = ee * ss - es * es;
+    let full = times(input, 1024)[2] - c_checks;
+    [(et * ss - st * es) / d, (st * ee - et * es) / d, full / reached(input, 1024) as f64]
+}
+
+/// How many records a search from the first on looks at for the first so many edges of the listing.
+fn looked_at(input: &[u8], edges: usize) -> usize {
+    let mut table = vec![0; 65_536];
+    native::translate(input, &mut [0; 32_768], &mut table);
+    let mut known = input.chunks(32).filter(|record| record[0] == 0x48).count();
+    let mut looked = 0;
+    for record in table.chunks(32).take(edges) {
+        let to = usize::from(u16::from_le_bytes([record[4], record[5]]));
+        looked += if to < known { to + 1 } else { known };
+        known = known.max(to + 1);
+    }
+    looked
 }
 
 /// The edges found before the tables are full: the least number of edge places with which 11 still comes.
