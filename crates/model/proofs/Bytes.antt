@@ -47,7 +47,7 @@ pub word-at : (l : List ℕ) (n : ℕ) (m : List ℕ) → word (l ++ (twoBytes n
 word-at [] n m = word-back n
 word-at (x ∷ l) n m = word-at l n m
 
-added-none : (cs : List ℕ) → added 0 cs ≡ 0
+pub added-none : (cs : List ℕ) → added 0 cs ≡ 0
 added-none [] = refl
 added-none (c ∷ cs) = rw (zero-mul c, added-none cs)
 
@@ -99,6 +99,9 @@ table-record n rs i h k = joined-record rs (replicate (n - 32 * length rs) 0) i 
 pub joined-length : (rs : List (List ℕ)) → ((r : List ℕ) → In r rs → length r ≡ 32) → length (joined rs) ≡ 32 * length rs
 joined-length [] h = refl
 joined-length (r ∷ rs) h = omega (arith, length-append r (joined rs), h r (inl refl), joined-length rs (λ x q. h x (inr q)))
+
+pub table-empty : (n : ℕ) → tableOf n [] ≡ replicate n 0
+table-empty n = let e : n - 32 * 0 ≡ n = omega arith in ap (λ m. replicate m 0) e
 
 -- a table keeps its length, and "bytes after the last are zero"
 pub table-length : (n : ℕ) (rs : List (List ℕ)) → ((r : List ℕ) → In r rs → length r ≡ 32) → 32 * length rs ≤ n → length (tableOf n rs) ≡ n

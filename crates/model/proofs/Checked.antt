@@ -3,7 +3,7 @@ use Prim.Native.Nat.{_%_, _*_, _/_, suc, zero, ℕ}
 use mathlib.Core.Path.{_∙_, _≡_, ap, refl, subst, sym}
 use mathlib.Core.Logic.{inl, inr}
 use mathlib.Core.Option.{Option, none, some}
-use mathlib.Core.Bool.{Bool, _&&_, _||_, cond, false, not, true}
+use mathlib.Core.Bool.{_||_, and-false, cond, false, not, true}
 use mathlib.Core.List.{List, [], _∷_, map}
 use native.Mathlib.Omega.{arith}
 use lib.Dec.{eqb}
@@ -24,7 +24,7 @@ use Rattle.model.proofs.Same.{same-bytes-refl}
 use Rattle.model.proofs.ShapeBack.{layout-closed, layout-pointers, shape-record-back}
 
 -- an S is no H
-not-both : (r : List ℕ) → isH r ≡ true → isS r ≡ false
+pub not-both : (r : List ℕ) → isH r ≡ true → isS r ≡ false
 not-both r h = ne-eqb (byte r 0) 0x53 (λ e. let k = eqb-true (byte r 0) 0x48 h in omega arith)
 
 -- after an H there are only H records
@@ -33,11 +33,7 @@ after-h i [] e = (refl, refl)
 after-h i (r ∷ rs) e = bool-case (isH r)
     (λ h. let q = after-h (suc i) rs (rw (h, badKind) at e) in
     (and-both (isH r) (all isH rs) h (q .0), rw (not-both r h) (omega (arith, q .1))))
-    (λ h. let z : badKind true i (r ∷ rs) ≡ some i = rw (h, badKind) (rw (and-not (isS r), badKind)) in some-none (sym e ∙ z))
-  where
-    and-not : (b : Bool) → b && false ≡ false
-    and-not true = refl
-    and-not false = refl
+    (λ h. let z : badKind true i (r ∷ rs) ≡ some i = rw (h, badKind) (rw (and-false (isS r), badKind)) in some-none (sym e ∙ z))
 
 -- the records behind the S records are H records
 kinds : (i : ℕ) (rs : List (List ℕ)) → badKind false i rs ≡ none → all isH (drop (count isS rs) rs) ≡ true
@@ -58,7 +54,7 @@ pub record GoodH (r : List ℕ) : Type 0 where
   pub isLayout : layoutH r ≡ true
   pub isCanonical : canonical (shapeOf r) ≡ true
 
-accepted-h : (earlier : List (List ℕ)) (r : List ℕ) → refusalH earlier r ≡ 0
+pub accepted-h : (earlier : List (List ℕ)) (r : List ℕ) → refusalH earlier r ≡ 0
     → (layoutH r ≡ true) × (canonical (shapeOf r) ≡ true) × (any (sameList eqb r) earlier ≡ false)
 accepted-h earlier r e = bool-case (layoutH r)
     (λ l. bool-case (canonical (shapeOf r))

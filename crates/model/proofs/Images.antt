@@ -22,6 +22,7 @@ use Rattle.model.proofs.Lists.{In}
 use Rattle.model.proofs.Logic.{and-both, and-l, and-r, bool-case}
 use Rattle.model.proofs.ReadBack.{canon-writable, shape-length, shape-shape}
 use Rattle.model.proofs.ShapeBack.{layout-pointers}
+use Rattle.model.proofs.Slices.{sum-take}
 use Rattle.model.proofs.Unfold.{length-strand}
 use Rattle.model.proofs.Ways.{count-length}
 
@@ -113,7 +114,7 @@ fold-lengths ps cs = number-case (refusalImage ps cs)
 
 -- ---- unfolding
 
-unfold-zero : (r vs ps cs : List ℕ) → refusalUnfold r vs (length ps) (length cs) ≡ 0 → unfoldImage r vs ps cs
+pub unfold-zero : (r vs ps cs : List ℕ) → refusalUnfold r vs (length ps) (length cs) ≡ 0 → unfoldImage r vs ps cs
     ≡ record {
       refusal = 0;
       ptrBytes = map valByte (unfoldHeap (shapeOf r) (take (byte r 3) vs) .ptrs);
@@ -181,11 +182,6 @@ strands-short vs b (s ∷ ss) (c ∷ cs) = omega (
   length-strand b c (spreadSlot vs s),
   strands-short vs (b + c) ss cs,
 )
-
-sum-take : (k : ℕ) (vs : List ℕ) → sum (λ v. v) (take k vs) ≤ sum (λ v. v) vs
-sum-take zero vs = omega arith
-sum-take (suc k) [] = omega arith
-sum-take (suc k) (v ∷ vs) = omega (arith, sum-take k vs)
 
 -- the pointers and the cells keep their lengths
 pub unfold-lengths : (r vs ps cs : List ℕ) → (length (unfoldImage r vs ps cs .ptrBytes) ≡ length ps) × (length (unfoldImage r vs ps cs .cellBytes) ≡ length cs)

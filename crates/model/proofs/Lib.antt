@@ -2,6 +2,8 @@
 pub mod Logic
 pub mod Lists
 pub mod Numbers
+pub mod Slices
+pub mod Ops
 pub mod Walks
 pub mod Notions
 pub mod Listings

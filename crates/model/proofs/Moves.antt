@@ -3,7 +3,7 @@ use Prim.Native.Nat.{_<_, _≤_, ℕ}
 use mathlib.Core.Path.{_∙_, _≡_, ap, ap₂, refl, sym}
 use mathlib.Core.Option.{some}
 use mathlib.Core.Bool.{_&&_, true}
-use mathlib.Core.List.{List, [], map}
+use mathlib.Core.List.{List, [], map, map-map}
 use native.Mathlib.Omega.{arith}
 use lib.Dec.{eqb, ltb}
 use lib.ListN.{getD, length, length-map}
@@ -19,7 +19,7 @@ use Rattle.model.proofs.Checked.{GoodStarts}
 use Rattle.model.proofs.EdgeBack.{edge-branch, edge-from, edge-guard, edge-length, edge-node, edge-to, edge-updates}
 use Rattle.model.proofs.Exact.{LinkGood, link-good}
 use Rattle.model.proofs.Listings.{Exact, WritableLoc, locAt}
-use Rattle.model.proofs.Lists.{In, any-find, any-in, getD-in, getD-map, in-map, map-same, map-two, some-inj, some-none}
+use Rattle.model.proofs.Lists.{In, any-find, any-in, getD-in, getD-map, in-map, map-same, some-inj, some-none}
 use Rattle.model.proofs.Logic.{and-both, and-l, and-r, bool-case}
 use Rattle.model.proofs.Notions.{SmallEdge, guardOn, nodesOf, worth}
 use Rattle.model.proofs.Numbers.{in-numbers, numbers-in}
@@ -105,7 +105,7 @@ module _ (r : Routine) (t : Listing) (X : Exact r t) (G : GoodStarts r) (a b : �
       let nodes : nodesAt T (k .dest) ≡ length us =
       ap (λ x. byte x 3) (loc-record (k .dest) (L .dest-below)) ∙ record-nodes (locAt (t .locs) (k .dest)) ∙ ap nodesOf (L .dest-is) ∙ sym (S .0 .number) in
       let worths : map (applied (c .values)) (map updateCode us) ≡ map (worth (c .values)) us =
-      map-two updateCode (applied (c .values)) us
+      map-map (applied (c .values)) updateCode us
       ∙ map-same (λ u. applied (c .values) (updateCode u)) (worth (c .values)) us
       (λ u i. let s = S .0 .small u i in applied-code u (c .values) (let z = s .1 in omega arith) (let z = s .0 in omega arith)) in
       let vals : map (applied (c .values)) (updatesOf (nodesAt T (word R 4)) R) ≡ map (worth (c .values)) us =

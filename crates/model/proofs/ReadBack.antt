@@ -142,7 +142,7 @@ pub record-length : (l : Loc) → WritableLoc l → length (locRecord l) ≡ 32
 record-length (at s h) W = location-length s h W
 record-length (failed s f) W = failed-length s f
 
-fault-positive : (f : Fault) → 1 ≤ faultNumber f
+pub fault-positive : (f : Fault) → 1 ≤ faultNumber f
 fault-positive atNull = omega arith
 fault-positive atUndef = omega arith
 fault-positive leak = omega arith

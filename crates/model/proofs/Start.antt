@@ -27,6 +27,7 @@ module _ (h : Heap) (cl : ClosedHeap h) (kp : Kept h) where
   pub flat-is : flat (segments h) ≡ order h
   flat-is = flat-cut (core h) (order h)
 
+  -- a cell in use stands in one segment
   pub where-is : (c : ℕ) → Used (next h) c → (n : ℕ) × (n < length (segments h)) × (mem c (cells (segAt (segments h) n)) ≡ true)
   where-is c u = flat-mem (segments h) c (rw flat-is (kp c u))
 
