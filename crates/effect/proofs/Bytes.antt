@@ -17,8 +17,8 @@ use Rattle.model.proofs.Walks.{Closed, Used}
 use Rattle.model.proofs.Order.{used-below}
 use Rattle.model.proofs.Effects.{closed-ptr}
 use Rattle.model.proofs.Facts.{test-closed}
+use Rattle.model.proofs.Lists.{getD-default, map-set}
 use Rattle.effect.specs.Effect.{Access, EffectReady, Named, Ran, assigned, loaded, stored, wipeByte}
-use Rattle.effect.proofs.ListLaws.{getD-any, map-set}
 
 -- ---- reading
 
@@ -26,10 +26,10 @@ val-cell : (b : ℕ) → (b ≡ 0xfe → ⊥) → (b ≡ 0xff → ⊥) → valOf
 val-cell b p q = rw (ne-eqb b 0xfe p, ne-eqb b 0xff q)
 
 pub ptr-byte : (ps cs : List ℕ) (u : ℕ) → u < length ps → ptr (heapOf ps cs) u ≡ valOf (getD ps u 0)
-ptr-byte ps cs u h = List·getD-map valOf ps u 0xff ∙ ap valOf (getD-any ps u 0xff 0 h)
+ptr-byte ps cs u h = List·getD-map valOf ps u 0xff ∙ ap valOf (getD-default ps 0xff 0 u h)
 
 next-byte : (ps cs : List ℕ) (c : ℕ) → c < length cs → next (heapOf ps cs) c ≡ cellSlot (getD cs c 0)
-next-byte ps cs c h = List·getD-map cellSlot cs c 0xfd ∙ ap cellSlot (getD-any cs c 0xfd 0 h)
+next-byte ps cs c h = List·getD-map cellSlot cs c 0xfd ∙ ap cellSlot (getD-default cs 0xfd 0 c h)
 
 used-slot : (b : ℕ) → (b ≡ 0xfd → ⊥) → cellSlot b ≡ holds (valOf b)
 used-slot b p = rw (ne-eqb b 0xfd p)

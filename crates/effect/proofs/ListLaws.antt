@@ -1,26 +1,11 @@
--- Generic laws on lists: elements by place, map after set, and a list whose first elements went through a function.
-use Prim.Native.Nat.{ℕ, zero, suc, _+_, _≤_, _<_}
+-- A list whose first elements went through a function.
+use Prim.Native.Nat.{ℕ, suc, _+_, _≤_, _<_}
 use native.Mathlib.Numerals.{add-one}
 use native.Mathlib.Omega.{arith}
-use mathlib.Core.Path.{_∙_, _≡_, ap, refl, sym}
-use mathlib.Core.List.{List, [], _∷_, _++_, map, append-assoc, append-nil}
+use mathlib.Core.Path.{_∙_, _≡_, ap, sym}
+use mathlib.Core.List.{List, [], _∷_, _++_, map, append-assoc, append-nil, map-append}
 use lib.ListN.{drop, drop-of-length-le, getD, length, length-map, set, take}
 use lib.Seq.{drop-cons, getD-at, length-take-le, set-at, take-all, take-suc}
-
-pub map-set : {A B : Type 0} (f : A → B) (l : List A) (i : ℕ) (v : A) → map f (set l i v) ≡ set (map f l) i (f v)
-map-set f [] i v = refl
-map-set f (x ∷ l) zero v = refl
-map-set f (x ∷ l) (suc i) v = ap (λ r. f x ∷ r) (map-set f l i v)
-
-pub map-append : {A B : Type 0} (f : A → B) (l m : List A) → map f (l ++ m) ≡ map f l ++ map f m
-map-append f [] m = refl
-map-append f (x ∷ l) m = ap (λ r. f x ∷ r) (map-append f l m)
-
--- below the length, the default makes no difference
-pub getD-any : {A : Type 0} (l : List A) (i : ℕ) (d e : A) → i < length l → getD l i d ≡ getD l i e
-getD-any [] i d e h = absurd (omega arith)
-getD-any (x ∷ l) zero d e h = refl
-getD-any (x ∷ l) (suc i) d e h = getD-any l i d e (omega arith)
 
 -- the first i elements went through f
 abbrev pub partMap : {A : Type 0} → (A → A) → List A → ℕ → List A

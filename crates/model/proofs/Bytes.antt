@@ -3,7 +3,7 @@ use Prim.Native.Nat.{_%_, _*_, _+_, _-_, _/_, _<_, _^_, _≤_, suc, zero, ℕ}
 use mathlib.Core.Path.{_∙_, _≡_, ap, ap₂, refl, sym}
 use mathlib.Core.Logic.{inl, inr}
 use mathlib.Core.Bool.{Bool, false, true}
-use mathlib.Core.List.{List, [], _++_, _∷_, append-assoc}
+use mathlib.Core.List.{List, [], _++_, _∷_, append-assoc, map}
 use native.Mathlib.Nat.{add-mul-mod-self-left, mod-add-div, mod-eq-of-lt, one-mul, pow-suc, zero-mul}
 use native.Mathlib.Omega.{arith}
 use lib.Dec.{eqb}
@@ -16,7 +16,7 @@ use Rattle.model.specs.Heap.{Val, cell, null, undef}
 use Rattle.model.specs.Records.{bits, filled, isZero, recordAt, twoBytes, updateCode, valByte, valOf, word}
 use Rattle.model.specs.Runs.{added, applied}
 use Rattle.model.specs.Translate.{tableOf}
-use Rattle.model.proofs.Lists.{In}
+use Rattle.model.proofs.Lists.{In, in-map}
 use Rattle.model.proofs.Logic.{and-l, and-r, bool-case}
 pub use Rattle.model.proofs.Listings.{SmallVal}
 pub use Rattle.model.proofs.Lists.{map-back}
@@ -95,6 +95,9 @@ joined-record (r ∷ rs) z (suc i) h k =
 pub table-record : (n : ℕ) (rs : List (List ℕ)) (i : ℕ) → ((r : List ℕ) → In r rs → length r ≡ 32) → i < length rs
     → recordAt (tableOf n rs) i ≡ getD rs i []
 table-record n rs i h k = joined-record rs (replicate (n - 32 * length rs) 0) i h k
+
+pub records-wide : {A : Type 0} (f : A → List ℕ) (l : List A) → ((x : A) → In x l → length (f x) ≡ 32) → (r : List ℕ) → In r (map f l) → length r ≡ 32
+records-wide f l h r i = let y = in-map f r l i in ap length (y .2) ∙ h (y .0) (y .1)
 
 pub joined-length : (rs : List (List ℕ)) → ((r : List ℕ) → In r rs → length r ≡ 32) → length (joined rs) ≡ 32 * length rs
 joined-length [] h = refl

@@ -13,7 +13,7 @@ use Rattle.model.specs.Shape.{Seg, cells, core, last, segments}
 use Rattle.model.specs.Records.{valOf}
 use Rattle.model.specs.Image.{heapOf}
 use Rattle.model.proofs.Facts.{heap-closed, heap-kept}
-use Rattle.model.proofs.Logic.{mem-here, mem-there}
+use Rattle.model.proofs.Lists.{mem-at}
 use Rattle.model.proofs.Order.{pigeon, toured}
 use Rattle.model.proofs.Segments.{each-cell-once, segments-are}
 use Rattle.model.proofs.Start.{end, flat, segAt}
@@ -21,11 +21,6 @@ use Rattle.model.proofs.Walks.{AllClosed, Closed, seg}
 use Rattle.segment.specs.Cut.{CutReady, heldCore, segs}
 use Rattle.segment.specs.Fold.{AllIn, InTable, LastsIn}
 use Rattle.segment.proofs.ShapeLaws.{cell-low, segs-same, slot-of}
-
-mem-at : (l : List ℕ) (i : ℕ) → i < length l → mem (getD l i 0) l ≡ true
-mem-at [] i h = absurd (omega arith)
-mem-at (x ∷ l) zero h = mem-here x l
-mem-at (x ∷ l) (suc i) h = mem-there (getD l i 0) x l (mem-at l i (omega arith))
 
 flat-first : (ss : List Seg) → 0 < length (flat ss) → (0 < length ss) × (getD (flat ss) 0 0 ≡ segAt ss 0 .first)
 flat-first [] h = absurd (omega arith)

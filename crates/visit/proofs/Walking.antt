@@ -16,9 +16,9 @@ use Rattle.model.specs.Records.{valOf}
 use Rattle.model.proofs.Facts.{test-closed}
 use Rattle.model.proofs.Logic.{bool-case, clash, eq-case, mem-append, mem-append-r, mem-here, not-true, or-nil}
 use Rattle.model.proofs.Order.{nodup-snoc, pigeon, tours-same, toured, used-snoc}
+use Rattle.model.proofs.Slices.{map-end, map-step}
 use Rattle.model.proofs.Walks.{Closed, Tours, Used, Walks, at-null, at-seen, at-undef, go, tour-done, tour-more}
 use Rattle.visit.specs.ByteLaws.{cell-val, slot-val, used-few, val-cell}
-use Rattle.visit.specs.ListLaws.{map-end, map-step}
 use Rattle.visit.specs.Steps.{Visiting, Walked, slotAt}
 use Rattle.visit.specs.Visit.{VisitReady, Visited}
 

@@ -13,10 +13,10 @@ use Rattle.model.specs.Records.{valByte, valOf}
 use Rattle.model.specs.Shape.{holdsCell, isCell}
 use Rattle.model.proofs.Bytes.{byte-back}
 use Rattle.model.proofs.Changes.{holds-inj, slot-clash}
+use Rattle.model.proofs.Lists.{getD-default}
 use Rattle.model.proofs.Logic.{bool-case, eq-case}
 use Rattle.model.proofs.Order.{used-below}
 use Rattle.model.proofs.Walks.{AllClosed, Closed, Used}
-use Rattle.visit.specs.ListLaws.{getD-any}
 use Rattle.visit.specs.Steps.{slotAt}
 
 pub val-cell : (v : ℕ) → v < 0xfe → valOf v ≡ cell v
@@ -26,7 +26,7 @@ pub cell-val : (v c : ℕ) → valOf v ≡ cell c → v ≡ c
 cell-val v c e = sym (byte-back v) ∙ ap valByte e
 
 pub slot-at : (cs : List ℕ) (c : ℕ) → c < length cs → slotAt cs c ≡ cellSlot (getD cs c 0)
-slot-at cs c h = List·getD-map cellSlot cs c 0xfd ∙ ap cellSlot (getD-any cs c 0xfd 0 h)
+slot-at cs c h = List·getD-map cellSlot cs c 0xfd ∙ ap cellSlot (getD-default cs 0xfd 0 c h)
 
 pub slot-past : (cs : List ℕ) (c : ℕ) → length cs ≤ c → slotAt cs c ≡ unused
 slot-past cs c h = let l : length (map cellSlot cs) ≤ c = rw (length-map cs cellSlot) h in List·getD-eq-default (map cellSlot cs) unused l
