@@ -11,9 +11,9 @@ use Rattle.model.specs.Heap.{Heap}
 use Rattle.model.specs.Machine.{Answer, refused, done, Op, Stmt, accepts, answerOf, branch, kind, run, target, unlessStop}
 use Rattle.model.specs.Records.{byte, opOf, stmtOf}
 use Rattle.model.specs.Image.{Stepping, answered, heapOf, pastEnd, refusalStep, stays, stepImage}
+use Rattle.model.proofs.Ops.{each-op}
 use Rattle.effect.specs.Effect.{effectOf}
 use Rattle.effect.specs.Laws.{image-bytes}
-use Rattle.effect.proofs.Ops.{each-op}
 use Rattle.machine.specs.Run.{IsRun, RunReady}
 use Rattle.image.specs.Checks.{accepted}
 use Rattle.image.specs.Parts.{Finished, RunOn, StepReady, stepped}

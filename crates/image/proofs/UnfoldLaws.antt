@@ -1,50 +1,28 @@
 -- The checks of an unfolding: what each refusal says, and what a record and counters that pass them are.
 use Prim.Native.Nat.{ℕ, zero, suc, _+_, _-_, _≤_, _<_}
 use native.Mathlib.Omega.{arith}
-use mathlib.Core.Path.{_≡_, refl, sym, ap, subst, _∙_}
+use mathlib.Core.Path.{_≡_, refl, sym, ap, _∙_}
 use mathlib.Core.Bool.{Bool, true, false, _&&_, cond}
-use mathlib.Core.Logic.{inl, inr}
-use mathlib.Core.List.{List, [], _∷_, map}
+use mathlib.Core.List.{List, [], map}
 use lib.Dec.{eqb, leb}
 use lib.ListN.{length, take, drop, length-map}
 use borrow.Author.Tests.{eq-eqb, eqb-true, le-leb, leb-true, lt-leb, ne-eqb}
-use Rattle.model.specs.Heap.{cell, closed, holds}
+use Rattle.model.specs.Heap.{closed}
 use Rattle.model.specs.Image.{Unfolding, cellBytesOf, cellSlot, countersFit, heapOf, refusalUnfold, unfoldHeap, unfoldImage}
-use Rattle.model.specs.Records.{byte, layoutH, shapeOf, valByte, valOf}
+use Rattle.model.specs.Records.{byte, layoutH, shapeOf, valByte}
 use Rattle.model.specs.Shape.{canonical}
-use Rattle.model.proofs.Lists.{In, map-in}
-use Rattle.model.proofs.Logic.{and-l, and-r, eq-case}
-use Rattle.model.proofs.ShapeBack.{layout-closed, layout-few, layout-slots, layout-writable}
+use Rattle.model.proofs.Logic.{and-l, and-r}
+use Rattle.model.proofs.ShapeBack.{layout-closed, layout-few, layout-slots, shape-image}
 use Rattle.spread.specs.Spread.{SpreadReady}
 
 -- ---- a record that keeps the layout, as an image
 
-map-same : {A B : Type 0} (f g : A → B) (l : List A) → ((x : A) → In x l → f x ≡ g x) → map f l ≡ map g l
-map-same f g [] h = refl
-map-same f g (x ∷ l) h = λ i. h x (inl refl) i ∷ map-same f g l (λ y q. h y (inr q)) i
-
 module _ (r : List ℕ) (l : length r ≡ 32) (h : layoutH r ≡ true) where
-  -- no value byte says "not in use"
-  value-slot : (b : ℕ) → In b (take (byte r 3) (drop 10 r)) → holds (valOf b) ≡ cellSlot b
-  value-slot b q =
-      let w = layout-writable r l h in
-      let s = map-in (λ x. holds (valOf x)) b (take (byte r 3) (drop 10 r)) q in
-      eq-case b 0xfd
-      (λ e. absurd (let n : 0xfd < length (shapeOf r .slots) = w .nexts (holds (cell 0xfd)) (subst (λ x. In (holds (valOf x)) (shapeOf r .slots)) e s) in
-      omega (arith, w .few)))
-      (λ n. rw n)
-
-  pub shape-image : shapeOf r ≡ heapOf (take 6 (drop 4 r)) (take (byte r 3) (drop 10 r))
-  shape-image = λ i. record {
-    ptrs = map valOf (take 6 (drop 4 r));
-    slots = map-same (λ b. holds (valOf b)) cellSlot (take (byte r 3) (drop 10 r)) value-slot i;
-  }
-
   -- the successors as the part of the record that ends with the last one
   pub shape-part : shapeOf r ≡ heapOf (take 6 (drop 4 r)) (take (10 + byte r 3 - 10) (drop 10 r))
   shape-part =
       let n : byte r 3 ≡ 10 + byte r 3 - 10 = omega arith in
-      shape-image ∙ ap (λ k. heapOf (take 6 (drop 4 r)) (take k (drop 10 r))) n
+      shape-image r l h ∙ ap (λ k. heapOf (take 6 (drop 4 r)) (take k (drop 10 r))) n
 
   -- what the test for the numbering asks
   pub canonical-ready : (closed (heapOf (take 6 (drop 4 r)) (take (10 + byte r 3 - 10) (drop 10 r))) ≡ true)

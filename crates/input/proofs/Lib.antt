@@ -1,4 +1,3 @@
-pub mod ListLaws
 pub mod Records
 pub mod Shapes
 pub mod Sorted

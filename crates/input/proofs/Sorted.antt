@@ -2,7 +2,7 @@
 use Prim.Native.Nat.{ℕ, suc, _+_, _*_}
 use native.Mathlib.Omega.{arith}
 use mathlib.Core.Path.{_≡_, refl, sym, _∙_}
-use mathlib.Core.Bool.{Bool, true, false, _&&_}
+use mathlib.Core.Bool.{true, false, and-false}
 use mathlib.Core.Option.{none, some}
 use mathlib.Core.List.{List, [], _∷_}
 use lib.ListN.{length, take, drop}
@@ -10,6 +10,7 @@ use borrow.Author.Tests.{eqb-true, ne-eqb}
 use Rattle.model.specs.Base.{all, count}
 use Rattle.model.specs.Records.{byte, isH, isS}
 use Rattle.model.specs.Translate.{badKind}
+use Rattle.model.proofs.Checked.{not-both}
 use Rattle.model.proofs.Lists.{some-none}
 use Rattle.model.proofs.Logic.{and-both, bool-case}
 use Rattle.input.specs.Input.{recordsOf}
@@ -18,9 +19,6 @@ use Rattle.input.proofs.Records.{records-length}
 -- an S is no H
 pub no-shape : (r : List ℕ) → isS r ≡ true → isH r ≡ false
 no-shape r h = ne-eqb (byte r 0) 0x48 (λ e. let k = eqb-true (byte r 0) 0x53 h in omega arith)
-
-pub no-statement : (r : List ℕ) → isH r ≡ true → isS r ≡ false
-no-statement r h = ne-eqb (byte r 0) 0x53 (λ e. let k = eqb-true (byte r 0) 0x48 h in omega arith)
 
 pub record Sorted (rs : List (List ℕ)) : Type 0 where
   pub statements : all isS (take (count isS rs) rs) ≡ true
@@ -33,20 +31,16 @@ record Shapes (rs : List (List ℕ)) : Type 0 where
   all-h : all isH rs ≡ true
   count-h : count isH rs ≡ length rs
 
-and-not : (b : Bool) → b && false ≡ false
-and-not true = refl
-and-not false = refl
-
 shapes : (i : ℕ) (rs : List (List ℕ)) → badKind true i rs ≡ none → Shapes rs
 shapes i [] e = record { none-s = refl; all-h = refl; count-h = refl }
 shapes i (r ∷ rs) e = bool-case (isH r)
     (λ h. let q = shapes (suc i) rs (rw (h, badKind) at e) in
     record {
-      none-s = rw (no-statement r h) (omega (arith, q .none-s));
+      none-s = rw (not-both r h) (omega (arith, q .none-s));
       all-h = and-both (isH r) (all isH rs) h (q .all-h);
       count-h = rw h (omega (arith, q .count-h));
     })
-    (λ h. let z : badKind true i (r ∷ rs) ≡ some i = rw (h, badKind) (rw (and-not (isS r), badKind)) in some-none (sym e ∙ z))
+    (λ h. let z : badKind true i (r ∷ rs) ≡ some i = rw (h, badKind) (rw (and-false (isS r), badKind)) in some-none (sym e ∙ z))
 
 shapes-sorted : (rs : List (List ℕ)) → Shapes rs → Sorted rs
 shapes-sorted rs q = record {

@@ -5,7 +5,8 @@ use mathlib.Core.List.{_++_}
 use native.Mathlib.Omega.{arith}
 use lib.ListN.{drop, drop-of-length-le, getD, length, length-set, take}
 use borrow.Author.Needs.{needs}
-use Rattle.spread.proofs.ListLaws.{drop-step, push, pushed}
+use Rattle.model.proofs.Slices.{drop-step}
+use Rattle.spread.proofs.ListLaws.{push, pushed}
 use Rattle.image.proofs.steps.copy.Statement.{statement}
 use Rattle.image.proofs.steps.copy.Tie as tie
 
