@@ -20,10 +20,10 @@ use Rattle.model.proofs.Logic.{bool-case, clash}
 use Rattle.model.proofs.Order.{used-below}
 use Rattle.model.proofs.Reached.{GoodLoc, shape-edge}
 use Rattle.model.proofs.ReadBack.{Writable, WritableLoc, canon-writable, location-length, location-shape}
+use Rattle.model.proofs.Statements.{statement-fields}
 use Rattle.model.proofs.Walks.{Closed}
 use Rattle.model.proofs.Ways.{access-closed, access-facts, no-access}
 use Rattle.edge.specs.Edge.{WayReady, wayOf}
-use Rattle.edge.proofs.Ready.{accepted-fields}
 use Rattle.explore.specs.Explore.{LocOk}
 use Rattle.explore.specs.Parts.{AtShape, TwoWays, WayEdge, way}
 use Rattle.explore.proofs.Ops.{access-pointers, op-chooses, op-goes, target-below}
@@ -59,7 +59,7 @@ module _ {l r : List ℕ} {n s : ℕ} {h : Heap} (A : AtShape l r n s h) where
   shape-is = ap shapeOf (A .isRecord) ∙ location-shape s h writable
 
   pub fields : (byte r 1 ≤ 11) × (byte r 2 < 6) × (byte r 3 < 6)
-  fields = accepted-fields n r (A .statement .accepted)
+  fields = statement-fields n r (A .statement .accepted)
 
   leads : isStop (kind (stmtOf r .op)) ≡ false → (p : ℕ) (g : Heap) → p ≤ 1 → target (stmtOf r) (branch (stmtOf r .op) p g) < n
   leads goes p g few = target-below n r p g (A .statement .accepted) (fields .0) goes

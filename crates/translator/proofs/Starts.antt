@@ -11,7 +11,7 @@ use Rattle.model.specs.Heap.{Heap}
 use Rattle.model.specs.Edges.{Loc, at}
 use Rattle.model.specs.Records.{locRecord, recordAt, shapeOf}
 use Rattle.model.specs.Translate.{Listing, check, good, places, tableOf}
-use Rattle.model.proofs.Bytes.{table-empty}
+use Rattle.model.proofs.Bytes.{records-wide, table-empty}
 use Rattle.model.proofs.Canon.{Canon}
 use Rattle.model.proofs.Checked.{check-good}
 use Rattle.model.proofs.Lists.{In, getD-map, in-map}
@@ -63,9 +63,7 @@ module _ (s : List ℕ) (n m : ℕ) (g : check s ≡ good (routineOf n s)) (A : 
       subst (LocOk n) (sym (y .1)) (y .2, A .someStatements)
 
   start-wide : (r : List ℕ) → In r (map locRecord (startLocs n s)) → length r ≡ 32
-  start-wide r i =
-      let y = in-map locRecord r (startLocs n s) i in
-      ap length (y .2) ∙ record-length (y .0) (start-writable (y .0) (y .1))
+  start-wide = records-wide locRecord (startLocs n s) (λ l i. record-length l (start-writable l i))
 
   -- record j of the location table
   start-is : (j : ℕ) → j < m → getD (map locRecord (startLocs n s)) j [] ≡ startBytes (recordAt s (n + j))

@@ -6,10 +6,10 @@ use lib.ListN.{List·getD-map, getD, length}
 use Rattle.model.specs.Edges.{access}
 use Rattle.model.specs.Heap.{Heap, null, undef}
 use Rattle.model.specs.Records.{opOf, valOf}
-use Rattle.way.proofs.ListLaws.{getD-any}
+use Rattle.model.proofs.Lists.{getD-default}
 
 pub pointer-value : (ps : List ℕ) (u : ℕ) → u < length ps → valOf (getD ps u 0) ≡ getD (map valOf ps) u undef
-pointer-value ps u h = ap valOf (getD-any ps u 0 0xff h) ∙ sym (List·getD-map valOf ps u 0xff)
+pointer-value ps u h = ap valOf (getD-default ps 0 0xff u h) ∙ sym (List·getD-map valOf ps u 0xff)
 
 pub access-none : (op u w : ℕ) (h : Heap) → (op ≡ 3 → ⊥) → (op ≡ 4 → ⊥) → (op ≡ 5 → ⊥) → (op ≡ 7 → ⊥) → null ≡ access (opOf op u w) h
 access-none zero u w h a b c d = refl

@@ -6,7 +6,8 @@ use native.Mathlib.Omega.{arith}
 use lib.ListN.{drop, getD, length, length-set, take, take-append-drop}
 use lib.Seq.{take-length}
 use borrow.Author.Needs.{needs}
-use Rattle.way.proofs.ListLaws.{drop-next, take-next, take-push}
+use Rattle.model.proofs.Slices.{take-next}
+use Rattle.way.proofs.ListLaws.{drop-next, take-push}
 use Rattle.way.proofs.copy_front.Statement.{statement}
 use Rattle.way.proofs.copy_front.Tie as tie
 
