@@ -18,15 +18,6 @@ use Rattle.model.proofs.Statements.{no-refusal}
 
 -- ---- kinds
 
-abbrev Goes : ℕ → ℕ → ℕ → Type 0
-Goes u w op = (op ≡ 0 → ⊥) → isStop (kind (opOf op u w)) ≡ false
-
--- op 0 alone stops
-pub op-goes : (op u w : ℕ) → op ≤ 11 → (op ≡ 0 → ⊥) → isStop (kind (opOf op u w)) ≡ false
-op-goes op u w m =
-    each-op (Goes u w) (λ z. absurd (z refl)) (λ z. refl) (λ z. refl) (λ z. refl) (λ z. refl) (λ z. refl) (λ z. refl) (λ z. refl) (λ z. refl) (λ z. refl)
-    (λ z. refl) (λ z. refl) op m
-
 other-picks : {C : Type 0} → other ≡ picks → C
 other-picks e = absurd (let z : _≡_ {A = ℕ} 0 1 = cc in omega arith)
 

@@ -11,13 +11,13 @@ use Rattle.model.specs.Heap.{inUse, next}
 use Rattle.model.specs.Machine.{kind}
 use Rattle.model.specs.Records.{byte, isS, opOf, refusalS}
 use Rattle.model.specs.Image.{heapOf, refusalImage, refusalStep}
+use Rattle.model.proofs.Images.{image-accepted}
 use Rattle.model.proofs.Logic.{and-l, and-r}
 use Rattle.model.proofs.Ops.{each-op}
 use Rattle.model.proofs.Statements.{statement-fields}
 use Rattle.visit.specs.ByteLaws.{slot-at, used-byte}
 use Rattle.image.specs.Checks.{accepted}
 use Rattle.image.specs.Parts.{StepReady}
-use Rattle.image.proofs.ImageLaws.{image-few, image-heap, image-six}
 
 -- ---- the checks
 
@@ -99,13 +99,13 @@ module _ (r ps cs : List ℕ) (z : refusalStep r ps cs ≡ 0) where
   checked-fields = statement-fields 64 r (checked .2)
 
   pub checked-six : length ps ≡ 6
-  checked-six = image-six ps cs (checked .0)
+  checked-six = image-accepted ps cs .0 (checked .0) .0
 
   pub step-ready : (p c : ℕ) {a : Bool} → a ≡ accepted (kind (opOf (byte r 1) (byte r 2) (byte r 3))) p c ps cs → a ≡ true
       → StepReady (byte r 1) (byte r 2) (byte r 3) c ps cs
   step-ready p c e t =
       let f = checked-fields in
-      let i = checked .0 in
+      let i = image-accepted ps cs .0 (checked .0) in
       let used = inUse (next (heapOf ps cs) c) in
       let x : byte r 1 ≡ 6 → (c < length cs) × (used ≡ false) =
       λ q. new-room (length cs) c used (subst (λ k. accepted (kind (opOf k (byte r 2) (byte r 3))) p c ps cs ≡ true) q (sym e ∙ t)) in
@@ -114,9 +114,9 @@ module _ (r ps cs : List ℕ) (z : refusalStep r ps cs ≡ 0) where
           known = f .0;
           isU = f .1;
           isW = f .2;
-          six = image-six ps cs i;
-          few = image-few ps cs i;
-          isClosed = image-heap ps cs i .isClosed;
+          six = i .0;
+          few = i .1;
+          isClosed = i .2 .isClosed;
           room = λ q. x q .0;
         };
         fresh = λ q. x q .1;

@@ -13,9 +13,10 @@ use Rattle.model.specs.Base.{count}
 use Rattle.model.specs.Records.{isH, isS, shapeOf, stmtOf}
 use Rattle.model.specs.Translate.{Refusal, Routine, good, badKind, badRecord, between, check, checkCounts, checkKinds, checkRecords}
 use Rattle.model.proofs.Checked.{bad-good, good-inj}
+use Rattle.model.proofs.Listings.{recordsOf}
 use Rattle.model.proofs.Lists.{some-none}
 use Rattle.model.proofs.Logic.{bool-case, or-false-r}
-use Rattle.input.specs.Input.{recordsOf, routineOf}
+use Rattle.input.specs.Input.{routineOf}
 use Rattle.input.specs.Parts.{earlier, recordRefusal}
 use Rattle.input.proofs.Records.{records-fail, records-pass}
 

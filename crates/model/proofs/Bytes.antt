@@ -27,9 +27,13 @@ small-up j k (cell n) h s = omega arith
 small-up j k null h s = tt
 small-up j k undef h s = tt
 
+-- a byte that is neither that of null nor that of undefined
+pub val-cell : (b : ℕ) → (b ≡ 0xfe → ⊥) → (b ≡ 0xff → ⊥) → valOf b ≡ cell b
+val-cell b p q = rw (ne-eqb b 0xfe p, ne-eqb b 0xff q)
+
 -- the byte of a value is read back as that value
 pub val-back : (v : Val) → SmallVal 0xfe v → valOf (valByte v) ≡ v
-val-back (cell n) h = rw (ne-eqb n 0xfe (λ e. omega arith), ne-eqb n 0xff (λ e. omega arith))
+val-back (cell n) h = val-cell n (λ e. omega arith) (λ e. omega arith)
 val-back null h = refl
 val-back undef h = refl
 

@@ -55,12 +55,12 @@ image-accepted ps cs = (
 
 -- ---- folding
 
-fold-zero : (ps cs : List ℕ) → refusalImage ps cs ≡ 0
+pub fold-zero : (ps cs : List ℕ) → refusalImage ps cs ≡ 0
     → foldImage ps cs ≡ record { refusal = 0; shapeBytes = shapeRecord (shape (heapOf ps cs)); counts = filled 12 (counters (heapOf ps cs)) }
 unfolding foldImage
 fold-zero ps cs e = rw (e, foldImage)
 
-fold-suc : (ps cs : List ℕ) (n : ℕ) → refusalImage ps cs ≡ suc n
+pub fold-suc : (ps cs : List ℕ) (n : ℕ) → refusalImage ps cs ≡ suc n
     → foldImage ps cs ≡ record { refusal = suc n; shapeBytes = replicate 32 0; counts = replicate 12 0 }
 unfolding foldImage
 fold-suc ps cs n e = rw (e, foldImage)
@@ -123,7 +123,7 @@ pub unfold-zero : (r vs ps cs : List ℕ) → refusalUnfold r vs (length ps) (le
 unfolding unfoldImage
 unfold-zero r vs ps cs e = rw (e, unfoldImage)
 
-unfold-suc : (r vs ps cs : List ℕ) (n : ℕ) → refusalUnfold r vs (length ps) (length cs) ≡ suc n
+pub unfold-suc : (r vs ps cs : List ℕ) (n : ℕ) → refusalUnfold r vs (length ps) (length cs) ≡ suc n
     → unfoldImage r vs ps cs ≡ record { refusal = suc n; ptrBytes = ps; cellBytes = cs }
 unfolding unfoldImage
 unfold-suc r vs ps cs n e = rw (e, unfoldImage)

@@ -41,6 +41,7 @@ pub mod Leave
 pub mod Picks
 pub mod Location
 pub mod Guards
+pub mod Sorted
 pub mod Checked
 pub mod Listing
 pub mod Exact

@@ -1,8 +1,12 @@
 -- What holds of each op, by its number.
 use Prim.Native.Nat.{_≤_, suc, ℕ}
-use mathlib.Core.Path.{subst, sym}
+use mathlib.Core.Bool.{false}
+use mathlib.Core.Path.{_≡_, refl, subst, sym}
 use native.Mathlib.Omega.{arith}
 use borrow.Author.Tests.{eqb-false}
+use Rattle.model.specs.Machine.{kind}
+use Rattle.model.specs.Records.{opOf}
+use Rattle.model.specs.Runs.{isStop}
 use Rattle.model.proofs.Logic.{eq-case}
 
 -- what holds of the numbers up to n and of the next holds of those up to the next
@@ -16,3 +20,9 @@ each-op P a b c d e f g h i j k l =
     let p4 : (n : ℕ) → n ≤ 4 → P n = next-op P 3 (next-op P 2 (next-op P 1 (next-op P 0 p0 b) c) d) e in
     let p8 : (n : ℕ) → n ≤ 8 → P n = next-op P 7 (next-op P 6 (next-op P 5 (next-op P 4 p4 f) g) h) i in
     next-op P 10 (next-op P 9 (next-op P 8 p8 j) k) l
+
+-- op 0 alone stops
+pub op-goes : (op u w : ℕ) → op ≤ 11 → (op ≡ 0 → ⊥) → isStop (kind (opOf op u w)) ≡ false
+op-goes op u w m =
+    each-op (λ k. (k ≡ 0 → ⊥) → isStop (kind (opOf k u w)) ≡ false) (λ z. absurd (z refl)) (λ z. refl) (λ z. refl) (λ z. refl) (λ z. refl) (λ z. refl)
+    (λ z. refl) (λ z. refl) (λ z. refl) (λ z. refl) (λ z. refl) (λ z. refl) op m

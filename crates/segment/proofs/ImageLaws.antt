@@ -6,12 +6,12 @@ use mathlib.Core.List.{List, [], _∷_, map}
 use native.Mathlib.Omega.{arith}
 use lib.ListN.{length, getD, take, length-append, length-map, List·getD-map}
 use lib.Seq.{getD-take, length-take-le}
-use borrow.Author.Tests.{ne-eqb}
 use Rattle.model.specs.Base.{mem}
 use Rattle.model.specs.Heap.{Heap, IsHeap, cell, next, order}
 use Rattle.model.specs.Shape.{Seg, cells, core, last, segments}
 use Rattle.model.specs.Records.{valOf}
 use Rattle.model.specs.Image.{heapOf}
+use Rattle.model.proofs.Bytes.{val-cell}
 use Rattle.model.proofs.Facts.{heap-closed, heap-kept}
 use Rattle.model.proofs.Lists.{mem-at}
 use Rattle.model.proofs.Order.{pigeon, toured}
@@ -67,7 +67,7 @@ module _ (ps cs : List ℕ) (x : IsHeap (heapOf ps cs)) (few : length cs ≤ 240
 
   byte-in : (m : List ℕ) (b : ℕ) → length cs ≤ length m → Closed (next (heapOf ps cs)) (valOf b) → InTable m b
   byte-in m b hm k q =
-      let e : valOf b ≡ cell b = rw (ne-eqb b 0xfe (λ t. omega arith), ne-eqb b 0xff (λ t. omega arith)) in
+      let e : valOf b ≡ cell b = val-cell b (λ t. omega arith) (λ t. omega arith) in
       omega (arith, cell-low ps cs x few b (subst (Closed (next (heapOf ps cs))) e k))
 
   values-in : (m qs : List ℕ) → length cs ≤ length m → AllClosed (next (heapOf ps cs)) (map valOf qs) → AllIn m qs

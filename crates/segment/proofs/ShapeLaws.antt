@@ -5,17 +5,17 @@ use mathlib.Core.Bool.{true}
 use mathlib.Core.List.{List, [], _∷_, map, map-map}
 use native.Mathlib.Omega.{arith}
 use lib.Dec.{eqb, leb}
-use lib.ListN.{length, getD, length-map, List·getD-map}
+use lib.ListN.{length, getD, length-map}
 use borrow.Author.Tests.{lt-ltb}
 use Rattle.model.specs.Base.{mem}
-use Rattle.model.specs.Heap.{Heap, IsHeap, Val, cell, holds, next, null, order, undef}
+use Rattle.model.specs.Heap.{Heap, IsHeap, Val, cell, holds, next, null, order, undef, unused}
 use Rattle.model.specs.Shape.{Seg, cells, core, last, node, nodeSlot, nodeVal, segments, shape}
 use Rattle.model.specs.Records.{slotByte, valByte, valOf}
 use Rattle.model.specs.Image.{cellSlot, heapOf}
 use Rattle.model.proofs.Bytes.{byte-back}
 use Rattle.model.proofs.Changes.{holds-inj, slot-clash}
 use Rattle.model.proofs.Facts.{heap-closed, heap-kept}
-use Rattle.model.proofs.Lists.{getD-default}
+use Rattle.model.proofs.Lists.{getD-map}
 use Rattle.model.proofs.Logic.{bool-case, mem-here, or-l}
 use Rattle.model.proofs.Order.{used-below}
 use Rattle.model.proofs.Segments.{core-first}
@@ -51,7 +51,7 @@ module _ (ps cs : List ℕ) (x : IsHeap (heapOf ps cs)) (few : length cs ≤ 240
   pub slot-of : (c : ℕ) (v : Val) → next (heapOf ps cs) c ≡ holds v → valOf (getD cs c 0) ≡ v
   slot-of c v e =
       let b = getD cs c 0 in
-      let s : cellSlot b ≡ holds v = sym (List·getD-map cellSlot cs c 0xfd ∙ ap cellSlot (getD-default cs 0xfd 0 c (cell-low c (v, e)))) ∙ e in
+      let s : cellSlot b ≡ holds v = sym (getD-map cellSlot cs c 0 unused (cell-low c (v, e))) ∙ e in
       bool-case (eqb b 0xfd) (λ t. slot-clash refl (rw t at s)) (λ t. holds-inj (rw t at s))
 
   module _ (m : List ℕ) (is : Nodes (segments (heapOf ps cs)) m) where
