@@ -13,12 +13,12 @@ use Rattle.model.specs.Records.{valOf}
 use Rattle.model.specs.Image.{cellSlot, heapOf}
 use Rattle.model.proofs.Bytes.{val-cell}
 use Rattle.model.proofs.Logic.{bool-case}
-use Rattle.model.proofs.Changes.{slot-clash}
 use Rattle.model.proofs.Walks.{Closed, Used}
 use Rattle.model.proofs.Order.{used-below}
 use Rattle.model.proofs.Effects.{closed-ptr}
 use Rattle.model.proofs.Facts.{test-closed}
 use Rattle.model.proofs.Lists.{getD-map, map-set}
+use Rattle.model.proofs.Writes.{slot-clash}
 use Rattle.effect.specs.Effect.{Access, EffectReady, Named, Ran, assigned, loaded, stored, wipeByte}
 
 -- ---- reading

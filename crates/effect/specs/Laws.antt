@@ -14,11 +14,12 @@ use Rattle.model.specs.Machine.{Effect, done, fault, Fault, atNull, atUndef, le
 use Rattle.model.specs.Records.{valByte, valOf, slotByte}
 use Rattle.model.specs.Image.{cellSlot, heapOf}
 use Rattle.model.proofs.Logic.{bool-case, mem-here, mem-one}
-use Rattle.model.proofs.Bytes.{byte-back, map-back}
+use Rattle.model.proofs.Bytes.{byte-back}
 use Rattle.model.proofs.Walks.{ClosedHeap, seg}
-use Rattle.model.proofs.Expand.{Expansion, img}
-use Rattle.model.proofs.Effects.{Alike, both-bad, both-ok, Room, sg-after, effect-alike}
+use Rattle.model.proofs.Effects.{effect-alike}
 use Rattle.model.proofs.Facts.{test-closed, closed-test, unused-of}
+use Rattle.model.proofs.Lists.{map-back}
+use Rattle.model.proofs.Notions.{Alike, Expansion, Room, both-bad, both-ok, img, sg-after}
 use Rattle.model.proofs.Stepping.{SlotsAre, effect-sized}
 use Rattle.effect.specs.Effect.{effectOf}
 

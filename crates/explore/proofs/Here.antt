@@ -14,12 +14,13 @@ use Rattle.model.specs.Edges.{Edge, Guard, Loc, access, always, at, edgesAt, fa
 use Rattle.model.specs.Image.{heapOf}
 use Rattle.model.specs.Records.{byte, guardBytes, opOf, shapeOf, stmtOf, valOf}
 use Rattle.model.specs.Runs.{isStop}
+use Rattle.model.proofs.Listings.{Writable, WritableLoc}
 use Rattle.model.proofs.Lists.{In}
 use Rattle.model.proofs.Logic.{bool-case, clash}
 use Rattle.model.proofs.Ops.{op-goes}
 use Rattle.model.proofs.Order.{used-below}
 use Rattle.model.proofs.Reached.{GoodLoc, shape-edge}
-use Rattle.model.proofs.ReadBack.{Writable, WritableLoc, canon-writable, location-length, location-shape}
+use Rattle.model.proofs.ReadBack.{canon-writable, location-length, location-shape}
 use Rattle.model.proofs.Statements.{statement-fields}
 use Rattle.model.proofs.Walks.{Closed}
 use Rattle.model.proofs.Ways.{access-closed, access-facts, no-access}

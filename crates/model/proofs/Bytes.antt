@@ -16,11 +16,10 @@ use Rattle.model.specs.Heap.{Val, cell, null, undef}
 use Rattle.model.specs.Records.{bits, filled, isZero, recordAt, twoBytes, updateCode, valByte, valOf, word}
 use Rattle.model.specs.Runs.{added, applied}
 use Rattle.model.specs.Translate.{tableOf}
+use Rattle.model.proofs.Listings.{SmallVal}
 use Rattle.model.proofs.Lists.{In, in-map}
 use Rattle.model.proofs.Logic.{and-l, and-r, bool-case}
-pub use Rattle.model.proofs.Listings.{SmallVal}
-pub use Rattle.model.proofs.Lists.{map-back}
-pub use Rattle.model.proofs.Notions.{flagged}
+use Rattle.model.proofs.Notions.{flagged}
 
 pub small-up : (j k : ℕ) (v : Val) → j ≤ k → SmallVal j v → SmallVal k v
 small-up j k (cell n) h s = omega arith

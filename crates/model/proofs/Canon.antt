@@ -16,11 +16,10 @@ use Rattle.model.proofs.Folds.{Kept, kept-down, order-cat}
 use Rattle.model.proofs.Lists.{map-id, map-same}
 use Rattle.model.proofs.Logic.{bool-case, mem-here, mem-there}
 use Rattle.model.proofs.Notions.{Expands, cat, flat, segAt}
-use Rattle.model.proofs.Numbers.{read-all}
+use Rattle.model.proofs.Numbers.{numbers-mem, read-all}
 use Rattle.model.proofs.Order.{toured, used-below}
 use Rattle.model.proofs.Start.{end, flat-is, slot-at, start}
 use Rattle.model.proofs.Walks.{AllUsed, Closed, ClosedHeap, closed-in, seg}
-pub use Rattle.model.proofs.Numbers.{numbers-mem}
 
 pub record Canon (h : Heap) : Type 0 where
   pub closed : ClosedHeap h

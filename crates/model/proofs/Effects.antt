@@ -13,10 +13,9 @@ use Rattle.model.proofs.Changes.{expands-free, expands-split, f-closed,
 use Rattle.model.proofs.Cores.{chain-last}
 use Rattle.model.proofs.Lists.{map-set}
 use Rattle.model.proofs.Logic.{eqb-same}
-use Rattle.model.proofs.Notions.{Expands, Expansion, img, upd}
+use Rattle.model.proofs.Notions.{Alike, Expands, Expansion, Room, both-bad, both-ok, img, sg-after, upd}
 use Rattle.model.proofs.Walks.{AllClosed, Closed, Used, closed-map, closed-up, map-closed, seg}
 use Rattle.model.proofs.Writes.{expands-new, expands-write, n-closed, n-img, upd-at, w-closed}
-pub use Rattle.model.proofs.Notions.{Alike, Room, both-bad, both-ok, sg-after}
 
 getD-put : (l : List Slot) (c : ℕ) (s : Slot) (i : ℕ) → getD (put l c s) i unused ≡ cond (eqb i c) s (getD l i unused)
 getD-put [] zero s zero = refl

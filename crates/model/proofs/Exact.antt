@@ -15,12 +15,11 @@ use Rattle.model.specs.Heap.{Heap}
 use Rattle.model.specs.Machine.{Stmt, leak}
 use Rattle.model.specs.Translate.{Link, Listing, Routine, listed, listing}
 use Rattle.model.proofs.Listing.{add-found, add-place, any-loc, edge-locs, explored-end, explored-prefix, extend-all, extend-distinct, extend-has, extend-prefix, listing-whole, loc-place}
-use Rattle.model.proofs.Listings.{addEdge, addLoc, explored, extend, locAt}
+use Rattle.model.proofs.Listings.{Exact, Reached, addEdge, addLoc, addLocs, by-edge, explored, extend, from-start, linkOf, linkTarget, linksFrom, locAt}
 use Rattle.model.proofs.Lists.{Distinct, In, getD-in, in-append-cases, in-getD, in-joined, in-map, joined-in, joined-snoc, map-in}
 use Rattle.model.proofs.Logic.{bool-case, not-true}
+use Rattle.model.proofs.Numbers.{numbers-in, numbers-snoc}
 use Rattle.model.proofs.Same.{Prefix, prefix-getD, prefix-in, prefix-place, prefix-trans}
-pub use Rattle.model.proofs.Listings.{Exact, Reached, addLocs, by-edge, firsts, from-start, linkOf, linkTarget, linksFrom}
-pub use Rattle.model.proofs.Numbers.{numbers-in, numbers-snoc}
 
 -- ---- lists
 

@@ -9,8 +9,8 @@ use Rattle.model.specs.Base.{mem}
 use Rattle.model.specs.Heap.{Slot, Val, cell}
 use Rattle.model.specs.Shape.{Seg, cells}
 use Rattle.model.proofs.Logic.{NoDup, clash, mem-append, mem-append-cases, mem-append-l, mem-append-r, mem-cases, mem-here, mem-one, mem-there, not-true}
+use Rattle.model.proofs.Notions.{Chain, Expands, cat, img}
 use Rattle.model.proofs.Walks.{AllClosed, AllUsed, Closed, Tours, Used, Walks, at-null, at-seen, at-undef, go, tour-done, tour-more}
-pub use Rattle.model.proofs.Notions.{Chain, Expands, Expansion, cat, img}
 
 pub cat-append : (sg : ℕ → Seg) (s t : List ℕ) → cat sg (s ++ t) ≡ cat sg s ++ cat sg t
 cat-append sg [] t = refl

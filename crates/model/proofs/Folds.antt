@@ -13,10 +13,9 @@ use Rattle.model.proofs.Cores.{chain-last, core-head, core-inner, first
 use Rattle.model.proofs.Expand.{cat-snoc, lift-tour, mem-cat, mem-of-cat}
 use Rattle.model.proofs.Lists.{map-same}
 use Rattle.model.proofs.Logic.{bool-case, bool-ext, clash, mem-append-cases, mem-cases, mem-here, mem-one, mem-there}
-use Rattle.model.proofs.Notions.{Chain, Expansion, cat, img}
+use Rattle.model.proofs.Notions.{Chain, Expansion, cat, img, total}
 use Rattle.model.proofs.Order.{toured, tours-same}
 use Rattle.model.proofs.Walks.{AllClosed, AllUsed, Closed, ClosedHeap, Used, closed-map, map-closed, seg}
-pub use Rattle.model.proofs.Notions.{total}
 
 pub chain-used : (nx : ℕ → Slot) (c : ℕ) (l : List ℕ) (v : Val) (d : ℕ) → Chain nx c l v → mem d (c ∷ l) ≡ true → Used nx d
 chain-used nx c [] v d ch h = (v, ap nx (mem-one d c h) ∙ ch)

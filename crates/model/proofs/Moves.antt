@@ -18,14 +18,13 @@ use Rattle.model.proofs.Bytes.{applied-code, records-wide, table-record
 use Rattle.model.proofs.Checked.{GoodStarts}
 use Rattle.model.proofs.EdgeBack.{edge-branch, edge-from, edge-guard, edge-length, edge-node, edge-to, edge-updates}
 use Rattle.model.proofs.Exact.{LinkGood, link-good}
-use Rattle.model.proofs.Listings.{Exact, WritableLoc, locAt}
+use Rattle.model.proofs.Listings.{Exact, WritableLoc, linkAt, locAt, noLink}
 use Rattle.model.proofs.Lists.{In, any-find, any-in, getD-in, getD-map, map-same, some-inj, some-none}
 use Rattle.model.proofs.Logic.{and-both, and-l, and-r, bool-case}
 use Rattle.model.proofs.Notions.{SmallEdge, guardOn, nodesOf, worth}
 use Rattle.model.proofs.Numbers.{in-numbers, numbers-in}
 use Rattle.model.proofs.Reached.{GoodLoc, good-edge, reached-good}
 use Rattle.model.proofs.ReadBack.{canon-writable, record-length}
-pub use Rattle.model.proofs.Listings.{linkAt, noLink}
 
 -- the move by an edge
 abbrev pub by-link : Config → Link → Step Config

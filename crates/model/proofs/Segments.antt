@@ -10,18 +10,17 @@ use Rattle.model.specs.Base.{mem, sum}
 use Rattle.model.specs.Heap.{Heap, IsHeap, Slot, Val, cell, holds, next, order}
 use Rattle.model.specs.Shape.{Seg, cells, core, counters, segments, size}
 use Rattle.model.proofs.Bound.{few-nodes, segment-is}
+use Rattle.model.proofs.Cores.{not-pointed, one-holder}
 use Rattle.model.proofs.Facts.{heap-closed, heap-kept}
 use Rattle.model.proofs.Folds.{Kept, chain-used}
 use Rattle.model.proofs.Lists.{map-same}
 use Rattle.model.proofs.Logic.{NoDup, clash, mem-cases, mem-here, mem-there}
-use Rattle.model.proofs.Notions.{Chain, Reaches, along, flat, from-pointer, segAt}
+use Rattle.model.proofs.Notions.{Chain, EveryCore, IsSegment, Reaches, along, counted, flat, from-pointer, heads, segAt}
 use Rattle.model.proofs.Order.{toured}
 use Rattle.model.proofs.Reach.{kept-reaches}
 use Rattle.model.proofs.Start.{flat-is, seg-apart, where-is}
 use Rattle.model.proofs.Walks.{ClosedHeap, Used}
 use Rattle.model.proofs.Writes.{holds-inj}
-pub use Rattle.model.proofs.Cores.{core-is, not-pointed, one-holder}
-pub use Rattle.model.proofs.Notions.{EveryCore, IsSegment, counted, heads}
 
 no-loop : (h : Heap) (d : ℕ) → Reaches h d → core h d ≡ false → next h d ≡ holds (cell d) → ⊥
 no-loop h d (from-pointer i) n e = not-pointed h d n i

@@ -11,9 +11,9 @@ use Rattle.model.specs.Base.{all}
 use Rattle.model.specs.Machine.{Op, Stmt, choose, clear, copy, free, isNull, load, new, same, setNull, skip, stop, store}
 use Rattle.model.specs.Records.{byte, fieldsS, isS, isZero, opOf, pointerField, refusalS, stmtOf, targetField, targetsS, usesFirst, usesSecond, usesU, usesW}
 use Rattle.model.proofs.Bytes.{all-zero}
+use Rattle.model.proofs.Listings.{UnusedZero, field, opNumber, pointerU, pointerW, stmtRecord}
 use Rattle.model.proofs.Logic.{and-l, and-r, clash}
 use Rattle.model.proofs.Ops.{each-op}
-pub use Rattle.model.proofs.Listings.{UnusedZero, field, opNumber, pointerU, pointerW, stmtRecord}
 
 op-back : (op : Op) → opOf (opNumber op) (pointerU op) (pointerW op) ≡ op
 op-back stop = refl

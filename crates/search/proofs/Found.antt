@@ -12,10 +12,11 @@ use Rattle.model.specs.Edges.{Loc, sameLoc}
 use Rattle.model.specs.Records.{locRecord, recordAt}
 use Rattle.model.specs.Translate.{tableOf}
 use Rattle.model.proofs.Bytes.{records-wide, table-record}
+use Rattle.model.proofs.Listings.{WritableLoc}
 use Rattle.model.proofs.Lists.{In, getD-in, getD-map}
 use Rattle.model.proofs.Logic.{bool-ext}
 use Rattle.model.proofs.Numbers.{length-numbers}
-use Rattle.model.proofs.ReadBack.{WritableLoc, location-injective, record-length}
+use Rattle.model.proofs.ReadBack.{location-injective, record-length}
 use Rattle.model.proofs.Same.{bytes-same, same-bytes-refl, loc-same, same-loc-refl, place-le}
 use Rattle.search.specs.Search.{foundAt}
 use Rattle.search.proofs.ListLaws.{place-numbers}

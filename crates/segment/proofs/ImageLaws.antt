@@ -14,9 +14,10 @@ use Rattle.model.specs.Image.{heapOf}
 use Rattle.model.proofs.Bytes.{val-cell}
 use Rattle.model.proofs.Facts.{heap-closed, heap-kept}
 use Rattle.model.proofs.Lists.{mem-at}
+use Rattle.model.proofs.Notions.{flat, segAt}
 use Rattle.model.proofs.Order.{pigeon, toured}
 use Rattle.model.proofs.Segments.{each-cell-once, segments-are}
-use Rattle.model.proofs.Start.{end, flat, segAt}
+use Rattle.model.proofs.Start.{end}
 use Rattle.model.proofs.Walks.{AllClosed, Closed, seg}
 use Rattle.segment.specs.Cut.{CutReady, heldCore, segs}
 use Rattle.segment.specs.Fold.{AllIn, InTable, LastsIn}

@@ -13,14 +13,16 @@ use Rattle.model.specs.Shape.{Seg, cells, core, last, node, nodeSlot, nodeVal, 
 use Rattle.model.specs.Records.{slotByte, valByte, valOf}
 use Rattle.model.specs.Image.{cellSlot, heapOf}
 use Rattle.model.proofs.Bytes.{byte-back}
-use Rattle.model.proofs.Changes.{holds-inj, slot-clash}
+use Rattle.model.proofs.Cuts.{AllCore, Head, core-of-pointed, node-head}
 use Rattle.model.proofs.Facts.{heap-closed, heap-kept}
 use Rattle.model.proofs.Lists.{getD-map}
 use Rattle.model.proofs.Logic.{bool-case, mem-here, or-l}
+use Rattle.model.proofs.Notions.{segAt}
 use Rattle.model.proofs.Order.{used-below}
 use Rattle.model.proofs.Segments.{core-first}
-use Rattle.model.proofs.Start.{AllCore, Head, core-of-pointed, end, last-head, node-head, segAt}
+use Rattle.model.proofs.Start.{end, last-head}
 use Rattle.model.proofs.Walks.{AllClosed, Closed, Used, holders, pointed, seg}
+use Rattle.model.proofs.Writes.{holds-inj, slot-clash}
 use Rattle.segment.specs.Cut.{heldCore, segs}
 use Rattle.segment.specs.Fold.{foldByte}
 use Rattle.segment.proofs.CutLaws.{cut-same}

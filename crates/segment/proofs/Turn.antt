@@ -11,10 +11,10 @@ use lib.Seq.{getD-at, getD-set-other, getD-set-same, getD-take, getD-append-seam
 use borrow.Author.Tests.{eqb-false, eqb-true}
 use Rattle.model.specs.Base.{mem}
 use Rattle.model.specs.Shape.{Seg, cells, last, size}
-use Rattle.model.proofs.Cuts.{last-snoc}
+use Rattle.model.proofs.Cuts.{last-snoc, nodup-l}
 use Rattle.model.proofs.Logic.{NoDup, bool-case, clash, eq-case, mem-append-cases, mem-append-r, mem-here, mem-one, not-true}
+use Rattle.model.proofs.Notions.{segAt}
 use Rattle.model.proofs.Slices.{take-next}
-use Rattle.model.proofs.Start.{nodup-l, segAt}
 use Rattle.model.proofs.Walks.{seg}
 use Rattle.segment.specs.Cut.{CutReady, Entered, IsCut, Put, PutReady, heldCore, segs}
 use Rattle.segment.proofs.ListLaws.{length-snoc, snoc-place}

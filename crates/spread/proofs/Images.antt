@@ -14,10 +14,10 @@ use Rattle.model.specs.Base.{all, sum}
 use Rattle.model.specs.Heap.{Slot, Val, cell, holds, null, undef}
 use Rattle.model.specs.Image.{cellBytesOf, firstCell, spread, strand, strands, unfoldHeap}
 use Rattle.model.specs.Records.{byte, isZero, shapeOf, slotByte, valByte, valOf}
-use Rattle.model.proofs.Bytes.{SmallVal, byte-back}
+use Rattle.model.proofs.Bytes.{byte-back}
+use Rattle.model.proofs.Listings.{SmallSlot, SmallVal}
 use Rattle.model.proofs.Lists.{In}
 use Rattle.model.proofs.Logic.{and-l, and-r}
-use Rattle.model.proofs.ReadBack.{SmallSlot}
 use Rattle.model.proofs.ShapeBack.{layout-few, layout-slots, layout-writable}
 use Rattle.model.proofs.Slices.{sum-take}
 use Rattle.spread.specs.Bytes.{FirstCells, imageBytes, placedByte, strandBytes, strandsBytes}

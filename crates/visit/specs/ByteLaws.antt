@@ -12,11 +12,11 @@ use Rattle.model.specs.Image.{cellSlot}
 use Rattle.model.specs.Records.{valByte, valOf}
 use Rattle.model.specs.Shape.{holdsCell, isCell}
 use Rattle.model.proofs.Bytes.{byte-back}
-use Rattle.model.proofs.Changes.{holds-inj, slot-clash}
 use Rattle.model.proofs.Lists.{getD-map}
 use Rattle.model.proofs.Logic.{bool-case, eq-case}
 use Rattle.model.proofs.Order.{used-below}
 use Rattle.model.proofs.Walks.{AllClosed, Closed, Used}
+use Rattle.model.proofs.Writes.{holds-inj, slot-clash}
 use Rattle.visit.specs.Steps.{slotAt}
 
 pub cell-val : (v c : ℕ) → valOf v ≡ cell c → v ≡ c
