@@ -2,11 +2,11 @@
 use Prim.Native.Nat.{_+_, _-_, _<_, _≤_, suc, zero, ℕ}
 use mathlib.Core.Path.{_∙_, _≡_, ap, sym}
 use mathlib.Core.Bool.{Bool, _&&_, true}
-use mathlib.Core.List.{List, [], _++_, _∷_, map}
+use mathlib.Core.List.{List, [], _++_, _∷_, append-assoc, map, map-append}
 use native.Mathlib.Numerals.{add-one}
 use native.Mathlib.Omega.{arith}
-use lib.ListN.{drop, drop-of-length-le, getD, length, length-drop, take}
-use lib.Seq.{drop-cons, take-all, take-suc}
+use lib.ListN.{drop, drop-of-length-le, getD, length, length-drop, length-map, set, take}
+use lib.Seq.{drop-cons, length-take-le, paste-suc, set-at, take-all, take-suc}
 use Rattle.model.specs.Base.{all, sum}
 
 -- what is left from i on
@@ -34,6 +34,27 @@ map-step f l i h = ap (map f) (drop-step l i h)
 
 pub map-end : {B : Type 0} (f : ℕ → B) (l : List ℕ) (i : ℕ) → length l ≤ i → map f (drop i l) ≡ []
 map-end f l i h = ap (map f) (drop-of-length-le l h)
+
+-- ---- stores
+
+-- a list s whose first elements are f of those of vs, and whose others are those of t: one store more
+pub map-fill : {A B : Type 0} (f : A → B) (vs : List A) (t s : List B) (d : A) (i : ℕ) (x : B) → i < length vs → i < length t
+    → s ≡ map f (take i vs) ++ drop i t → x ≡ f (getD vs i d) → set s i x ≡ map f (take (i + 1) vs) ++ drop (i + 1) t
+map-fill f vs t s d i x h k e q =
+    let p = map f (take i vs) in
+    let n : length p ≡ i = length-map (take i vs) f ∙ length-take-le i vs (omega arith) in
+    ap (λ l. set l i x) (e ∙ ap (λ l. p ++ l) (drop-cons t i x k)) ∙ set-at p (getD t i x) (drop (suc i) t) x i n
+    ∙ rw add-one (sym (ap (λ l. map f l ++ drop (suc i) t) (take-suc vs i d h) ∙ ap (λ l. l ++ drop (suc i) t) (map-append f (take i vs) (getD vs i d ∷ []))
+    ∙ append-assoc p (f (getD vs i d) ∷ []) (drop (suc i) t) ∙ ap (λ y. p ++ y ∷ drop (suc i) t) (sym q)))
+
+-- one element more of rec copied over the front of part
+pub copy-turn : (part rec : List ℕ) (i : ℕ) → i < length part → i < length rec
+    → set (take i rec ++ drop i part) i (getD rec i 0) ≡ take (i + 1) rec ++ drop (i + 1) part
+copy-turn part rec i h k =
+    let z : 0 + i ≡ i = omega arith in
+    let y : 0 + (i + 1) ≡ i + 1 = omega arith in
+    let p = paste-suc part 0 rec i 0 (omega arith) k in
+    rw (z, ← add-one i, y) at p
 
 -- ---- sums
 

@@ -8,17 +8,17 @@ use native.Mathlib.Omega.{arith}
 use lib.Dec.{eqb, ltb}
 use lib.ListN.{length, length-map}
 use borrow.Author.Tests.{leb-false}
-use Rattle.model.specs.Heap.{Heap, Slot, Val, cell, holds, kept, next, null, ptr, undef, unused}
+use Rattle.model.specs.Heap.{Heap, Slot, Val, cell, holds, next, null, ptr, undef, unused}
 use Rattle.model.specs.Image.{Stepping, answered, cellSlot, heapOf, pastEnd, refusalImage, refusalStep, stays, stepImage}
 use Rattle.model.specs.Machine.{Answer, Effect, Entry, Kind, Op, Stmt, accepts, allocates, answerOf, branch, choose, clear, copy, done, effect, fault, faulted, free, freeVal, held, isNull, keep, kind, load, new, other, picks, put, putSlot, refused, run, same, setNull, setPtr, skip, step, stop, stopped, stops, store, through, unlessStop, went, wipeSlot}
 use Rattle.model.specs.Records.{byte, fieldsS, isS, slotByte, stmtOf, targetsS, valByte, valOf}
 use Rattle.model.proofs.Effects.{closed-ptr}
-use Rattle.model.proofs.Facts.{heap-closed}
+use Rattle.model.proofs.Facts.{heap-closed, keep-any}
 use Rattle.model.proofs.Images.{image-accepted, image-number, number-case}
 use Rattle.model.proofs.Lists.{In}
 use Rattle.model.proofs.Logic.{bool-case}
 use Rattle.model.proofs.Order.{used-below}
-use Rattle.model.proofs.Reached.{PtrsAre, effect-ptrs, keep-ptrs}
+use Rattle.model.proofs.Reached.{PtrsAre, effect-ptrs}
 use Rattle.model.proofs.Walks.{Closed, ClosedHeap}
 
 -- how a step can end: refused by the checks, refused by the cell or the entry, or answered by the machine
@@ -148,10 +148,6 @@ effect-sized (same u w) n h cl q = refl
 effect-sized choose n h cl q = refl
 effect-sized skip n h cl q = refl
 
-keep-slots : (n : ℕ) (x : Effect) → SlotsAre n x → SlotsAre n (keep x)
-keep-slots n (fault f) p = tt
-keep-slots n (done h) p = bool-case (kept h) (λ e. rw e p) (λ e. rw e tt)
-
 -- the pointers and the cells keep their lengths
 abbrev pub SameLengths : List ℕ → List ℕ → Stepping → Type 0
 SameLengths ps cs s = (length (s .ptrBytes) ≡ length ps) × (length (s .cellBytes) ≡ length cs)
@@ -175,8 +171,8 @@ answer-lengths st e ps cs cl q =
     by-run =
         let h = heapOf ps cs in
         let x = effect (st .op) (e .cellNo) h in
-        by-effect (branch (st .op) (e .pick) h) (keep x) (keep-ptrs (length (h .ptrs)) x (effect-ptrs (st .op) (e .cellNo) h))
-        (keep-slots (length (h .slots)) x (effect-sized (st .op) (e .cellNo) h cl
+        by-effect (branch (st .op) (e .pick) h) (keep x) (keep-any (PtrsAre (length (h .ptrs))) (λ f. tt) x (effect-ptrs (st .op) (e .cellNo) h))
+        (keep-any (SlotsAre (length (h .slots))) (λ f. tt) x (effect-sized (st .op) (e .cellNo) h cl
         (λ a. omega (arith, length-map cs cellSlot, leb-false (length cs) (e .cellNo) (subst (λ k. pastEnd k (e .cellNo) (length cs) ≡ false) a q)))))
 
     by-kind : (k : Kind) (a : Answer) → SameLengths ps cs (answered a ps cs) → SameLengths ps cs (answered (unlessStop k a) ps cs)

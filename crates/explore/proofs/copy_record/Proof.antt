@@ -5,7 +5,7 @@ use mathlib.Core.List.{List, _++_, append-nil}
 use native.Mathlib.Omega.{arith}
 use lib.ListN.{length, getD, set, take, drop, drop-of-length-le, length-set}
 use borrow.Author.Needs.{needs}
-use Rattle.grow.proofs.Copy.{copy-turn}
+use Rattle.model.proofs.Slices.{copy-turn}
 use Rattle.explore.proofs.copy_record.Statement.{statement}
 use Rattle.explore.proofs.copy_record.Tie as tie
 

@@ -5,7 +5,8 @@ use mathlib.Core.List.{List, _++_}
 use native.Mathlib.Omega.{arith}
 use lib.ListN.{length, getD, set, take, drop, length-set}
 use borrow.Author.Needs.{needs}
-use Rattle.grow.proofs.Copy.{copy-end, copy-turn}
+use Rattle.model.proofs.Slices.{copy-turn}
+use Rattle.grow.proofs.Copy.{copy-end}
 use Rattle.grow.proofs.copy_record.Statement.{statement}
 use Rattle.grow.proofs.copy_record.Tie as tie
 
