@@ -1,22 +1,23 @@
 -- An edge by its way: the step that the way stands for, the edge of a fault, and the edge of a run that is done.
 use Prim.Native.Nat.{ℕ, zero, suc, _≤_}
 use mathlib.Core.Path.{_≡_, refl, sym, ap, ap₂, _∙_}
-use mathlib.Core.Bool.{Bool, true, false, not}
+use mathlib.Core.Bool.{Bool, true, false}
 use mathlib.Core.List.{List, [], _∷_, _++_, append-nil, head-eq-of-cons-eq, map, map-map}
 use native.Mathlib.Omega.{arith}
 use lib.ListN.{List·getD-eq-default, drop, drop-of-length-le, length, length-map, take}
 use lib.Seq.{length-take-le}
-use borrow.Author.Tests.{le-leb, ne-eqb}
-use Rattle.model.specs.Heap.{Heap, cell, inUse, next, unused}
-use Rattle.model.specs.Machine.{Answer, Entry, Fault, Kind, Stmt, accepts, allocates, answerOf, atNull, atUndef, branch, fault, faultNumber, faulted, kind, leak, other, picks, run, stops, target, went}
+use borrow.Author.Tests.{ne-eqb}
+use Rattle.model.specs.Heap.{Heap, cell, next, unused}
+use Rattle.model.specs.Machine.{Answer, Fault, Stmt, accepts, answerOf, atNull, atUndef, branch, fault, faultNumber, faulted, kind, leak, run, target, went}
 use Rattle.model.specs.Edges.{Edge, Guard, Way, Weight, access, always, at, edgeBy, failed, splitHeap, stepBy, updateOf}
 use Rattle.model.specs.Image.{heapOf}
 use Rattle.model.specs.Records.{byte, locRecord, stmtOf, updateCode}
 use Rattle.model.specs.Runs.{isStop}
 use Rattle.model.specs.Shape.{segments, shape}
+use Rattle.model.proofs.Leave.{accept-room}
 use Rattle.model.proofs.Step.{step-go}
 use Rattle.model.proofs.Walks.{Used}
-use Rattle.model.proofs.Ways.{access-facts, access-same}
+use Rattle.model.proofs.Ways.{access-facts, access-same, room-of}
 use Rattle.effect.specs.Effect.{effectOf}
 use Rattle.record.specs.Written.{faultBytes}
 use Rattle.way.specs.Way.{weightAt}
@@ -26,13 +27,6 @@ use Rattle.edge.proofs.Heaps.{tail-used}
 use Rattle.edge.proofs.Ready.{node-below, node-used, nodes-few, nodes-is, shape-is, statement-is}
 
 -- ---- the step of a way
-
--- an entry with a pick at most 1 and a cell that is not in use
-accepted : (d : Kind) (e : Entry) (h : Heap) → e .pick ≤ 1 → next h (e .cellNo) ≡ unused → accepts d e h ≡ true
-accepted stops e h p u = refl
-accepted picks e h p u = le-leb (e .pick) 1 p
-accepted allocates e h p u = ap (λ s. not (inUse s)) u
-accepted other e h p u = refl
 
 -- the pick is read by choose only, which splits nothing
 pub step-way : (sp : Bool) (g : Guard) (v p : ℕ) (st : Stmt) (h : Heap) → isStop (kind (st .op)) ≡ false → p ≤ 1 → (sp ≡ true → access (st .op) h ≡ cell v)
@@ -46,7 +40,7 @@ step-way true g v p st h goes few a =
 step-way false g v p st h goes few a =
     let k = length (h .slots) in
     step-go st (record { pick = p; cellNo = k }) h goes
-    (accepted (kind (st .op)) (record { pick = p; cellNo = k }) h few (List·getD-eq-default (h .slots) unused (omega arith)))
+    (accept-room (kind (st .op)) (record { pick = p; cellNo = k }) h (room-of (kind (st .op)) h k (List·getD-eq-default (h .slots) unused (omega arith))) few)
 
 weight-way : (sp : Bool) (g : Guard) (v p : ℕ) (h : Heap) → wayOf sp g v p h .weight ≡ weightAt sp v (length (h .slots))
 weight-way true g v p h = refl

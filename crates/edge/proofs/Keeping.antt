@@ -16,7 +16,7 @@ use Rattle.model.specs.Records.{byte, locRecord, opOf, shapeOf, stmtOf, updateC
 use Rattle.model.specs.Shape.{Seg, segments, shape}
 use Rattle.model.proofs.Canon.{Canon, canon-fold, canon-segments, single}
 use Rattle.model.proofs.Facts.{kept-test}
-use Rattle.model.proofs.Lists.{in-single, map-same, map-two, mem-in}
+use Rattle.model.proofs.Lists.{in-single, map-same, mem-in}
 use Rattle.model.proofs.Numbers.{in-numbers, length-numbers, read-all}
 use Rattle.model.proofs.Ways.{no-access}
 use Rattle.way.specs.Way.{plusBy, weightAt}
@@ -69,7 +69,7 @@ codes-carried k us few room codes =
     (λ j q. let lt = in-numbers 0 k j q .1 in
     let below : j < k = omega arith in
     getD-take k us j 0 below ∙ codes j (omega arith) ∙ carried k j below)
-    ∙ sym (map-two single code (numbers 0 k))
+    ∙ sym (map-map code single (numbers 0 k))
 
 -- ---- the edge
 

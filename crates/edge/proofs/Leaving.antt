@@ -12,7 +12,8 @@ use Rattle.model.specs.Shape.{Seg, last, nodeSlot, segments, shape}
 use Rattle.model.proofs.Facts.{heap-closed, heap-kept}
 use Rattle.model.proofs.Logic.{NoDup}
 use Rattle.model.proofs.Order.{Toured, toured, used-below}
-use Rattle.model.proofs.Segments.{each-cell-once, in-segment}
+use Rattle.model.proofs.Segments.{each-cell-once}
+use Rattle.model.proofs.Start.{where-is}
 use Rattle.model.proofs.Walks.{Used}
 use Rattle.machine.specs.Run.{IsShape, ShapeReady}
 use Rattle.record.specs.Written.{locationBytes}
@@ -62,7 +63,7 @@ module _ {ps cs o : List ℕ} {n k : ℕ} {sp : Bool} {v : ℕ} {t us : List ℕ
   module _ {nd z p q : List ℕ} {m : ℕ} (S : IsShape ps cs nd z p q m) where
     node-of : (c : ℕ) → mem c (take n o) ≡ true → getD nd c 0 < m
     node-of c i =
-        let x = in-segment (heapOf ps cs) (L .isHeap) c (cell-used c i) in
+        let x = where-is (heapOf ps cs) (heap-closed (heapOf ps cs) (L .isHeap)) (heap-kept (heapOf ps cs) (L .isHeap)) c (cell-used c i) in
         let below : x .0 < m = omega (arith, x .1, S .number) in
         omega (arith, S .nodes (x .0) c below (x .2))
 

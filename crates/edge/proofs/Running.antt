@@ -12,13 +12,14 @@ use Rattle.model.specs.Machine.{Op, branch, choose, clear, copy, free, isNull, 
 use Rattle.model.specs.Edges.{always}
 use Rattle.model.specs.Records.{byte, opOf, shapeOf, stmtOf, valOf}
 use Rattle.model.specs.Image.{heapOf}
+use Rattle.model.proofs.Statements.{statement-fields}
 use Rattle.machine.specs.Run.{IsRun, RunReady}
 use Rattle.way.specs.Way.{openedCount, openedHeap}
 use Rattle.way.proofs.Opened.{count-most}
 use Rattle.edge.specs.Edge.{WayReady, wayOf}
 use Rattle.edge.specs.Parts.{WayRan}
 use Rattle.edge.proofs.Heaps.{new-whole, opened-closed, opened-fresh, opened-run}
-use Rattle.edge.proofs.Ready.{accepted-fields, location-wide, nodes-few, nodes-is, node-used, shape-is}
+use Rattle.edge.proofs.Ready.{location-wide, nodes-few, nodes-is, node-used, shape-is}
 
 -- the pointers alone decide the branch
 pub branch-pointers : (op : Op) (p : ℕ) (g h : Heap) → g .ptrs ≡ h .ptrs → branch op p g ≡ branch op p h
@@ -65,7 +66,7 @@ module _ {l r : List ℕ} {n s : ℕ} {h : Heap} {sp : Bool} {v p : ℕ} (R : Wa
 
     pub run-ready : (o : List ℕ) → 13 ≤ length o → RunReady (byte r 1) (byte r 2) (byte r 3) (byte l 3) ps (take c cs) o (replicate 16 0)
     run-ready o places =
-        let f = accepted-fields n r (R .statement .accepted) in
+        let f = statement-fields n r (R .statement .accepted) in
         let sh = shape-is R in
         let len = part-length in
         let most = count-few in

@@ -5,31 +5,29 @@ use mathlib.Core.Path.{_∙_, _≡_, ap, ap₂, refl, subst, sym}
 use mathlib.Core.Bool.{Bool, true, false, cond}
 use mathlib.Core.List.{List, [], _∷_, map}
 use lib.Dec.{eqb}
-use lib.ListN.{List·getD-map, getD, length, length-map, set}
+use lib.ListN.{getD, length, length-map, set}
 use borrow.Author.Tests.{eqb-true, ne-eqb}
-use Rattle.model.specs.Heap.{Val, cell, Slot, unused, holds, Heap, ptr, next, closed}
+use Rattle.model.specs.Heap.{Val, Slot, unused, holds, Heap, ptr, next, closed, undef}
 use Rattle.model.specs.Machine.{done, put, putSlot, setPtr, held, wipe, wipeSlot, freeVal, effect, new}
 use Rattle.model.specs.Records.{valOf}
 use Rattle.model.specs.Image.{cellSlot, heapOf}
+use Rattle.model.proofs.Bytes.{val-cell}
 use Rattle.model.proofs.Logic.{bool-case}
-use Rattle.model.proofs.Changes.{slot-clash}
 use Rattle.model.proofs.Walks.{Closed, Used}
 use Rattle.model.proofs.Order.{used-below}
 use Rattle.model.proofs.Effects.{closed-ptr}
 use Rattle.model.proofs.Facts.{test-closed}
+use Rattle.model.proofs.Lists.{getD-map, map-set}
+use Rattle.model.proofs.Writes.{slot-clash}
 use Rattle.effect.specs.Effect.{Access, EffectReady, Named, Ran, assigned, loaded, stored, wipeByte}
-use Rattle.effect.proofs.ListLaws.{getD-any, map-set}
 
 -- ---- reading
 
-val-cell : (b : ℕ) → (b ≡ 0xfe → ⊥) → (b ≡ 0xff → ⊥) → valOf b ≡ cell b
-val-cell b p q = rw (ne-eqb b 0xfe p, ne-eqb b 0xff q)
-
 pub ptr-byte : (ps cs : List ℕ) (u : ℕ) → u < length ps → ptr (heapOf ps cs) u ≡ valOf (getD ps u 0)
-ptr-byte ps cs u h = List·getD-map valOf ps u 0xff ∙ ap valOf (getD-any ps u 0xff 0 h)
+ptr-byte ps cs u h = getD-map valOf ps u 0 undef h
 
 next-byte : (ps cs : List ℕ) (c : ℕ) → c < length cs → next (heapOf ps cs) c ≡ cellSlot (getD cs c 0)
-next-byte ps cs c h = List·getD-map cellSlot cs c 0xfd ∙ ap cellSlot (getD-any cs c 0xfd 0 h)
+next-byte ps cs c h = getD-map cellSlot cs c 0 unused h
 
 used-slot : (b : ℕ) → (b ≡ 0xfd → ⊥) → cellSlot b ≡ holds (valOf b)
 used-slot b p = rw (ne-eqb b 0xfd p)

@@ -1,26 +1,11 @@
--- Generic laws on lists: elements by place, map after set, and a list whose first elements went through a function.
-use Prim.Native.Nat.{ℕ, zero, suc, _+_, _≤_, _<_}
-use native.Mathlib.Numerals.{add-one}
+-- A list whose first elements went through a function.
+use Prim.Native.Nat.{ℕ, suc, _+_, _≤_, _<_}
 use native.Mathlib.Omega.{arith}
-use mathlib.Core.Path.{_∙_, _≡_, ap, refl, sym}
-use mathlib.Core.List.{List, [], _∷_, _++_, map, append-assoc, append-nil}
+use mathlib.Core.Path.{_∙_, _≡_, ap, refl}
+use mathlib.Core.List.{List, [], _++_, map, append-nil}
 use lib.ListN.{drop, drop-of-length-le, getD, length, length-map, set, take}
-use lib.Seq.{drop-cons, getD-at, length-take-le, set-at, take-all, take-suc}
-
-pub map-set : {A B : Type 0} (f : A → B) (l : List A) (i : ℕ) (v : A) → map f (set l i v) ≡ set (map f l) i (f v)
-map-set f [] i v = refl
-map-set f (x ∷ l) zero v = refl
-map-set f (x ∷ l) (suc i) v = ap (λ r. f x ∷ r) (map-set f l i v)
-
-pub map-append : {A B : Type 0} (f : A → B) (l m : List A) → map f (l ++ m) ≡ map f l ++ map f m
-map-append f [] m = refl
-map-append f (x ∷ l) m = ap (λ r. f x ∷ r) (map-append f l m)
-
--- below the length, the default makes no difference
-pub getD-any : {A : Type 0} (l : List A) (i : ℕ) (d e : A) → i < length l → getD l i d ≡ getD l i e
-getD-any [] i d e h = absurd (omega arith)
-getD-any (x ∷ l) zero d e h = refl
-getD-any (x ∷ l) (suc i) d e h = getD-any l i d e (omega arith)
+use lib.Seq.{drop-cons, getD-at, length-take-le, take-all}
+use Rattle.model.proofs.Slices.{map-fill}
 
 -- the first i elements went through f
 abbrev pub partMap : {A : Type 0} → (A → A) → List A → ℕ → List A
@@ -34,13 +19,7 @@ part-at f l i d h =
     ap (λ r. getD (map f (take i l) ++ r) i d) (drop-cons l i d h) ∙ getD-at (map f (take i l)) (getD l i d) (drop (suc i) l) d i (part-front f l i h)
 
 pub part-step : {A : Type 0} (f : A → A) (l : List A) (i : ℕ) (d : A) → i < length l → set (partMap f l i) i (f (getD l i d)) ≡ partMap f l (i + 1)
-part-step f l i d h =
-    ap (λ r. set (map f (take i l) ++ r) i (f (getD l i d))) (drop-cons l i d h)
-    ∙ set-at (map f (take i l)) (getD l i d) (drop (suc i) l) (f (getD l i d)) i (part-front f l i h)
-    ∙ rw add-one
-    (sym (ap (λ r. map f r ++ drop (suc i) l) (take-suc l i d h)
-    ∙ ap (λ r. r ++ drop (suc i) l) (map-append f (take i l) (getD l i d ∷ []))
-    ∙ append-assoc (map f (take i l)) (f (getD l i d) ∷ []) (drop (suc i) l)))
+part-step f l i d h = map-fill f l l (partMap f l i) d i (f (getD l i d)) h h refl refl
 
 pub part-all : {A : Type 0} (f : A → A) (l : List A) (i : ℕ) → length l ≤ i → partMap f l i ≡ map f l
 part-all f l i h = rw (take-all i l h, drop-of-length-le l h, append-nil)

@@ -1,15 +1,16 @@
 -- Ops by their numbers: those that leave the heap, those that take branch 0, the one that takes a cell; values are equal where their
 -- bytes are.
-use Prim.Native.Nat.{ℕ, suc, _≤_}
-use mathlib.Core.Path.{_∙_, _≡_, ap, refl, subst, sym}
+use Prim.Native.Nat.{ℕ, _≤_}
+use mathlib.Core.Path.{_∙_, _≡_, ap, refl, sym}
 use native.Mathlib.Omega.{arith}
 use lib.Dec.{eqb}
-use borrow.Author.Tests.{eqb-true, eqb-false, eq-eqb}
+use borrow.Author.Tests.{eqb-true, eq-eqb}
 use Rattle.model.specs.Heap.{Heap, sameVal}
 use Rattle.model.specs.Machine.{allocates, branch, done, effect, kind, other}
 use Rattle.model.specs.Records.{opOf, valByte, valOf}
-use Rattle.model.proofs.Logic.{bool-ext, eq-case}
+use Rattle.model.proofs.Logic.{bool-ext}
 use Rattle.model.proofs.Bytes.{byte-back}
+use Rattle.model.proofs.Ops.{each-op}
 use Rattle.model.proofs.Same.{val-same, same-val-refl}
 
 pub same-bytes : (a b : ℕ) → sameVal (valOf a) (valOf b) ≡ eqb a b
@@ -17,19 +18,6 @@ same-bytes a b =
     bool-ext (sameVal (valOf a) (valOf b)) (eqb a b)
     (λ e. eq-eqb a b (sym (byte-back a) ∙ ap valByte (val-same (valOf a) (valOf b) e) ∙ byte-back b))
     (λ e. ap (λ x. sameVal (valOf x) (valOf b)) (eqb-true a b e) ∙ same-val-refl (valOf b))
-
--- what holds of the numbers up to n and of the next holds of those up to the next
-next-op : (P : ℕ → Type 0) (n : ℕ) → ((k : ℕ) → k ≤ n → P k) → P (suc n) → (k : ℕ) → k ≤ suc n → P k
-next-op P n f a k h = eq-case k (suc n) (λ e. subst P (sym e) a) (λ e. f k (omega (arith, eqb-false k (suc n) e)))
-
--- what holds of each op by its number
-pub each-op : (P : ℕ → Type 0) → P 0 → P 1 → P 2 → P 3 → P 4 → P 5 → P 6 → P 7 → P 8 → P 9 → P 10 → P 11
-    → (op : ℕ) → op ≤ 11 → P op
-each-op P a b c d e f g h i j k l =
-    let p0 : (n : ℕ) → n ≤ 0 → P n = λ n q. subst P (omega arith) a in
-    let p4 : (n : ℕ) → n ≤ 4 → P n = next-op P 3 (next-op P 2 (next-op P 1 (next-op P 0 p0 b) c) d) e in
-    let p8 : (n : ℕ) → n ≤ 8 → P n = next-op P 7 (next-op P 6 (next-op P 5 (next-op P 4 p4 f) g) h) i in
-    next-op P 10 (next-op P 9 (next-op P 8 p8 j) k) l
 
 -- all but ops 1 to 7 leave the heap
 pub idle : (op u w n : ℕ) (h : Heap) → op ≤ 11 → (op ≡ 1 → ⊥) → (op ≡ 2 → ⊥) → (op ≡ 3 → ⊥) → (op ≡ 4 → ⊥)

@@ -8,18 +8,19 @@ use native.Mathlib.Omega.{arith}
 use lib.Dec.{eqb}
 use lib.ListN.{length, length-map}
 use borrow.Author.Tests.{eqb-true, not-true}
-use Rattle.model.specs.Heap.{Val, cell, null, undef, Slot, unused, holds, Heap, ptr, next, inUse, closed}
+use Rattle.model.specs.Heap.{Val, cell, null, undef, unused, holds, Heap, ptr, next, inUse, closed}
 use Rattle.model.specs.Shape.{Seg}
-use Rattle.model.specs.Machine.{Effect, done, fault, Fault, atNull, atUndef, leak, faultNumber, Op, stop, setNull, copy, load, clear, store, new, free, isNull, same, choose, skip, Kind, stops, picks, allocates, other, kind, Entry, accepts, put, putSlot, setPtr, held, freeVal, through, wipeSlot, effect}
+use Rattle.model.specs.Machine.{Effect, done, fault, Fault, atNull, atUndef, leak, faultNumber, Op, stop, setNull, copy, load, clear, store, new, free, isNull, same, choose, skip, Kind, stops, picks, allocates, other, kind, Entry, accepts, putSlot, setPtr, held, freeVal, through, effect}
 use Rattle.model.specs.Records.{valByte, valOf, slotByte}
 use Rattle.model.specs.Image.{cellSlot, heapOf}
 use Rattle.model.proofs.Logic.{bool-case, mem-here, mem-one}
-use Rattle.model.proofs.Bytes.{byte-back, map-back}
-use Rattle.model.proofs.Walks.{Closed, ClosedHeap, seg}
-use Rattle.model.proofs.Order.{used-below}
-use Rattle.model.proofs.Expand.{Expansion, img}
-use Rattle.model.proofs.Effects.{Alike, both-bad, both-ok, Room, sg-after, effect-alike, closed-ptr}
+use Rattle.model.proofs.Bytes.{byte-back}
+use Rattle.model.proofs.Walks.{ClosedHeap, seg}
+use Rattle.model.proofs.Effects.{effect-alike}
 use Rattle.model.proofs.Facts.{test-closed, closed-test, unused-of}
+use Rattle.model.proofs.Lists.{map-back}
+use Rattle.model.proofs.Notions.{Alike, Expansion, Room, both-bad, both-ok, img, sg-after}
+use Rattle.model.proofs.Stepping.{SlotsAre, effect-sized}
 use Rattle.effect.specs.Effect.{effectOf}
 
 -- ---- bytes
@@ -86,51 +87,9 @@ accepts-unused k e h a q =
 
 -- ---- the number of slots
 
-length-put : (l : List Slot) (c : ℕ) (s : Slot) → c < length l → length (put l c s) ≡ length l
-length-put [] c s h = absurd (omega arith)
-length-put (x ∷ l) zero s h = refl
-length-put (x ∷ l) (suc c) s h = ap suc (length-put l c s (omega arith))
-
-abbrev Sized : ℕ → Effect → Type 0
-Sized b (done h) = length (h .slots) ≡ b
-Sized b (fault f) = Unit {0}
-
-through-sized : (b : ℕ) (h : Heap) (v : Val) → Closed (next h) v → (f : ℕ → Heap)
-    → ((c : ℕ) → c < length (h .slots) → length (f c .slots) ≡ b) → Sized b (through v f)
-through-sized b h null k f g = tt
-through-sized b h undef k f g = tt
-through-sized b h (cell c) k f g = g c (used-below (h .slots) c k)
-
-free-sized : (h : Heap) (v : Val) → Closed (next h) v → Sized (length (h .slots)) (freeVal v h)
-free-sized h null k = refl
-free-sized h undef k = tt
-free-sized h (cell c) k =
-    let l = length-map (h .slots) (wipeSlot c) in
-    length-put (map (wipeSlot c) (h .slots)) c unused (omega (arith, l, used-below (h .slots) c k)) ∙ l
-
-effect-sized : (op : Op) (n : ℕ) (h : Heap) → ClosedHeap h → (kind op ≡ allocates → n < length (h .slots))
-    → Sized (length (h .slots)) (effect op n h)
-effect-sized stop n h k q = refl
-effect-sized (setNull u) n h k q = refl
-effect-sized (copy u w) n h k q = refl
-effect-sized (load u w) n h k q =
-    through-sized (length (h .slots)) h (ptr h w) (closed-ptr (next h) (h .ptrs) w (k .0)) (λ c. setPtr u (held (next h c)) h) (λ c z. refl)
-effect-sized (clear u) n h k q =
-    through-sized (length (h .slots)) h (ptr h u) (closed-ptr (next h) (h .ptrs) u (k .0)) (λ c. putSlot c (holds null) h)
-    (λ c z. length-put (h .slots) c (holds null) z)
-effect-sized (store u w) n h k q =
-    through-sized (length (h .slots)) h (ptr h u) (closed-ptr (next h) (h .ptrs) u (k .0)) (λ c. putSlot c (holds (ptr h w)) h)
-    (λ c z. length-put (h .slots) c (holds (ptr h w)) z)
-effect-sized (new u) n h k q = length-put (h .slots) n (holds undef) (q refl)
-effect-sized (free u) n h k q = free-sized h (ptr h u) (closed-ptr (next h) (h .ptrs) u (k .0))
-effect-sized (isNull u) n h k q = refl
-effect-sized (same u w) n h k q = refl
-effect-sized choose n h k q = refl
-effect-sized skip n h k q = refl
-
 pub effect-slots : (op : Op) (n : ℕ) (h g : Heap) → closed h ≡ true → (kind op ≡ allocates → n < length (h .slots)) → effect op n h ≡ done g
     → length (g .slots) ≡ length (h .slots)
-effect-slots op n h g c q e = subst (Sized (length (h .slots))) e (effect-sized op n h (test-closed h c) q)
+effect-slots op n h g c q e = subst (SlotsAre (length (h .slots))) e (effect-sized op n h (test-closed h c) q)
 
 -- the same of an image: there are as many slots as cell bytes
 pub image-slots : (op : Op) (n : ℕ) (ps cs : List ℕ) (g : Heap) → closed (heapOf ps cs) ≡ true → (kind op ≡ allocates → n < length cs)

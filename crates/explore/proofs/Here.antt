@@ -8,25 +8,26 @@ use native.Mathlib.Omega.{arith}
 use lib.Dec.{eqb}
 use lib.ListN.{drop, length, length-drop, take}
 use lib.Seq.{length-take-le}
-use borrow.Author.Tests.{ne-eqb}
 use Rattle.model.specs.Heap.{Heap, cell, next, undef}
 use Rattle.model.specs.Machine.{branch, kind, picks, target}
 use Rattle.model.specs.Edges.{Edge, Guard, Loc, access, always, at, edgesAt, failed, isMore, isOne}
 use Rattle.model.specs.Image.{heapOf}
 use Rattle.model.specs.Records.{byte, guardBytes, opOf, shapeOf, stmtOf, valOf}
 use Rattle.model.specs.Runs.{isStop}
+use Rattle.model.proofs.Listings.{Writable, WritableLoc}
 use Rattle.model.proofs.Lists.{In}
 use Rattle.model.proofs.Logic.{bool-case, clash}
+use Rattle.model.proofs.Ops.{op-goes}
 use Rattle.model.proofs.Order.{used-below}
 use Rattle.model.proofs.Reached.{GoodLoc, shape-edge}
-use Rattle.model.proofs.ReadBack.{Writable, WritableLoc, canon-writable, location-length, location-shape}
+use Rattle.model.proofs.ReadBack.{canon-writable, location-length, location-shape}
+use Rattle.model.proofs.Statements.{statement-fields}
 use Rattle.model.proofs.Walks.{Closed}
 use Rattle.model.proofs.Ways.{access-closed, access-facts, no-access}
 use Rattle.edge.specs.Edge.{WayReady, wayOf}
-use Rattle.edge.proofs.Ready.{accepted-fields}
 use Rattle.explore.specs.Explore.{LocOk}
 use Rattle.explore.specs.Parts.{AtShape, TwoWays, WayEdge, way}
-use Rattle.explore.proofs.Ops.{access-pointers, op-chooses, op-goes, target-below}
+use Rattle.explore.proofs.Ops.{access-pointers, op-chooses, target-below}
 use Rattle.explore.proofs.Made.{Below, Makes, choice-edges, node-edges, only-edge, split-makes, whole-makes}
 
 -- a good location at one of n statements
@@ -59,7 +60,7 @@ module _ {l r : List ℕ} {n s : ℕ} {h : Heap} (A : AtShape l r n s h) where
   shape-is = ap shapeOf (A .isRecord) ∙ location-shape s h writable
 
   pub fields : (byte r 1 ≤ 11) × (byte r 2 < 6) × (byte r 3 < 6)
-  fields = accepted-fields n r (A .statement .accepted)
+  fields = statement-fields n r (A .statement .accepted)
 
   leads : isStop (kind (stmtOf r .op)) ≡ false → (p : ℕ) (g : Heap) → p ≤ 1 → target (stmtOf r) (branch (stmtOf r .op) p g) < n
   leads goes p g few = target-below n r p g (A .statement .accepted) (fields .0) goes
@@ -174,6 +175,3 @@ module _ {l r : List ℕ} {n s : ℕ} {h : Heap} (A : AtShape l r n s h) where
 pub access-is : (l r : List ℕ) (v : ℕ) → ((cs : List ℕ) → valOf v ≡ access (stmtOf r .op) (heapOf (take 6 (drop 4 l)) cs))
     → access (stmtOf r .op) (shapeOf l) ≡ valOf v
 access-is l r v f = access-pointers (stmtOf r .op) (shapeOf l) (heapOf (take 6 (drop 4 l)) []) refl ∙ sym (f [])
-
-pub node-value : (v : ℕ) → v < 0xfd → valOf v ≡ cell v
-node-value v h = rw (ne-eqb v 0xfe (λ e. omega arith), ne-eqb v 0xff (λ e. omega arith))

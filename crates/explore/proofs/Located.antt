@@ -6,25 +6,20 @@ use native.Mathlib.Omega.{arith}
 use lib.ListN.{drop, length, length-drop, length-map, take}
 use lib.Seq.{take-all}
 use Rattle.model.specs.Heap.{Heap}
-use Rattle.model.specs.Machine.{Fault, Stmt, atNull, atUndef, faultNumber, leak}
+use Rattle.model.specs.Machine.{Stmt, leak}
 use Rattle.model.specs.Edges.{Loc, at, edgesAt, edgesOf, failed, stmtAt}
 use Rattle.model.specs.Records.{byte, locRecord, recordAt, stmtOf}
 use Rattle.model.specs.Translate.{Listing, addEdges, places}
-use Rattle.model.proofs.Bytes.{table-record}
+use Rattle.model.proofs.Bytes.{records-wide, table-record}
 use Rattle.model.proofs.Listings.{locAt}
-use Rattle.model.proofs.Lists.{getD-in, getD-map, in-map}
-use Rattle.model.proofs.ReadBack.{record-length}
+use Rattle.model.proofs.Lists.{getD-in, getD-map}
+use Rattle.model.proofs.ReadBack.{fault-positive, record-length}
 use Rattle.grow.specs.Grow.{Holds}
 use Rattle.grow.specs.declared.Grown.{Grown}
 use Rattle.grow.specs.declared.Grown.the-variants.{Added}
 use Rattle.grow.proofs.Kept.{place-within}
 use Rattle.explore.specs.Explore.{AddedTo, ExploreReady, LocOk, LocsOk, StatementsOk}
 use Rattle.explore.specs.Parts.{AtShape, EdgesAdded, ShapeGiven}
-
-fault-positive : (f : Fault) → 1 ≤ faultNumber f
-fault-positive atNull = omega arith
-fault-positive atUndef = omega arith
-fault-positive leak = omega arith
 
 -- a location whose byte 2 is not zero has no edges
 fault-edges : (sts : List Stmt) (l : Loc) → (byte (locRecord l) 2 ≡ 0 → ⊥) → edgesOf sts l ≡ []
@@ -52,7 +47,7 @@ module _ (t : Listing) (ls es : List ℕ) (nl ne i : ℕ) (H : Holds t ls es nl 
       let rs = map locRecord (t .locs) in
       let k : i < length rs = omega (arith, below, length-map (t .locs) locRecord) in
       ap (λ x. recordAt x i) (H .locs)
-      ∙ table-record (length ls) rs i (λ r q. let y = in-map locRecord r (t .locs) q in ap length (y .2) ∙ record-length (y .0) (H .goodLocs (y .0) (y .1))) k
+      ∙ table-record (length ls) rs i (records-wide locRecord (t .locs) (λ l q. record-length l (H .goodLocs l q))) k
       ∙ getD-map locRecord (t .locs) i (failed 0 leak) [] below
 
   -- a fault

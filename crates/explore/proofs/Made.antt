@@ -1,18 +1,18 @@
 -- The edges that the ways out of a location make: each way makes exactly one, and the location's edges are these, in order.
 use Prim.Native.Nat.{ℕ, _≤_, _<_}
 use mathlib.Core.Path.{_≡_, refl, ap, ap₂, _∙_}
-use mathlib.Core.Bool.{true, false, not}
+use mathlib.Core.Bool.{true, false}
 use mathlib.Core.List.{[], _∷_, _++_, map}
 use native.Mathlib.Omega.{arith}
 use lib.ListN.{List·getD-eq-default, length}
-use borrow.Author.Tests.{le-leb}
 use Rattle.model.specs.Base.{joined}
-use Rattle.model.specs.Heap.{Heap, Val, cell, inUse, next, null, undef, unused}
-use Rattle.model.specs.Machine.{Effect, Entry, Kind, Stmt, accepts, allocates, answerOf, branch, done, fault, kind, other, picks, run, stops, target}
+use Rattle.model.specs.Heap.{Heap, Val, cell, null, undef, unused}
+use Rattle.model.specs.Machine.{Effect, Kind, Stmt, accepts, allocates, answerOf, branch, done, fault, kind, other, picks, run, stops, target}
 use Rattle.model.specs.Edges.{Edge, Guard, Loc, Way, access, always, at, edgeBy, edgesAt, failed, isOne, picksOf, split, splitHeap, stepBy, ways, waysAt, whole}
 use Rattle.model.specs.Runs.{isStop}
+use Rattle.model.proofs.Leave.{accept-room}
 use Rattle.model.proofs.Step.{step-go}
-use Rattle.model.proofs.Ways.{access-facts}
+use Rattle.model.proofs.Ways.{access-facts, room-of}
 
 -- the statement of a location is one of n
 abbrev pub Below : ℕ → Loc → Type 0
@@ -47,18 +47,12 @@ way-makes s st k n y g a low to = by-run (run (st .op) k (y .heap)) refl
       },
     )
 
--- an entry with a pick at most 1 and a cell that is not in use
-accepted : (d : Kind) (e : Entry) (h : Heap) → e .pick ≤ 1 → next h (e .cellNo) ≡ unused → accepts d e h ≡ true
-accepted stops e h p u = refl
-accepted picks e h p u = le-leb (e .pick) 1 p
-accepted allocates e h p u = ap (λ s. not (inUse s)) u
-accepted other e h p u = refl
-
 module _ (s : ℕ) (st : Stmt) (n : ℕ) (h : Heap) (goes : isStop (kind (st .op)) ≡ false) (low : s < n)
     (to : (p : ℕ) (g : Heap) → p ≤ 1 → target st (branch (st .op) p g) < n) where
   pub whole-makes : (g : Guard) (p : ℕ) → p ≤ 1 → (E : Edge) × Makes s st (length (h .slots)) n (whole g p h) E
   whole-makes g p few = way-makes s st (length (h .slots)) n (whole g p h) goes
-      (accepted (kind (st .op)) (record { pick = p; cellNo = length (h .slots) }) h few (List·getD-eq-default (h .slots) unused (omega arith))) low (to p h few)
+      (accept-room (kind (st .op)) (record { pick = p; cellNo = length (h .slots) }) h
+      (room-of (kind (st .op)) h (length (h .slots)) (List·getD-eq-default (h .slots) unused (omega arith))) few) low (to p h few)
 
   pub split-makes : (v : ℕ) → access (st .op) h ≡ cell v → (E : Edge) × Makes s st (length (h .slots)) n (split v h) E
   split-makes v a =

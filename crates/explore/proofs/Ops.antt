@@ -1,7 +1,7 @@
 -- The ops by number: where a step of an accepted statement leads, which ops stop and which choose, and that an access reads pointers alone.
 use Prim.Native.Nat.{ℕ, zero, suc, _≤_, _<_}
 use mathlib.Core.Path.{_≡_, refl, ap}
-use mathlib.Core.Bool.{Bool, true, false, cond}
+use mathlib.Core.Bool.{Bool, true, false}
 use mathlib.Core.List.{List}
 use native.Mathlib.Omega.{arith}
 use lib.Dec.{ltb}
@@ -13,33 +13,10 @@ use Rattle.model.specs.Edges.{access}
 use Rattle.model.specs.Records.{byte, fieldsS, opOf, refusalS, stmtOf, targetBelow, targetsS, usesFirst, usesSecond}
 use Rattle.model.specs.Runs.{isStop}
 use Rattle.model.proofs.Logic.{and-l, and-r, clash}
-
--- what holds of each of the twelve numbers
-op-case : (P : ℕ → Type 0) → P 0 → P 1 → P 2 → P 3 → P 4 → P 5 → P 6 → P 7 → P 8 → P 9 → P 10 → P 11 → (op : ℕ) → op ≤ 11 → P op
-op-case P a b c d e f g h i j k l zero m = a
-op-case P a b c d e f g h i j k l (suc zero) m = b
-op-case P a b c d e f g h i j k l (suc (suc zero)) m = c
-op-case P a b c d e f g h i j k l (suc (suc (suc zero))) m = d
-op-case P a b c d e f g h i j k l (suc (suc (suc (suc zero)))) m = e
-op-case P a b c d e f g h i j k l (suc (suc (suc (suc (suc zero))))) m = f
-op-case P a b c d e f g h i j k l (suc (suc (suc (suc (suc (suc zero)))))) m = g
-op-case P a b c d e f g h i j k l (suc (suc (suc (suc (suc (suc (suc zero))))))) m = h
-op-case P a b c d e f g h i j k l (suc (suc (suc (suc (suc (suc (suc (suc zero)))))))) m = i
-op-case P a b c d e f g h i j k l (suc (suc (suc (suc (suc (suc (suc (suc (suc zero))))))))) m = j
-op-case P a b c d e f g h i j k l (suc (suc (suc (suc (suc (suc (suc (suc (suc (suc zero)))))))))) m = k
-op-case P a b c d e f g h i j k l (suc (suc (suc (suc (suc (suc (suc (suc (suc (suc (suc zero))))))))))) m = l
-op-case P a b c d e f g h i j k l (suc (suc (suc (suc (suc (suc (suc (suc (suc (suc (suc (suc n)))))))))))) m = absurd (omega arith)
+use Rattle.model.proofs.Ops.{each-op}
+use Rattle.model.proofs.Statements.{no-refusal}
 
 -- ---- kinds
-
-abbrev Goes : ℕ → ℕ → ℕ → Type 0
-Goes u w op = (op ≡ 0 → ⊥) → isStop (kind (opOf op u w)) ≡ false
-
--- op 0 alone stops
-pub op-goes : (op u w : ℕ) → op ≤ 11 → (op ≡ 0 → ⊥) → isStop (kind (opOf op u w)) ≡ false
-op-goes op u w m =
-    op-case (Goes u w) (λ z. absurd (z refl)) (λ z. refl) (λ z. refl) (λ z. refl) (λ z. refl) (λ z. refl) (λ z. refl) (λ z. refl) (λ z. refl) (λ z. refl)
-    (λ z. refl) (λ z. refl) op m
 
 other-picks : {C : Type 0} → other ≡ picks → C
 other-picks e = absurd (let z : _≡_ {A = ℕ} 0 1 = cc in omega arith)
@@ -56,16 +33,10 @@ Chooses u w op = kind (opOf op u w) ≡ picks → op ≡ 10
 -- op 10 alone chooses
 pub op-chooses : (op u w : ℕ) → op ≤ 11 → kind (opOf op u w) ≡ picks → op ≡ 10
 op-chooses op u w m =
-    op-case (Chooses u w) stop-picks other-picks other-picks other-picks other-picks other-picks new-picks other-picks other-picks other-picks (λ e. refl)
+    each-op (Chooses u w) stop-picks other-picks other-picks other-picks other-picks other-picks new-picks other-picks other-picks other-picks (λ e. refl)
     other-picks op m
 
 -- ---- targets
-
-accepted-targets : (a b c : Bool) → _≡_ {A = ℕ} (cond a 5 (cond b (cond c 0 7) 6)) 0 → c ≡ true
-accepted-targets true b c e = absurd (omega arith)
-accepted-targets false true true e = refl
-accepted-targets false true false e = absurd (omega arith)
-accepted-targets false false c e = absurd (omega arith)
 
 -- the branch of a test, or of a choice, leads to one of two targets
 test-below : (st : Stmt) (n : ℕ) (b : Bool) → st .first < n → st .second < n → target st (test b) < n
@@ -82,7 +53,7 @@ module _ (u w f t n p : ℕ) (h : Heap) where
       → target (record { op = opOf op u w; first = f; second = t }) (branch (opOf op u w) p h) < n
 
   op-leads : (op : ℕ) → op ≤ 11 → Leads op
-  op-leads = op-case Leads (λ g a b. clash refl g) (λ g a b. ltb-true f n a) (λ g a b. ltb-true f n a) (λ g a b. ltb-true f n a) (λ g a b. ltb-true f n a)
+  op-leads = each-op Leads (λ g a b. clash refl g) (λ g a b. ltb-true f n a) (λ g a b. ltb-true f n a) (λ g a b. ltb-true f n a) (λ g a b. ltb-true f n a)
       (λ g a b. ltb-true f n a) (λ g a b. ltb-true f n a) (λ g a b. ltb-true f n a)
       (λ g a b. test-below (record { op = opOf 8 u w; first = f; second = t }) n (sameVal (ptr h u) null) (ltb-true f n a) (ltb-true t n b))
       (λ g a b. test-below (record { op = opOf 9 u w; first = f; second = t }) n (sameVal (ptr h u) (ptr h w)) (ltb-true f n a) (ltb-true t n b))
@@ -93,7 +64,7 @@ pub target-below : (n : ℕ) (r : List ℕ) (p : ℕ) (h : Heap) → refusalS n 
     → target (stmtOf r) (branch (stmtOf r .op) p h) < n
 target-below n r p h e hi goes =
     let op = byte r 1 in
-    let q = accepted-targets (ltb 11 op) (fieldsS r) (targetsS n r) e in
+    let q = no-refusal (ltb 11 op) (fieldsS r) (targetsS n r) e .2 in
     let x = targetBelow n (usesFirst op) (byte r 4) in
     let y = targetBelow n (usesSecond op) (byte r 5) in
     op-leads (byte r 2) (byte r 3) (byte r 4) (byte r 5) n p h op hi goes (and-l x y q) (and-r x y q)

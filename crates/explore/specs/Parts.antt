@@ -9,7 +9,7 @@ use Rattle.model.specs.Edges.{Guard, Edge, at, edgeBy, stepBy, edgesAt}
 use Rattle.model.specs.Records.{stmtOf, locRecord, guardBytes}
 use Rattle.model.specs.Translate.{Listing, places, addEdges}
 use Rattle.model.proofs.Canon.{Canon}
-use Rattle.model.proofs.ReadBack.{WritableLoc}
+use Rattle.model.proofs.Listings.{WritableLoc}
 use Rattle.edge.specs.Edge.{StatementOk, WayReady, wayOf}
 use Rattle.grow.specs.Grow.{Holds, GrownTo}
 use Rattle.grow.specs.declared.Grown.{Grown}

@@ -11,7 +11,9 @@ use Rattle.model.specs.Base.{placeOf}
 use Rattle.model.specs.Edges.{Loc, Edge, sameLoc}
 use Rattle.model.specs.Records.{locRecord}
 use Rattle.model.specs.Translate.{Link, Listing, linkRecord, places, grown}
-use Rattle.model.proofs.ReadBack.{WritableLoc, edge-length, record-length}
+use Rattle.model.proofs.EdgeBack.{edge-length}
+use Rattle.model.proofs.Listings.{WritableLoc}
+use Rattle.model.proofs.ReadBack.{record-length}
 use Rattle.record.specs.Written.{edgeBytes, placed}
 use Rattle.record.proofs.Bytes.{edge-record}
 use Rattle.search.specs.Search.{foundAt}

@@ -5,9 +5,10 @@ use mathlib.Core.List.{List, [], _∷_, _++_, map, map-append}
 use native.Mathlib.Omega.{arith}
 use lib.ListN.{length, length-append, length-map}
 use Rattle.model.specs.Translate.{tableOf, places}
-use Rattle.model.proofs.Lists.{In, in-append-cases, in-map, in-single}
+use Rattle.model.proofs.Bytes.{records-wide, table-length}
+use Rattle.model.proofs.Lists.{In, in-append-cases, in-single}
 use Rattle.record.specs.Written.{placed}
-use Rattle.search.proofs.Table.{Wide, table-length, table-placed}
+use Rattle.record.proofs.Placed.{placed-next}
 
 -- a number below the places of a table is a place in it
 pub place-within : (most size n : ℕ) → n < places most size → 32 * n + 32 ≤ size
@@ -22,8 +23,8 @@ pub record Kept {A : Type 0} (f : A → List ℕ) (G : A → Type 0) (most size 
   pub good : (x : A) → In x l → G x
 
 module _ {A : Type 0} (f : A → List ℕ) (G : A → Type 0) (wide : (x : A) → G x → length (f x) ≡ 32) where
-  wide-map : (l : List A) → ((x : A) → In x l → G x) → Wide (map f l)
-  wide-map l h r k = let y = in-map f r l k in ap length (y .2) ∙ wide (y .0) (h (y .0) (y .1))
+  wide-map : (l : List A) → ((x : A) → In x l → G x) → (r : List ℕ) → In r (map f l) → length r ≡ 32
+  wide-map l h = records-wide f l (λ x i. wide x (h x i))
 
   -- one element more, as the next record
   pub kept-next : (most size : ℕ) (l : List A) (tab rec : List ℕ) (n : ℕ) (x : A) → Kept f G most size l tab n → G x → rec ≡ f x → n < places most size
@@ -35,7 +36,7 @@ module _ {A : Type 0} (f : A → List ℕ) (G : A → Type 0) (wide : (x : A) �
       let num : n ≡ length (map f l) = K .number ∙ sym (length-map l f) in
       let room : 32 * length (map f l) + 32 ≤ size = omega (arith, place-within most size n h) in
       let p : placed tab n rec ≡ tableOf size (map f m) =
-      (λ i. placed (K .held i) (num i) (e i)) ∙ table-placed size (map f l) (f x) (wide-map l (K .good)) room (wide x g)
+      (λ i. placed (K .held i) (num i) (e i)) ∙ placed-next size (map f l) (f x) (wide-map l (K .good)) room
       ∙ ap (tableOf size) (sym (map-append f l (x ∷ []))) in
       record {
         same = ap length p ∙ table-length size (map f m) (wide-map m good) (omega (arith, length-map m f));

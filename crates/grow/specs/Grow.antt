@@ -9,8 +9,8 @@ use Rattle.model.specs.Base.{placeOf}
 use Rattle.model.specs.Edges.{Loc, Edge, sameLoc}
 use Rattle.model.specs.Records.{locRecord, guardBytes, updateCode}
 use Rattle.model.specs.Translate.{Link, Listing, linkRecord, tableOf, places, grown}
+use Rattle.model.proofs.Listings.{WritableLoc}
 use Rattle.model.proofs.Lists.{In}
-use Rattle.model.proofs.ReadBack.{WritableLoc}
 use Rattle.grow.specs.declared.Grown.{Grown}
 use Rattle.grow.specs.declared.Grown.the-variants.{Added, Full}
 

@@ -2,22 +2,22 @@
 use Prim.Native.Nat.{ℕ, zero, suc, _≤_, _<_}
 use native.Mathlib.Omega.{arith}
 use mathlib.Core.Path.{_≡_, refl, sym, ap, subst, _∙_}
-use mathlib.Core.Bool.{Bool, true, false, _&&_, cond, not}
+use mathlib.Core.Bool.{Bool, true, false, _&&_, not, Bool·not-not}
 use mathlib.Core.List.{List}
-use lib.Dec.{eqb, leb, ltb}
-use lib.ListN.{length, getD, drop}
-use borrow.Author.Tests.{eq-eqb, eqb-true, le-leb, lt-leb, leb-false, ltb-false, ltb-true, ne-eqb, not-true}
-use Rattle.model.specs.Base.{all}
+use lib.Dec.{eqb, leb}
+use lib.ListN.{length, getD}
+use borrow.Author.Tests.{eq-eqb, eqb-true, le-leb, lt-leb, leb-false, ne-eqb, not-true}
 use Rattle.model.specs.Heap.{inUse, next}
 use Rattle.model.specs.Machine.{kind}
-use Rattle.model.specs.Records.{byte, fieldsS, isS, isZero, opOf, pointerField, refusalS, targetField, targetsS, usesFirst, usesSecond, usesU, usesW}
+use Rattle.model.specs.Records.{byte, isS, opOf, refusalS}
 use Rattle.model.specs.Image.{heapOf, refusalImage, refusalStep}
+use Rattle.model.proofs.Images.{image-accepted}
 use Rattle.model.proofs.Logic.{and-l, and-r}
-use Rattle.effect.proofs.Ops.{each-op}
+use Rattle.model.proofs.Ops.{each-op}
+use Rattle.model.proofs.Statements.{statement-fields}
 use Rattle.visit.specs.ByteLaws.{slot-at, used-byte}
 use Rattle.image.specs.Checks.{accepted}
 use Rattle.image.specs.Parts.{StepReady}
-use Rattle.image.proofs.ImageLaws.{image-few, image-heap, image-six}
 
 -- ---- the checks
 
@@ -62,38 +62,7 @@ module _ (r ps cs : List ℕ) {m : ℕ} (e : m ≡ refusalImage ps cs) where
       refuse-record t s q =
           q ∙ by-record (refusalImage ps cs) (statement r) (refusalS 64 r) (sym e ∙ z) (rw (eq-eqb (length r) 32 l, eq-eqb (byte r 0) 0x53 t))
 
--- ---- what passed the checks
-
-pointer-low : (used : Bool) (b : ℕ) → pointerField used b ≡ true → b < 6
-pointer-low true b h = ltb-true b 6 h
-pointer-low false b h = omega (arith, eqb-true b 0 h)
-
-no-refusal : (a b c : Bool) → _≡_ {A = ℕ} (cond a 5 (cond b (cond c 0 7) 6)) 0 → (a ≡ false) × (b ≡ true)
-no-refusal true b c e = absurd (omega arith)
-no-refusal false true c e = (refl, refl)
-no-refusal false false c e = absurd (omega arith)
-
-statement-fields : (n : ℕ) (r : List ℕ) → refusalS n r ≡ 0 → (byte r 1 ≤ 11) × (byte r 2 < 6) × (byte r 3 < 6)
-statement-fields n r e =
-    let op = byte r 1 in
-    let q = no-refusal (ltb 11 op) (fieldsS r) (targetsS n r) e in
-    let t1 = pointerField (usesU op) (byte r 2) in
-    let t2 = t1 && pointerField (usesW op) (byte r 3) in
-    let t3 = t2 && targetField (usesFirst op) (byte r 4) in
-    let t4 = t3 && targetField (usesSecond op) (byte r 5) in
-    let h4 : t4 ≡ true = and-l t4 (all isZero (drop 6 r)) (q .1) in
-    let h3 : t3 ≡ true = and-l t3 (targetField (usesSecond op) (byte r 5)) h4 in
-    let h2 : t2 ≡ true = and-l t2 (targetField (usesFirst op) (byte r 4)) h3 in (
-      ltb-false 11 op (q .0),
-      pointer-low (usesU op) (byte r 2) (and-l t1 (pointerField (usesW op) (byte r 3)) h2),
-      pointer-low (usesW op) (byte r 3) (and-r t1 (pointerField (usesW op) (byte r 3)) h2),
-    )
-
 -- ---- the entry
-
-not-not : (b : Bool) → b ≡ not (not b)
-not-not true = refl
-not-not false = refl
 
 module _ (op p c : ℕ) (cs : List ℕ) where
   pub entry-pick : op ≡ 10 → (u w : ℕ) (ps : List ℕ) → leb p 1 ≡ accepted (kind (opOf op u w)) p c ps cs
@@ -102,7 +71,7 @@ module _ (op p c : ℕ) (cs : List ℕ) where
   pub entry-cell : op ≡ 6 → c < length cs → (u w : ℕ) (ps : List ℕ) → eqb (getD cs c 0) 0xfd ≡ accepted (kind (opOf op u w)) p c ps cs
   entry-cell e l u w ps =
       let s : inUse (next (heapOf ps cs) c) ≡ not (eqb (getD cs c 0) 0xfd) = ap inUse (slot-at cs c l) ∙ used-byte (getD cs c 0) in
-      rw (e, lt-leb (length cs) c l, s) (not-not (eqb (getD cs c 0) 0xfd))
+      rw (e, lt-leb (length cs) c l, s) (sym (Bool·not-not (eqb (getD cs c 0) 0xfd)))
 
   pub entry-past : op ≡ 6 → length cs ≤ c → (u w : ℕ) (ps : List ℕ) → false ≡ accepted (kind (opOf op u w)) p c ps cs
   entry-past e l u w ps = rw (e, le-leb (length cs) c l)
@@ -130,13 +99,13 @@ module _ (r ps cs : List ℕ) (z : refusalStep r ps cs ≡ 0) where
   checked-fields = statement-fields 64 r (checked .2)
 
   pub checked-six : length ps ≡ 6
-  checked-six = image-six ps cs (checked .0)
+  checked-six = image-accepted ps cs .0 (checked .0) .0
 
   pub step-ready : (p c : ℕ) {a : Bool} → a ≡ accepted (kind (opOf (byte r 1) (byte r 2) (byte r 3))) p c ps cs → a ≡ true
       → StepReady (byte r 1) (byte r 2) (byte r 3) c ps cs
   step-ready p c e t =
       let f = checked-fields in
-      let i = checked .0 in
+      let i = image-accepted ps cs .0 (checked .0) in
       let used = inUse (next (heapOf ps cs) c) in
       let x : byte r 1 ≡ 6 → (c < length cs) × (used ≡ false) =
       λ q. new-room (length cs) c used (subst (λ k. accepted (kind (opOf k (byte r 2) (byte r 3))) p c ps cs ≡ true) q (sym e ∙ t)) in
@@ -145,9 +114,9 @@ module _ (r ps cs : List ℕ) (z : refusalStep r ps cs ≡ 0) where
           known = f .0;
           isU = f .1;
           isW = f .2;
-          six = image-six ps cs i;
-          few = image-few ps cs i;
-          isClosed = image-heap ps cs i .isClosed;
+          six = i .0;
+          few = i .1;
+          isClosed = i .2 .isClosed;
           room = λ q. x q .0;
         };
         fresh = λ q. x q .1;

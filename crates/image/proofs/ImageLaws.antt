@@ -1,17 +1,18 @@
 -- The checks of a heap image, what an image that passes them is, and folding one.
-use Prim.Native.Nat.{ℕ, zero, suc, _-_, _≤_}
+use Prim.Native.Nat.{ℕ, suc, _-_, _≤_}
 use native.Mathlib.Omega.{arith}
-use mathlib.Core.Path.{_≡_, refl, sym, ap, ap₂, _∙_}
+use mathlib.Core.Path.{_≡_, refl, sym, ap₂, _∙_}
 use mathlib.Core.Bool.{Bool, true, false, _&&_, cond, not}
 use mathlib.Core.List.{List, _++_, append-nil, map}
 use lib.Dec.{eqb, leb}
 use lib.ListN.{length, getD, take, drop, replicate, getD-replicate, length-map}
 use borrow.Author.Tests.{eqb-true, leb-true}
-use Rattle.model.specs.Heap.{IsHeap, closed, eachUsed, kept}
-use Rattle.model.specs.Image.{Folding, cellSlot, foldImage, heapOf, lengths, refusalImage}
+use Rattle.model.specs.Heap.{closed, eachUsed, kept}
+use Rattle.model.specs.Image.{cellSlot, foldImage, heapOf, lengths, refusalImage}
 use Rattle.model.specs.Records.{filled, shapeRecord}
 use Rattle.model.specs.Shape.{Seg, counters, last, nodeSlot, segments, shape, size}
 use Rattle.model.specs.Heap.{next}
+use Rattle.model.proofs.Images.{fold-suc, fold-zero, image-accepted, number-case}
 use Rattle.model.proofs.Logic.{and-l, and-r}
 use Rattle.visit.specs.Laws.{kept-marked}
 use Rattle.visit.specs.Visit.{VisitReady, Visited}
@@ -38,12 +39,6 @@ bad-cells a b c e f g = rw (e, f, g)
 
 all-well : (a b c : Bool) → a ≡ true → b ≡ true → c ≡ true → 0 ≡ byTests a b c
 all-well a b c e f g = rw (e, f, g)
-
-passed : (a b c : Bool) → byTests a b c ≡ 0 → (a ≡ true) × (b ≡ true) × (c ≡ true)
-passed true true true e = (refl, refl, refl)
-passed true true false e = absurd (omega arith)
-passed true false c e = absurd (omega arith)
-passed false b c e = absurd (omega arith)
 
 module _ (ps cs : List ℕ) where
   -- no order is given with a refusal
@@ -86,52 +81,26 @@ module _ (ps cs : List ℕ) where
             let e = all-well (lengths ps cs) (closed h) (kept h) long (sym q ∙ u) (sym (kept-marked d) ∙ sym w ∙ f) in
             record { refusal = e; visited = λ _. d .visited; few = λ _. d .few }
 
-  -- ---- an image that passes
-  module _ (z : refusalImage ps cs ≡ 0) where
-    pub image-heap : IsHeap (heapOf ps cs)
-    image-heap = let p = passed (lengths ps cs) (closed (heapOf ps cs)) (kept (heapOf ps cs)) z in record { isClosed = p .1; isKept = p .2 }
-
-    image-long : lengths ps cs ≡ true
-    image-long = passed (lengths ps cs) (closed (heapOf ps cs)) (kept (heapOf ps cs)) z .0
-
-    pub image-six : length ps ≡ 6
-    image-six = lengths-six refl image-long
-
-    pub image-few : length cs ≤ 240
-    image-few = lengths-few refl image-long
-
 -- ---- folding
-
--- the outcome where n is the refusal
-abbrev foldWith : List ℕ → List ℕ → ℕ → Folding
-foldWith ps cs n =
-    elim n [
-      | zero ↦ let h = heapOf ps cs in record { refusal = 0; shapeBytes = shapeRecord (shape h); counts = filled 12 (counters h) }
-      | suc n ↦ record { refusal = suc n; shapeBytes = replicate 32 0; counts = replicate 12 0 }
-    ]
-
-with-refusal : (ps cs : List ℕ) (n : ℕ) → (n ≡ 0 → ⊥)
-    → record { refusal = n; shapeBytes = replicate 32 0; counts = replicate 12 0 } ≡ foldWith ps cs n
-with-refusal ps cs zero z = absurd (z refl)
-with-refusal ps cs (suc n) z = refl
 
 pub fold-refused : (ps cs : List ℕ) (n : ℕ) → n ≡ refusalImage ps cs → (n ≡ 0 → ⊥)
     → record { refusal = n; shapeBytes = replicate 32 0; counts = replicate 12 0 } ≡ foldImage ps cs
-unfolding foldImage
-fold-refused ps cs n e z = with-refusal ps cs n z ∙ ap (foldWith ps cs) e
+fold-refused ps cs n e z = number-case n (λ q. absurd (z q))
+    (λ m q. (λ i. record { refusal = q i; shapeBytes = replicate 32 0; counts = replicate 12 0 }) ∙ sym (fold-suc ps cs m (sym e ∙ q)))
 
 -- an image that passes is folded as its heap is
 pub fold-passed : (ps cs : List ℕ) → refusalImage ps cs ≡ 0 → foldedHeap (heapOf ps cs) ≡ foldImage ps cs
-unfolding foldImage foldedHeap
-fold-passed ps cs e = ap (foldWith ps cs) (sym e)
+unfolding foldedHeap
+fold-passed ps cs e = sym (fold-zero ps cs e)
 
 -- what the fold asks of a checked image
 pub fold-ready : {ps cs o : List ℕ} {r n : ℕ} → ImageChecked ps cs o r n → r ≡ 0 → length o ≡ 240 → FoldReady ps cs o n
 fold-ready {ps} {cs} {o} {r} {n} d z l =
     let e : refusalImage ps cs ≡ 0 = sym (d .refusal) ∙ z in
-    let f = image-few ps cs e in
+    let A = image-accepted ps cs .0 e in
+    let f = A .1 in
     let k = d .few z in
-    record { isHeap = image-heap ps cs e; six = image-six ps cs e; few = f; visited = d .visited z; long = omega arith }
+    record { isHeap = A .2; six = A .0; few = f; visited = d .visited z; long = omega arith }
 
 module _ {ps cs o : List ℕ} {n : ℕ} (x : FoldReady ps cs o n) where
   -- and of the work lists, which begin with zeros

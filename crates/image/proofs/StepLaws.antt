@@ -11,9 +11,10 @@ use Rattle.model.specs.Heap.{Heap}
 use Rattle.model.specs.Machine.{Answer, refused, done, Op, Stmt, accepts, answerOf, branch, kind, run, target, unlessStop}
 use Rattle.model.specs.Records.{byte, opOf, stmtOf}
 use Rattle.model.specs.Image.{Stepping, answered, heapOf, pastEnd, refusalStep, stays, stepImage}
+use Rattle.model.proofs.Ops.{op-goes}
+use Rattle.model.proofs.Step.{unless-go}
 use Rattle.effect.specs.Effect.{effectOf}
 use Rattle.effect.specs.Laws.{image-bytes}
-use Rattle.effect.proofs.Ops.{each-op}
 use Rattle.machine.specs.Run.{IsRun, RunReady}
 use Rattle.image.specs.Checks.{accepted}
 use Rattle.image.specs.Parts.{Finished, RunOn, StepReady, stepped}
@@ -93,12 +94,6 @@ with-taken true b x ps cs e = let z : _≡_ {A = ℕ} 0 1 = cc in absurd (omega 
 with-taken false true x ps cs e = refl
 with-taken false false x ps cs e = let z : _≡_ {A = ℕ} 0 1 = cc in absurd (omega arith)
 
-runs : (op u w : ℕ) (x : Answer) → op ≤ 11 → (op ≡ 0 → ⊥) → x ≡ unlessStop (kind (opOf op u w)) x
-runs op u w x l z =
-    each-op (λ k. op ≡ k → x ≡ unlessStop (kind (opOf k u w)) x)
-    (λ q. absurd (z q)) (λ q. refl) (λ q. refl) (λ q. refl) (λ q. refl) (λ q. refl) (λ q. refl) (λ q. refl) (λ q. refl) (λ q. refl)
-    (λ q. refl) (λ q. refl) op l refl
-
 -- what a statement other than stop answers on the image ps, cs
 abbrev ranAnswer : Stmt → ℕ → ℕ → List ℕ → List ℕ → Answer
 ranAnswer st p c ps cs = answerOf st (branch (st .op) p (heapOf ps cs)) (run (st .op) c (heapOf ps cs))
@@ -134,7 +129,7 @@ module _ (r : List ℕ) (p c : ℕ) (ps cs : List ℕ) {a : Bool} (e : a ≡ acc
           let b = branch (st .op) p (heapOf ps cs) in
           taken x
           (q ∙ ap (λ g. answered (answerOf st b g) ps cs) (d .ran .outcome)
-          ∙ ap (λ y. answered y ps cs) (runs (byte r 1) (byte r 2) (byte r 3) (ranAnswer st p c ps cs) l n))
+          ∙ ap (λ y. answered y ps cs) (sym (unless-go (kind (st .op)) (ranAnswer st p c ps cs) (op-goes (byte r 1) (byte r 2) (byte r 3) l n))))
 
       pub step-faulted : (f ≡ 0 → ⊥) → stays 0 f 0 qs ds ≡ stepped r p c ps cs
       step-faulted z =

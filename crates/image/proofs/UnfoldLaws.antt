@@ -1,50 +1,29 @@
 -- The checks of an unfolding: what each refusal says, and what a record and counters that pass them are.
-use Prim.Native.Nat.{ℕ, zero, suc, _+_, _-_, _≤_, _<_}
+use Prim.Native.Nat.{ℕ, _+_, _-_, _≤_, _<_}
 use native.Mathlib.Omega.{arith}
-use mathlib.Core.Path.{_≡_, refl, sym, ap, subst, _∙_}
+use mathlib.Core.Path.{_≡_, sym, ap, _∙_}
 use mathlib.Core.Bool.{Bool, true, false, _&&_, cond}
-use mathlib.Core.Logic.{inl, inr}
-use mathlib.Core.List.{List, [], _∷_, map}
+use mathlib.Core.List.{List, [], map}
 use lib.Dec.{eqb, leb}
 use lib.ListN.{length, take, drop, length-map}
-use borrow.Author.Tests.{eq-eqb, eqb-true, le-leb, leb-true, lt-leb, ne-eqb}
-use Rattle.model.specs.Heap.{cell, closed, holds}
-use Rattle.model.specs.Image.{Unfolding, cellBytesOf, cellSlot, countersFit, heapOf, refusalUnfold, unfoldHeap, unfoldImage}
-use Rattle.model.specs.Records.{byte, layoutH, shapeOf, valByte, valOf}
+use borrow.Author.Tests.{eq-eqb, eqb-true, le-leb, lt-leb, ne-eqb}
+use Rattle.model.specs.Heap.{closed}
+use Rattle.model.specs.Image.{cellBytesOf, cellSlot, countersFit, heapOf, refusalUnfold, unfoldHeap, unfoldImage}
+use Rattle.model.specs.Records.{byte, layoutH, shapeOf, valByte}
 use Rattle.model.specs.Shape.{canonical}
-use Rattle.model.proofs.Lists.{In, map-in}
-use Rattle.model.proofs.Logic.{and-l, and-r, eq-case}
-use Rattle.model.proofs.ShapeBack.{layout-closed, layout-few, layout-slots, layout-writable}
+use Rattle.model.proofs.Images.{number-case, unfold-accepted, unfold-suc, unfold-zero}
+use Rattle.model.proofs.Logic.{and-l, and-r}
+use Rattle.model.proofs.ShapeBack.{layout-closed, layout-few, layout-slots, shape-image}
 use Rattle.spread.specs.Spread.{SpreadReady}
 
 -- ---- a record that keeps the layout, as an image
 
-map-same : {A B : Type 0} (f g : A → B) (l : List A) → ((x : A) → In x l → f x ≡ g x) → map f l ≡ map g l
-map-same f g [] h = refl
-map-same f g (x ∷ l) h = λ i. h x (inl refl) i ∷ map-same f g l (λ y q. h y (inr q)) i
-
 module _ (r : List ℕ) (l : length r ≡ 32) (h : layoutH r ≡ true) where
-  -- no value byte says "not in use"
-  value-slot : (b : ℕ) → In b (take (byte r 3) (drop 10 r)) → holds (valOf b) ≡ cellSlot b
-  value-slot b q =
-      let w = layout-writable r l h in
-      let s = map-in (λ x. holds (valOf x)) b (take (byte r 3) (drop 10 r)) q in
-      eq-case b 0xfd
-      (λ e. absurd (let n : 0xfd < length (shapeOf r .slots) = w .nexts (holds (cell 0xfd)) (subst (λ x. In (holds (valOf x)) (shapeOf r .slots)) e s) in
-      omega (arith, w .few)))
-      (λ n. rw n)
-
-  pub shape-image : shapeOf r ≡ heapOf (take 6 (drop 4 r)) (take (byte r 3) (drop 10 r))
-  shape-image = λ i. record {
-    ptrs = map valOf (take 6 (drop 4 r));
-    slots = map-same (λ b. holds (valOf b)) cellSlot (take (byte r 3) (drop 10 r)) value-slot i;
-  }
-
   -- the successors as the part of the record that ends with the last one
   pub shape-part : shapeOf r ≡ heapOf (take 6 (drop 4 r)) (take (10 + byte r 3 - 10) (drop 10 r))
   shape-part =
       let n : byte r 3 ≡ 10 + byte r 3 - 10 = omega arith in
-      shape-image ∙ ap (λ k. heapOf (take 6 (drop 4 r)) (take k (drop 10 r))) n
+      shape-image r l h ∙ ap (λ k. heapOf (take 6 (drop 4 r)) (take k (drop 10 r))) n
 
   -- what the test for the numbering asks
   pub canonical-ready : (closed (heapOf (take 6 (drop 4 r)) (take (10 + byte r 3 - 10) (drop 10 r))) ≡ true)
@@ -75,13 +54,6 @@ bad-counters a b c d e f g h = rw (e, f, g, h)
 
 all-well : (a b c d : Bool) → a ≡ true → b ≡ true → c ≡ true → d ≡ true → 0 ≡ byTests a b c d
 all-well a b c d e f g h = rw (e, f, g, h)
-
-passed : (a b c d : Bool) → byTests a b c d ≡ 0 → (a ≡ true) × (b ≡ true) × (c ≡ true) × (d ≡ true)
-passed true true true true e = (refl, refl, refl, refl)
-passed true true true false e = absurd (omega arith)
-passed true true false d e = absurd (omega arith)
-passed true false c d e = absurd (omega arith)
-passed false b c d e = absurd (omega arith)
 
 abbrev lengthsOf : ℕ → ℕ → Bool
 lengthsOf np nc = eqb np 6 && leb nc 240
@@ -142,39 +114,18 @@ module _ (r : List ℕ) {b : Bool} (e : b ≡ eqb (length r) 32 && layoutH r) (t
 
 -- ---- the whole
 
--- the outcome where n is the refusal
-abbrev unfoldWith : List ℕ → List ℕ → List ℕ → List ℕ → ℕ → Unfolding
-unfoldWith r vs ps cs n =
-    elim n [
-      | zero ↦ let h = unfoldHeap (shapeOf r) (take (byte r 3) vs) in
-          record { refusal = 0; ptrBytes = map valByte (h .ptrs); cellBytes = cellBytesOf (length cs) h }
-      | suc n ↦ record { refusal = suc n; ptrBytes = ps; cellBytes = cs }
-    ]
-
-with-refusal : (r vs ps cs : List ℕ) (n : ℕ) → (n ≡ 0 → ⊥) → record { refusal = n; ptrBytes = ps; cellBytes = cs } ≡ unfoldWith r vs ps cs n
-with-refusal r vs ps cs zero z = absurd (z refl)
-with-refusal r vs ps cs (suc n) z = refl
-
 module _ (r vs ps cs : List ℕ) (n : ℕ) (e : n ≡ refusalUnfold r vs (length ps) (length cs)) where
   -- what spreading asks
   pub spread-ready : n ≡ 0 → length vs ≡ 12 → SpreadReady r vs ps cs
   spread-ready z t =
-      let p = passed (lengthsOf (length ps) (length cs)) (laid r) (canonical (shapeOf r)) (countersFit (byte r 3) vs (length cs)) (sym e ∙ z) in
-      record {
-        wide = laid-wide r refl (p .1);
-        isLayout = laid-layout r refl (p .1);
-        twelve = t;
-        fit = p .3;
-        six = eqb-true (length ps) 6 (and-l (eqb (length ps) 6) (leb (length cs) 240) (p .0));
-        few = leb-true (length cs) 240 (and-r (eqb (length ps) 6) (leb (length cs) 240) (p .0));
-      }
+      let A = unfold-accepted r vs (length ps) (length cs) .0 (sym e ∙ z) in
+      record { wide = A .2; isLayout = A .3; twelve = t; fit = A .5; six = A .0; few = A .1 }
 
   pub unfold-refused : (n ≡ 0 → ⊥) → record { refusal = n; ptrBytes = ps; cellBytes = cs } ≡ unfoldImage r vs ps cs
-  unfolding unfoldImage
-  unfold-refused z = with-refusal r vs ps cs n z ∙ ap (unfoldWith r vs ps cs) e
+  unfold-refused z = number-case n (λ q. absurd (z q))
+      (λ m q. (λ i. record { refusal = q i; ptrBytes = ps; cellBytes = cs }) ∙ sym (unfold-suc r vs ps cs m (sym e ∙ q)))
 
   pub unfold-done : n ≡ 0 → (qs ds : List ℕ) → qs ≡ map valByte (unfoldHeap (shapeOf r) (take (byte r 3) vs) .ptrs)
       → ds ≡ cellBytesOf (length cs) (unfoldHeap (shapeOf r) (take (byte r 3) vs))
       → record { refusal = 0; ptrBytes = qs; cellBytes = ds } ≡ unfoldImage r vs ps cs
-  unfolding unfoldImage
-  unfold-done z qs ds a b = (λ i. record { refusal = 0; ptrBytes = a i; cellBytes = b i }) ∙ ap (unfoldWith r vs ps cs) (sym z ∙ e)
+  unfold-done z qs ds a b = (λ i. record { refusal = 0; ptrBytes = a i; cellBytes = b i }) ∙ sym (unfold-zero r vs ps cs (sym e ∙ z))

@@ -2,31 +2,32 @@
 use Prim.Native.Nat.{ℕ, _+_, _*_, _/_, _<_, _≤_}
 use native.Mathlib.Omega.{arith}
 use mathlib.Core.Path.{_≡_, sym, ap, subst, _∙_}
-use mathlib.Core.Bool.{Bool, true, false}
+use mathlib.Core.Bool.{true, false}
 use mathlib.Core.List.{List, [], _∷_}
 use lib.Dec.{leb}
 use lib.ListN.{length, getD, take, drop, length-drop, length-map}
 use lib.Seq.{getD-drop, getD-take, length-take-le}
 use borrow.Author.Tests.{leb-true}
-use Rattle.model.specs.Base.{all, count}
+use Rattle.model.specs.Base.{count}
 use Rattle.model.specs.Heap.{Heap}
 use Rattle.model.specs.Edges.{at, stmtAt}
 use Rattle.model.specs.Records.{isH, isS, layoutH, locRecord, recordAt, shapeOf, stmtOf}
 use Rattle.model.specs.Shape.{canonical}
 use Rattle.model.specs.Translate.{Routine, between, check, good}
-use Rattle.model.proofs.Lists.{all-in, getD-in}
+use Rattle.model.proofs.Checked.{accepted-h}
+use Rattle.model.proofs.Sorted.{Sorted, kinds-sorted, not-both}
+use Rattle.model.proofs.Listings.{recordsOf}
+use Rattle.model.proofs.Lists.{all-at, getD-map}
 use Rattle.model.proofs.Logic.{and-l, and-r}
 use Rattle.model.proofs.ShapeBack.{shape-record-back}
 use Rattle.input.specs.declared.Checked.the-variants.{Good}
-use Rattle.input.specs.Input.{checkedOf, GoodCounts, recordsOf, routineOf}
+use Rattle.input.specs.Input.{checkedOf, GoodCounts, routineOf}
 use Rattle.input.specs.Parts.{earlier, recordRefusal}
 use Rattle.input.specs.Accepted.{Accepted}
-use Rattle.input.proofs.ListLaws.{map-at}
-use Rattle.input.proofs.Records.{record-wide, records-at, records-length}
+use Rattle.input.proofs.Records.{counts-whole, record-wide, records-at, records-length}
 use Rattle.input.proofs.Shapes.{refusal-by-h, refusal-by-s}
-use Rattle.input.proofs.Sorted.{Sorted, counts-whole, kinds-sorted, no-statement}
 use Rattle.input.proofs.Fields.{InRange, in-range}
-use Rattle.input.proofs.Opened.{Opened, accepted-h, check-opened, record-passed}
+use Rattle.input.proofs.Opened.{Opened, check-opened, record-passed}
 
 -- ---- lengths and places of the routine that is read from n statements and m shapes
 
@@ -39,19 +40,15 @@ module _ (s : List ℕ) (n m : ℕ) (w : 32 * (n + m) ≡ length s) where
 
   pub stmt-at : (i : ℕ) → i < n → stmtAt (routineOf n s .stmts) i ≡ stmtOf (recordAt s i)
   stmt-at i h =
-      map-at stmtOf (take n (recordsOf s)) i [] _ (omega (arith, length-take-le n (recordsOf s) (omega (arith, records-length s (n + m) w))))
+      getD-map stmtOf (take n (recordsOf s)) i [] _ (omega (arith, length-take-le n (recordsOf s) (omega (arith, records-length s (n + m) w))))
       ∙ ap stmtOf (getD-take n (recordsOf s) i [] h ∙ records-at s (n + m) w i (omega arith))
 
   pub start-at : (j : ℕ) (d : Heap) → j < m → getD (routineOf n s .starts) j d ≡ shapeOf (recordAt s (n + j))
   start-at j d h =
-      map-at shapeOf (drop n (recordsOf s)) j [] d (omega (arith, length-drop n (recordsOf s), records-length s (n + m) w))
+      getD-map shapeOf (drop n (recordsOf s)) j [] d (omega (arith, length-drop n (recordsOf s), records-length s (n + m) w))
       ∙ ap shapeOf (getD-drop n (recordsOf s) j [] ∙ records-at s (n + m) w (n + j) (omega arith))
 
 -- ---- an accepted input
-
--- a test of all elements, at a place
-all-at : (p : List ℕ → Bool) (l : List (List ℕ)) (i : ℕ) → all p l ≡ true → i < length l → p (getD l i []) ≡ true
-all-at p l i h k = all-in p l (getD l i []) h (getD-in l [] i k)
 
 between-low : (a b n : ℕ) → between a b n ≡ true → a ≤ n
 between-low a b n h = leb-true a n (and-l (leb a n) (leb n b) h)
@@ -77,21 +74,22 @@ module _ (s : List ℕ) (n m : ℕ) (w : 32 * (n + m) ≡ length s) (o : Opened 
   at-statement : (i : ℕ) → i < n → isS (recordAt s i) ≡ true
   at-statement i h =
       let l = length-take-le n (recordsOf s) (omega (arith, records-length s (n + m) w)) in
-      let t = all-at isS (take n (recordsOf s)) i (rw statements-counted at (sorted .statements)) (omega arith) in
+      let t = all-at isS (take n (recordsOf s)) [] i (rw statements-counted at (sorted .statements)) (omega arith) in
       ap isS (sym (getD-take n (recordsOf s) i [] h ∙ records-at s (n + m) w i (omega arith))) ∙ t
 
   at-shape : (j : ℕ) → j < m → isS (recordAt s (n + j)) ≡ false
   at-shape j h =
-      let t = all-at isH (drop n (recordsOf s)) j (rw statements-counted at (sorted .shapes)) (omega (arith, length-drop n (recordsOf s), records-length s (n + m) w)) in
-      no-statement (recordAt s (n + j)) (ap isH (sym (getD-drop n (recordsOf s) j [] ∙ records-at s (n + m) w (n + j) (omega arith))) ∙ t)
+      let t = all-at isH (drop n (recordsOf s)) [] j (rw statements-counted at (sorted .shapes)) (omega (arith, length-drop n (recordsOf s), records-length s (n + m) w)) in
+      not-both (recordAt s (n + j)) (ap isH (sym (getD-drop n (recordsOf s) j [] ∙ records-at s (n + m) w (n + j) (omega arith))) ∙ t)
 
   at-record : (i : ℕ) → i < n + m → recordRefusal n s i ≡ 0
   at-record i h = record-passed s (n + m) w n (rw statements-counted at (o .records)) i h
 
   layout-and-shape : (j : ℕ) → j < m → (layoutH (recordAt s (n + j)) ≡ true) × (canonical (shapeOf (recordAt s (n + j))) ≡ true)
   layout-and-shape j h =
-      accepted-h (earlier s (n + j)) (recordAt s (n + j))
-      (refusal-by-h (earlier s (n + j)) (recordAt s (n + j)) n (at-shape j h) ∙ at-record (n + j) (omega arith))
+      let q = accepted-h (earlier s (n + j)) (recordAt s (n + j))
+      (refusal-by-h (earlier s (n + j)) (recordAt s (n + j)) n (at-shape j h) ∙ at-record (n + j) (omega arith)) in
+      (q .0, q .1)
 
   pub opened-accepted : Accepted s n m
   opened-accepted = record {

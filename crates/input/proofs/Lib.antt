@@ -1,7 +1,5 @@
-pub mod ListLaws
 pub mod Records
 pub mod Shapes
-pub mod Sorted
 pub mod Outcomes
 pub mod Fields
 pub mod Opened

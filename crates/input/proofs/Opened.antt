@@ -10,20 +10,15 @@ use lib.Dec.{eqb}
 use lib.ListN.{length, take, drop}
 use borrow.Author.Tests.{eqb-true, not-false}
 use Rattle.model.specs.Base.{count}
-use Rattle.model.specs.Records.{isH, isS, layoutH, refusalH, shapeOf, stmtOf}
-use Rattle.model.specs.Shape.{canonical}
-use Rattle.model.specs.Translate.{Refusal, Routine, bad, good, badKind, badRecord, between, check, checkCounts, checkKinds, checkRecords}
+use Rattle.model.specs.Records.{isH, isS, shapeOf, stmtOf}
+use Rattle.model.specs.Translate.{Refusal, Routine, good, badKind, badRecord, between, check, checkCounts, checkKinds, checkRecords}
+use Rattle.model.proofs.Checked.{bad-good, good-inj}
+use Rattle.model.proofs.Listings.{recordsOf}
 use Rattle.model.proofs.Lists.{some-none}
 use Rattle.model.proofs.Logic.{bool-case, or-false-r}
-use Rattle.input.specs.Input.{recordsOf, routineOf}
+use Rattle.input.specs.Input.{routineOf}
 use Rattle.input.specs.Parts.{earlier, recordRefusal}
 use Rattle.input.proofs.Records.{records-fail, records-pass}
-
-pub bad-good {ℓ} : {C : Type ℓ} {x : Refusal} {r : Routine} → bad x ≡ good r → C
-bad-good {x = x} {r = r} e = absurd (let z : _≡_ {A = ℕ} 0 1 = cc in omega arith)
-
-good-inj : {q r : Routine} → good q ≡ good r → q ≡ r
-good-inj {q} {r} e = cc
 
 pub record Opened (s : List ℕ) (r : Routine) : Type 0 where
   pub even : 32 * (length s / 32) ≡ length s
@@ -85,10 +80,3 @@ module _ (s : List ℕ) (n : ℕ) (w : 32 * n ≡ length s) (m : ℕ) (e : badRe
 
   pub record-passed : (i : ℕ) → i < n → recordRefusal m s i ≡ 0
   record-passed i h = one-more i h (passed i (omega arith))
-
--- what an H record that is not refused is
-pub accepted-h : (earlier : List (List ℕ)) (r : List ℕ) → refusalH earlier r ≡ 0 → (layoutH r ≡ true) × (canonical (shapeOf r) ≡ true)
-accepted-h earlier r e = bool-case (layoutH r)
-    (λ l. let z = rw (l, refusalH) at e in
-    bool-case (canonical (shapeOf r)) (λ c. (l, c)) (λ c. absurd (let y = rw (c, refusalH) at z in omega arith)))
-    (λ l. absurd (let z = rw (l, refusalH) at e in omega arith))

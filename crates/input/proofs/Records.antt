@@ -13,8 +13,9 @@ use lib.Seq.{drop-cons, drop-drop, getD-drop, getD-take, length-take-le}
 use Rattle.model.specs.Base.{any, count}
 use Rattle.model.specs.Records.{byte, isH, isS, recordAt, refusalH, refusalS}
 use Rattle.model.specs.Translate.{badKind, badRecord, chunks, refusal}
+use Rattle.model.proofs.Sorted.{kinds-sorted}
+use Rattle.model.proofs.Listings.{recordsOf}
 use Rattle.model.proofs.Logic.{bool-case, clash, or-l}
-use Rattle.input.specs.Input.{recordsOf}
 use Rattle.input.specs.Parts.{kindFits, earlier, recordRefusal}
 
 chunks-length : (n : ℕ) (s : List ℕ) → length (chunks n s) ≡ n
@@ -106,3 +107,7 @@ module _ (s : List ℕ) (n : ℕ) (w : 32 * n ≡ length s) where
 
   pub records-pass-end : (m i : ℕ) → n ≤ i → badRecord m i (earlier s i) (drop i (recordsOf s)) ≡ none
   records-pass-end m i h = ap (badRecord m i (earlier s i)) (records-end i h)
+
+-- the records of an input are its statements and its shapes
+pub counts-whole : (s : List ℕ) (n : ℕ) → 32 * n ≡ length s → badKind false 0 (recordsOf s) ≡ none → count isS (recordsOf s) + count isH (recordsOf s) ≡ n
+counts-whole s n w e = kinds-sorted 0 (recordsOf s) e .whole ∙ records-length s n w

@@ -1,41 +1,22 @@
 -- The shape of an H record that keeps the layout, as the heap image of its pointer and successor bytes; the refusals' numbers.
-use Prim.Native.Nat.{ℕ, _<_, _≤_}
+use Prim.Native.Nat.{ℕ, _≤_}
 use native.Mathlib.Omega.{arith}
-use mathlib.Core.Path.{_≡_, sym, ap, subst, _∙_}
+use mathlib.Core.Path.{_≡_, sym, ap, _∙_}
 use mathlib.Core.Bool.{Bool, true, false, cond}
-use mathlib.Core.List.{List, map}
+use mathlib.Core.List.{List}
 use lib.Dec.{eqb, ltb}
 use lib.ListN.{length, take, drop}
-use borrow.Author.Tests.{ne-eqb}
 use Rattle.model.specs.Base.{any, sameList}
-use Rattle.model.specs.Heap.{closed, holds}
-use Rattle.model.specs.Image.{cellSlot, heapOf}
-use Rattle.model.specs.Records.{byte, fieldsS, isS, layoutH, refusalH, refusalS, shapeOf, targetsS, valOf}
+use Rattle.model.specs.Heap.{closed}
+use Rattle.model.specs.Image.{heapOf}
+use Rattle.model.specs.Records.{byte, fieldsS, isS, layoutH, refusalH, refusalS, shapeOf, targetsS}
 use Rattle.model.specs.Shape.{canonical}
-use Rattle.model.proofs.Lists.{In, map-in}
 use Rattle.model.proofs.Logic.{bool-case}
-use Rattle.model.proofs.ReadBack.{SmallSlot}
-use Rattle.model.proofs.ShapeBack.{layout-closed, layout-few, layout-slots, layout-writable}
-use Rattle.input.proofs.ListLaws.{map-same}
+use Rattle.model.proofs.ShapeBack.{layout-closed, shape-image}
 
 module _ (r : List ℕ) (l : length r ≡ 32) (h : layoutH r ≡ true) where
-  -- a successor byte is never the mark of a cell that is not in use
-  used : (b : ℕ) → In b (take (byte r 3) (drop 10 r)) → b ≡ 0xfd → ⊥
-  used b i e =
-      let few = layout-few r l h in
-      let n = layout-slots r l h in
-      let z : SmallSlot (length (shapeOf r .slots)) (holds (valOf b)) = layout-writable r l h .nexts _ (map-in (λ x. holds (valOf x)) b (take (byte r 3) (drop 10 r)) i) in
-      let y : 0xfd < length (shapeOf r .slots) = subst (λ x. SmallSlot (length (shapeOf r .slots)) (holds (valOf x))) e z in
-      omega arith
-
-  pub shape-image : shapeOf r ≡ heapOf (take 6 (drop 4 r)) (take (byte r 3) (drop 10 r))
-  shape-image = λ j. record {
-    ptrs = map valOf (take 6 (drop 4 r));
-    slots = map-same (λ b. holds (valOf b)) cellSlot (take (byte r 3) (drop 10 r)) (λ b i. rw (ne-eqb b 0xfd (used b i))) j;
-  }
-
   pub image-closed : closed (heapOf (take 6 (drop 4 r)) (take (byte r 3) (drop 10 r))) ≡ true
-  image-closed = ap closed (sym shape-image) ∙ layout-closed r l h
+  image-closed = ap closed (sym (shape-image r l h)) ∙ layout-closed r l h
 
 -- ---- the refusals of an H record after the records e, in the order of its tests
 

@@ -1,16 +1,13 @@
 -- What an answer of the check says of the input: the routine that was read from its records, or the refusal. Assumes nothing.
-use Prim.Native.Nat.{ℕ, _+_, _*_, _/_, _≤_}
+use Prim.Native.Nat.{ℕ, _+_, _*_, _≤_}
 use mathlib.Core.Path.{_≡_}
 use mathlib.Core.List.{List, map}
 use lib.ListN.{length, take, drop}
 use Rattle.model.specs.Records.{stmtOf, shapeOf}
-use Rattle.model.specs.Translate.{Checked as CheckedInput, bad, good, Routine, chunks, refusal}
+use Rattle.model.specs.Translate.{Checked as CheckedInput, bad, good, Routine, refusal}
+use Rattle.model.proofs.Listings.{recordsOf}
 use Rattle.input.specs.declared.Checked.{Checked}
 use Rattle.input.specs.declared.Checked.the-variants.{Good, Bad}
-
--- the records of an input
-abbrev pub recordsOf : List ℕ → List (List ℕ)
-recordsOf s = chunks (length s / 32) s
 
 -- the first n records as statements, the others as starting shapes
 abbrev pub routineOf : ℕ → List ℕ → Routine

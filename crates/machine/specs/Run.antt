@@ -10,7 +10,7 @@ use Rattle.model.specs.Image.{heapOf}
 use Rattle.model.specs.Machine.{run}
 use Rattle.model.specs.Records.{opOf, valByte, slotByte}
 use Rattle.model.specs.Shape.{cells, segments, shape, counters}
-use Rattle.model.proofs.Start.{segAt}
+use Rattle.model.proofs.Notions.{segAt}
 use Rattle.effect.specs.Effect.{EffectReady, effectOf}
 
 -- the image ps, cs, the statement, and room for the visit: order o, marks s

@@ -3,7 +3,7 @@ use Prim.Native.Nat.{_%_, _*_, _+_, _-_, _/_, _<_, _^_, _≤_, suc, zero, ℕ}
 use mathlib.Core.Path.{_∙_, _≡_, ap, ap₂, refl, sym}
 use mathlib.Core.Logic.{inl, inr}
 use mathlib.Core.Bool.{Bool, false, true}
-use mathlib.Core.List.{List, [], _++_, _∷_, append-assoc}
+use mathlib.Core.List.{List, [], _++_, _∷_, append-assoc, map}
 use native.Mathlib.Nat.{add-mul-mod-self-left, mod-add-div, mod-eq-of-lt, one-mul, pow-suc, zero-mul}
 use native.Mathlib.Omega.{arith}
 use lib.Dec.{eqb}
@@ -16,20 +16,23 @@ use Rattle.model.specs.Heap.{Val, cell, null, undef}
 use Rattle.model.specs.Records.{bits, filled, isZero, recordAt, twoBytes, updateCode, valByte, valOf, word}
 use Rattle.model.specs.Runs.{added, applied}
 use Rattle.model.specs.Translate.{tableOf}
-use Rattle.model.proofs.Lists.{In}
+use Rattle.model.proofs.Listings.{SmallVal}
+use Rattle.model.proofs.Lists.{In, in-map}
 use Rattle.model.proofs.Logic.{and-l, and-r, bool-case}
-pub use Rattle.model.proofs.Listings.{SmallVal}
-pub use Rattle.model.proofs.Lists.{map-back}
-pub use Rattle.model.proofs.Notions.{flagged}
+use Rattle.model.proofs.Notions.{flagged}
 
 pub small-up : (j k : ℕ) (v : Val) → j ≤ k → SmallVal j v → SmallVal k v
 small-up j k (cell n) h s = omega arith
 small-up j k null h s = tt
 small-up j k undef h s = tt
 
+-- a byte that is neither that of null nor that of undefined
+pub val-cell : (b : ℕ) → (b ≡ 0xfe → ⊥) → (b ≡ 0xff → ⊥) → valOf b ≡ cell b
+val-cell b p q = rw (ne-eqb b 0xfe p, ne-eqb b 0xff q)
+
 -- the byte of a value is read back as that value
 pub val-back : (v : Val) → SmallVal 0xfe v → valOf (valByte v) ≡ v
-val-back (cell n) h = rw (ne-eqb n 0xfe (λ e. omega arith), ne-eqb n 0xff (λ e. omega arith))
+val-back (cell n) h = val-cell n (λ e. omega arith) (λ e. omega arith)
 val-back null h = refl
 val-back undef h = refl
 
@@ -47,7 +50,7 @@ pub word-at : (l : List ℕ) (n : ℕ) (m : List ℕ) → word (l ++ (twoBytes n
 word-at [] n m = word-back n
 word-at (x ∷ l) n m = word-at l n m
 
-added-none : (cs : List ℕ) → added 0 cs ≡ 0
+pub added-none : (cs : List ℕ) → added 0 cs ≡ 0
 added-none [] = refl
 added-none (c ∷ cs) = rw (zero-mul c, added-none cs)
 
@@ -96,9 +99,15 @@ pub table-record : (n : ℕ) (rs : List (List ℕ)) (i : ℕ) → ((r : List ℕ
     → recordAt (tableOf n rs) i ≡ getD rs i []
 table-record n rs i h k = joined-record rs (replicate (n - 32 * length rs) 0) i h k
 
+pub records-wide : {A : Type 0} (f : A → List ℕ) (l : List A) → ((x : A) → In x l → length (f x) ≡ 32) → (r : List ℕ) → In r (map f l) → length r ≡ 32
+records-wide f l h r i = let y = in-map f r l i in ap length (y .2) ∙ h (y .0) (y .1)
+
 pub joined-length : (rs : List (List ℕ)) → ((r : List ℕ) → In r rs → length r ≡ 32) → length (joined rs) ≡ 32 * length rs
 joined-length [] h = refl
 joined-length (r ∷ rs) h = omega (arith, length-append r (joined rs), h r (inl refl), joined-length rs (λ x q. h x (inr q)))
+
+pub table-empty : (n : ℕ) → tableOf n [] ≡ replicate n 0
+table-empty n = let e : n - 32 * 0 ≡ n = omega arith in ap (λ m. replicate m 0) e
 
 -- a table keeps its length, and "bytes after the last are zero"
 pub table-length : (n : ℕ) (rs : List (List ℕ)) → ((r : List ℕ) → In r rs → length r ≡ 32) → 32 * length rs ≤ n → length (tableOf n rs) ≡ n

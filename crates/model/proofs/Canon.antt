@@ -2,7 +2,7 @@
 use Prim.Native.Nat.{_+_, _<_, _≤_, suc, zero, ℕ}
 use mathlib.Core.Path.{_∙_, _≡_, ap, ap₂, refl, sym}
 use mathlib.Core.Bool.{Bool, true}
-use mathlib.Core.List.{List, [], _++_, _∷_, append-cancel-left, head-eq-of-cons-eq, map}
+use mathlib.Core.List.{List, [], _++_, _∷_, append-cancel-left, head-eq-of-cons-eq, map, map-map}
 use native.Mathlib.Omega.{arith}
 use lib.Dec.{eqb}
 use lib.ListN.{length, length-map}
@@ -13,14 +13,13 @@ use Rattle.model.specs.Shape.{Seg, cells, core, cut, cutFrom, last, node
 use Rattle.model.proofs.Bound.{nodes-core}
 use Rattle.model.proofs.Cores.{first-inj}
 use Rattle.model.proofs.Folds.{Kept, kept-down, order-cat}
-use Rattle.model.proofs.Lists.{map-id, map-same, map-two}
+use Rattle.model.proofs.Lists.{map-id, map-same}
 use Rattle.model.proofs.Logic.{bool-case, mem-here, mem-there}
 use Rattle.model.proofs.Notions.{Expands, cat, flat, segAt}
-use Rattle.model.proofs.Numbers.{read-all}
+use Rattle.model.proofs.Numbers.{numbers-mem, read-all}
 use Rattle.model.proofs.Order.{toured, used-below}
 use Rattle.model.proofs.Start.{end, flat-is, slot-at, start}
 use Rattle.model.proofs.Walks.{AllUsed, Closed, ClosedHeap, closed-in, seg}
-pub use Rattle.model.proofs.Numbers.{numbers-mem}
 
 pub record Canon (h : Heap) : Type 0 where
   pub closed : ClosedHeap h
@@ -101,6 +100,6 @@ module _ (h : Heap) (C : Canon h) where
   pub canon-fold : shape h ≡ h
   canon-fold = rw canon-segments (λ i. record {
     ptrs = map-id (nodeVal nodes) (h .ptrs) (λ v q. val-id v (closed-in (next h) (h .ptrs) v (C .closed .0) q)) i;
-    slots = (map-two single (λ (s : Seg). nodeSlot nodes (next h (last s))) (numbers 0 (length (h .slots)))
+    slots = (map-map (λ (s : Seg). nodeSlot nodes (next h (last s))) single (numbers 0 (length (h .slots)))
         ∙ map-same (λ n. nodeSlot nodes (next h n)) (next h) (numbers 0 (length (h .slots))) (λ n q. slot-id n (next h n) refl) ∙ read-all unused (h .slots)) i;
   })

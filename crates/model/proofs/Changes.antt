@@ -11,10 +11,9 @@ use Rattle.model.specs.Machine.{wipe, wipeSlot}
 use Rattle.model.specs.Shape.{Seg, cells}
 use Rattle.model.proofs.Cores.{first-inj}
 use Rattle.model.proofs.Logic.{NoDup, bool-case, clash, eq-case, mem-cases, mem-here, mem-one, mem-there}
-use Rattle.model.proofs.Notions.{Chain, Expands, img}
+use Rattle.model.proofs.Notions.{Chain, Expands, img, upd}
 use Rattle.model.proofs.Walks.{Closed, Used, seg}
-pub use Rattle.model.proofs.Notions.{upd}
-pub use Rattle.model.proofs.Writes.{chain-cong, expands-new, expands-write, holds-inj, n-closed, n-img, sg-new, slot-clash, upd-at, upd-off, w-closed}
+use Rattle.model.proofs.Writes.{holds-inj, slot-clash, upd-at, upd-off}
 
 -- a free of a node of one cell
 abbrev pub freed : (ℕ → Slot) → ℕ → ℕ → Slot

@@ -3,54 +3,26 @@ use Prim.Native.Nat.{_%_, _*_, _/_, suc, zero, ℕ}
 use mathlib.Core.Path.{_∙_, _≡_, ap, refl, subst, sym}
 use mathlib.Core.Logic.{inl, inr}
 use mathlib.Core.Option.{Option, none, some}
-use mathlib.Core.Bool.{Bool, _&&_, _||_, cond, false, not, true}
+use mathlib.Core.Bool.{_||_, cond, false, not, true}
 use mathlib.Core.List.{List, [], _∷_, map}
 use native.Mathlib.Omega.{arith}
 use lib.Dec.{eqb}
 use lib.ListN.{drop, length, length-drop}
 use lib.Seq.{length-take-le}
-use borrow.Author.Tests.{eqb-true, ne-eqb}
+use borrow.Author.Tests.{eqb-true}
 use Rattle.model.specs.Base.{all, any, count, sameList}
 use Rattle.model.specs.Heap.{Heap}
-use Rattle.model.specs.Records.{byte, isH, isS, layoutH, refusalH, refusalS, shapeOf, shapeRecord}
+use Rattle.model.specs.Records.{isH, isS, layoutH, refusalH, refusalS, shapeOf, shapeRecord}
 use Rattle.model.specs.Shape.{canonical}
 use Rattle.model.specs.Translate.{Refusal, Routine, bad, badKind, badRecord, between, check, checkCounts, checkKinds, checkRecords, chunks, good, refusal}
 use Rattle.model.proofs.Canon.{Canon}
 use Rattle.model.proofs.Canonical.{canonical-canon}
 use Rattle.model.proofs.Facts.{test-closed}
+use Rattle.model.proofs.Sorted.{kinds-sorted, not-both}
 use Rattle.model.proofs.Lists.{Distinct, In, any-in, in-drop, in-map, some-none}
-use Rattle.model.proofs.Logic.{and-both, and-l, and-r, bool-case, clash, or-false-r}
+use Rattle.model.proofs.Logic.{and-l, and-r, bool-case, clash, or-false-r}
 use Rattle.model.proofs.Same.{same-bytes-refl}
 use Rattle.model.proofs.ShapeBack.{layout-closed, layout-pointers, shape-record-back}
-
--- an S is no H
-not-both : (r : List ℕ) → isH r ≡ true → isS r ≡ false
-not-both r h = ne-eqb (byte r 0) 0x53 (λ e. let k = eqb-true (byte r 0) 0x48 h in omega arith)
-
--- after an H there are only H records
-after-h : (i : ℕ) (rs : List (List ℕ)) → badKind true i rs ≡ none → (all isH rs ≡ true) × (count isS rs ≡ 0)
-after-h i [] e = (refl, refl)
-after-h i (r ∷ rs) e = bool-case (isH r)
-    (λ h. let q = after-h (suc i) rs (rw (h, badKind) at e) in
-    (and-both (isH r) (all isH rs) h (q .0), rw (not-both r h) (omega (arith, q .1))))
-    (λ h. let z : badKind true i (r ∷ rs) ≡ some i = rw (h, badKind) (rw (and-not (isS r), badKind)) in some-none (sym e ∙ z))
-  where
-    and-not : (b : Bool) → b && false ≡ false
-    and-not true = refl
-    and-not false = refl
-
--- the records behind the S records are H records
-kinds : (i : ℕ) (rs : List (List ℕ)) → badKind false i rs ≡ none → all isH (drop (count isS rs) rs) ≡ true
-kinds i [] e = refl
-kinds i (r ∷ rs) e = bool-case (isH r)
-    (λ h. let q = after-h (suc i) rs (rw (h, badKind) at e) in
-    let z : count isS (r ∷ rs) ≡ 0 = rw (not-both r h) (omega (arith, q .1)) in
-    rw z (and-both (isH r) (all isH rs) h (q .0)))
-    (λ h. bool-case (isS r)
-    (λ s. let z = rw (h, badKind) at e in
-    let n : suc (count isS rs) ≡ count isS (r ∷ rs) = rw s (omega arith) in
-    subst (λ m. all isH (drop m (r ∷ rs)) ≡ true) n (kinds (suc i) rs (rw (s, badKind) at z)))
-    (λ s. let z : badKind false i (r ∷ rs) ≡ some i = rw (h, badKind) (rw (s, badKind)) in some-none (sym e ∙ z)))
 
 -- what an H record that is not refused is
 pub record GoodH (r : List ℕ) : Type 0 where
@@ -58,7 +30,7 @@ pub record GoodH (r : List ℕ) : Type 0 where
   pub isLayout : layoutH r ≡ true
   pub isCanonical : canonical (shapeOf r) ≡ true
 
-accepted-h : (earlier : List (List ℕ)) (r : List ℕ) → refusalH earlier r ≡ 0
+pub accepted-h : (earlier : List (List ℕ)) (r : List ℕ) → refusalH earlier r ≡ 0
     → (layoutH r ≡ true) × (canonical (shapeOf r) ≡ true) × (any (sameList eqb r) earlier ≡ false)
 accepted-h earlier r e = bool-case (layoutH r)
     (λ l. bool-case (canonical (shapeOf r))
@@ -165,7 +137,7 @@ kinds-good rs r w e = by-kind (badKind false 0 rs) refl
   where
     by-kind : (o : Option ℕ) → badKind false 0 rs ≡ o → GoodStarts r
     by-kind (some i) q = bad-good (rw (q, checkKinds) at e)
-    by-kind none q = counts-good rs r w (kinds 0 rs q) (rw (q, checkKinds) at e)
+    by-kind none q = counts-good rs r w (kinds-sorted 0 rs q .shapes) (rw (q, checkKinds) at e)
 
 -- an accepted input has good starting shapes
 pub check-good : (s : List ℕ) (r : Routine) → check s ≡ good r → GoodStarts r

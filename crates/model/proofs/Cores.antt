@@ -13,9 +13,8 @@ use Rattle.model.specs.Heap.{Heap, Slot, Val, cell, holds, next, null, u
 use Rattle.model.specs.Shape.{Seg, cells, core, holdsCell, isCell, last, lastFrom}
 use Rattle.model.proofs.Lists.{In, any-find, any-in}
 use Rattle.model.proofs.Logic.{NoDup, bool-case, bool-ext, clash, eq-case, eqb-same, mem-cases, mem-here, mem-there, not-true, or-cases, or-l, or-r}
-use Rattle.model.proofs.Notions.{Chain, Expands, Expansion, img}
+use Rattle.model.proofs.Notions.{Chain, Expands, Expansion, Two, img}
 use Rattle.model.proofs.Walks.{AllClosed, Closed, Used, holders, pointed}
-pub use Rattle.model.proofs.Notions.{Two}
 
 pub holds-cell-true : (c : ℕ) (s : Slot) → holdsCell c s ≡ true → s ≡ holds (cell c)
 holds-cell-true c unused h = clash h refl

@@ -18,6 +18,10 @@ use Rattle.model.proofs.Logic.{NoDup, bool-case, clash, eqb-same, mem-a
 use Rattle.model.proofs.Notions.{Chain, flat, segAt}
 use Rattle.model.proofs.Walks.{Tours, Walks, at-null, at-seen, at-undef, go, pointed, seg, tour-done, tour-more}
 
+pub last-snoc : (c : ℕ) (l : List ℕ) (d : ℕ) → lastFrom c (l ++ d ∷ []) ≡ d
+last-snoc c [] d = refl
+last-snoc c (x ∷ l) d = last-snoc x l d
+
 -- a list in which each cell that is not core follows the one that holds it
 module _ (nx : ℕ → Slot) (p : ℕ → Bool) where
   abbrev pub Trail : ℕ → List ℕ → Type 0
@@ -48,10 +52,6 @@ module _ (nx : ℕ → Slot) (p : ℕ → Bool) where
   trails-snoc : (s : List ℕ) (d : ℕ) → Trails s → Ok s d → Trails (s ++ d ∷ [])
   trails-snoc [] d t o = tt
   trails-snoc (c ∷ s) d t o = trail-snoc c s d t o
-
-  last-snoc : (c : ℕ) (l : List ℕ) (d : ℕ) → lastFrom c (l ++ d ∷ []) ≡ d
-  last-snoc c [] d = refl
-  last-snoc c (x ∷ l) d = last-snoc x l d
 
   ok-snoc : (s : List ℕ) (d e : ℕ) → nx d ≡ holds (cell e) → Ok (s ++ d ∷ []) e
   ok-snoc [] d e h = λ _. h

@@ -15,9 +15,9 @@ use Rattle.model.proofs.Exact.{listing-exact}
 use Rattle.model.proofs.Facts.{heap-closed, heap-kept}
 use Rattle.model.proofs.Leave.{begin}
 use Rattle.model.proofs.Lists.{some-inj, some-none}
+use Rattle.model.proofs.Outcomes.{accepted}
 use Rattle.model.proofs.Same.{elem-none}
 use Rattle.model.proofs.Whole.{matching}
-pub use Rattle.model.proofs.Outcomes.{accepted}
 
 -- the location of a starting shape
 start-at : (hs : List Heap) (ls : List Loc) → take (length hs) ls ≡ map (at 0) hs → (i : ℕ) (h : Heap) → getElem? hs i ≡ some h

@@ -2,7 +2,7 @@
 use Prim.Native.Nat.{suc, zero, ℕ}
 use mathlib.Core.Path.{_∙_, _≡_, ap, fun-ext, refl, subst, subst₂, sym}
 use mathlib.Core.Bool.{cond}
-use mathlib.Core.List.{List, [], _∷_, map}
+use mathlib.Core.List.{List, [], _∷_, map, map-map}
 use lib.Dec.{eqb, eqb·suc-suc, eqb·suc-zero, eqb·zero-suc}
 use lib.ListN.{List·getD-map, getD, set}
 use Rattle.model.specs.Edges.{access, splitHeap}
@@ -11,12 +11,11 @@ use Rattle.model.specs.Machine.{Op, choose, clear, copy, effect, free, f
 use Rattle.model.specs.Shape.{Seg, lastFrom}
 use Rattle.model.proofs.Changes.{expands-free, expands-split, f-closed, f-img, freed, s-closed, s-img}
 use Rattle.model.proofs.Cores.{chain-last}
-use Rattle.model.proofs.Lists.{map-two}
+use Rattle.model.proofs.Lists.{map-set}
 use Rattle.model.proofs.Logic.{eqb-same}
-use Rattle.model.proofs.Notions.{Expands, Expansion, img, upd}
+use Rattle.model.proofs.Notions.{Alike, Expands, Expansion, Room, both-bad, both-ok, img, sg-after, upd}
 use Rattle.model.proofs.Walks.{AllClosed, Closed, Used, closed-map, closed-up, map-closed, seg}
 use Rattle.model.proofs.Writes.{expands-new, expands-write, n-closed, n-img, upd-at, w-closed}
-pub use Rattle.model.proofs.Notions.{Alike, Room, both-bad, both-ok, sg-after}
 
 getD-put : (l : List Slot) (c : ℕ) (s : Slot) (i : ℕ) → getD (put l c s) i unused ≡ cond (eqb i c) s (getD l i unused)
 getD-put [] zero s zero = refl
@@ -44,11 +43,6 @@ closed-set : (nx : ℕ → Slot) (vs : List Val) (u : ℕ) (v : Val) → AllClos
 closed-set nx [] u v k q = tt
 closed-set nx (x ∷ vs) zero v k q = (q, k .1)
 closed-set nx (x ∷ vs) (suc u) v k q = (k .0, closed-set nx vs u v (k .1) q)
-
-map-set : (f : Val → Val) (vs : List Val) (u : ℕ) (v : Val) → map f (set vs u v) ≡ set (map f vs) u (f v)
-map-set f [] u v = refl
-map-set f (x ∷ vs) zero v = refl
-map-set f (x ∷ vs) (suc u) v = ap (λ z. f x ∷ z) (map-set f vs u v)
 
 module _ (W : Heap) (sg : ℕ → Seg) (H : Heap) (X : Expansion W sg H) where
   pub ptr-img : (u : ℕ) → ptr H u ≡ img sg (ptr W u)
@@ -88,8 +82,8 @@ module _ (W : Heap) (sg : ℕ → Seg) (H : Heap) (X : Expansion W sg H) where
     body = subst₂ (λ a b. Expands a sg b) (sym (next-free W n)) (sym (next-free H h)) (expands-free (next W) sg (next H) (X .body) n h single u);
     closed = subst (λ a. AllClosed a (map (wipe n) (W .ptrs))) (sym (next-free W n))
         (closed-map (next W) (freed (next W) n) (wipe n) (W .ptrs) (f-closed (next W) sg (next H) (X .body) n h single u) (X .closed));
-    ptrs = ap (map (wipe h)) (X .ptrs) ∙ map-two (img sg) (wipe h) (W .ptrs)
-        ∙ sym (map-two (wipe n) (img sg) (W .ptrs)
+    ptrs = ap (map (wipe h)) (X .ptrs) ∙ map-map (wipe h) (img sg) (W .ptrs)
+        ∙ sym (map-map (img sg) (wipe n) (W .ptrs)
         ∙ map-closed (next W) (λ x. img sg (wipe n x)) (λ x. wipe h (img sg x)) (W .ptrs) (f-img (next W) sg (next H) (X .body) n h single u) (X .closed));
   }
 

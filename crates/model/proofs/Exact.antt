@@ -15,24 +15,18 @@ use Rattle.model.specs.Heap.{Heap}
 use Rattle.model.specs.Machine.{Stmt, leak}
 use Rattle.model.specs.Translate.{Link, Listing, Routine, listed, listing}
 use Rattle.model.proofs.Listing.{add-found, add-place, any-loc, edge-locs, explored-end, explored-prefix, extend-all, extend-distinct, extend-has, extend-prefix, listing-whole, loc-place}
-use Rattle.model.proofs.Listings.{addEdge, addLoc, explored, extend, locAt}
-use Rattle.model.proofs.Lists.{Distinct, In, getD-in, in-append-cases, in-getD, in-joined, in-map, joined-in, map-in}
+use Rattle.model.proofs.Listings.{Exact, Reached, addEdge, addLoc, addLocs, by-edge, explored, extend, from-start, linkOf, linkTarget, linksFrom, locAt}
+use Rattle.model.proofs.Lists.{Distinct, In, getD-in, in-append-cases, in-getD, in-joined, in-map, joined-in, joined-snoc, map-in}
 use Rattle.model.proofs.Logic.{bool-case, not-true}
+use Rattle.model.proofs.Numbers.{numbers-in, numbers-snoc}
 use Rattle.model.proofs.Same.{Prefix, prefix-getD, prefix-in, prefix-place, prefix-trans}
-pub use Rattle.model.proofs.Listings.{Exact, Reached, addLocs, by-edge, firsts, from-start, linkOf, linkTarget, linksFrom}
-pub use Rattle.model.proofs.Numbers.{numbers-in, numbers-snoc}
 
 -- ---- lists
 
-joined-append : {A : Type 0} (l m : List (List A)) → joined (l ++ m) ≡ joined l ++ joined m
-joined-append [] m = refl
-joined-append (x ∷ l) m = ap (λ z. x ++ z) (joined-append l m) ∙ sym (append-assoc x (joined l) (joined m))
-
-joined-snoc : {A : Type 0} (f : ℕ → List A) (n : ℕ) → joined (map f (numbers 0 (suc n))) ≡ joined (map f (numbers 0 n)) ++ f n
-joined-snoc f n =
+joined-numbers : {A : Type 0} (f : ℕ → List A) (n : ℕ) → joined (map f (numbers 0 (suc n))) ≡ joined (map f (numbers 0 n)) ++ f n
+joined-numbers f n =
     ap (λ z. joined (map f z)) (numbers-snoc 0 n ∙ ap (λ z. numbers 0 n ++ z ∷ []) (omega arith))
-    ∙ ap joined (map-append f (numbers 0 n) (n ∷ [])) ∙ joined-append (map f (numbers 0 n)) (f n ∷ [])
-    ∙ ap (λ z. joined (map f (numbers 0 n)) ++ z) (append-nil (f n))
+    ∙ ap joined (map-append f (numbers 0 n) (n ∷ [])) ∙ joined-snoc (map f (numbers 0 n)) (f n)
 
 -- ---- the links
 
@@ -134,7 +128,7 @@ module _ (sts : List Stmt) (hs : List Heap) where
       extend-linked i (edgesOf sts (locAt (t .locs) i)) t ls (explored-prefix sts hs (suc i) n h)
       ∙ ap (λ l. t .links ++ map (linkOf i ls) (edgesOf sts l)) (sym (loc-later i n (omega arith)))
       ∙ ap (λ z. z ++ linksFrom sts ls i) (explored-linked n i (omega arith))
-      ∙ sym (joined-snoc (linksFrom sts ls) i)
+      ∙ sym (joined-numbers (linksFrom sts ls) i)
 
   explored-complete : (n : ℕ) → n ≡ length (explored sts hs n .locs) → (l : Loc) → Reached sts hs l → In l (explored sts hs n .locs)
   explored-complete n c l (from-start {h = h} k) =

@@ -1,16 +1,16 @@
 -- One heap as the expansion of another: the walk carries over, along the chains.
 use Prim.Native.Nat.{ℕ}
 use mathlib.Core.Path.{_∙_, _≡_, ap, refl, subst, sym}
-use mathlib.Core.Bool.{false, true}
+use mathlib.Core.Bool.{false, or-false, true}
 use mathlib.Core.List.{List, [], _++_, _∷_, append-assoc, append-nil, map}
 use lib.Dec.{eqb}
 use borrow.Author.Tests.{ne-eqb}
 use Rattle.model.specs.Base.{mem}
 use Rattle.model.specs.Heap.{Slot, Val, cell}
 use Rattle.model.specs.Shape.{Seg, cells}
-use Rattle.model.proofs.Logic.{NoDup, clash, mem-append, mem-append-cases, mem-append-l, mem-append-r, mem-cases, mem-here, mem-one, mem-there, not-true, or-nil}
+use Rattle.model.proofs.Logic.{NoDup, clash, mem-append, mem-append-cases, mem-append-l, mem-append-r, mem-cases, mem-here, mem-one, mem-there, not-true}
+use Rattle.model.proofs.Notions.{Chain, Expands, cat, img}
 use Rattle.model.proofs.Walks.{AllClosed, AllUsed, Closed, Tours, Used, Walks, at-null, at-seen, at-undef, go, tour-done, tour-more}
-pub use Rattle.model.proofs.Notions.{Chain, Expands, Expansion, cat, img}
 
 pub cat-append : (sg : ℕ → Seg) (s t : List ℕ) → cat sg (s ++ t) ≡ cat sg s ++ cat sg t
 cat-append sg [] t = refl
@@ -41,7 +41,7 @@ walk-chain nx c (d ∷ l) v s t ch f nd w =
     (walk-chain nx d l v (s ++ c ∷ []) t (ch .1) fresh (nd .1) (rw (append-assoc s (c ∷ []) (d ∷ l)) w))
   where
     fresh : (e : ℕ) → mem e (d ∷ l) ≡ true → mem e (s ++ c ∷ []) ≡ false
-    fresh e h = rw (mem-append e s (c ∷ []), f e (mem-there e c (d ∷ l) h), or-nil (eqb e c))
+    fresh e h = rw (mem-append e s (c ∷ []), f e (mem-there e c (d ∷ l) h), or-false (eqb e c))
         (ne-eqb e c (λ q. clash (subst (λ x. mem x (d ∷ l) ≡ true) q h) (nd .0)))
 
 module _ (nw : ℕ → Slot) (sg : ℕ → Seg) (nh : ℕ → Slot) (E : Expands nw sg nh) where

@@ -2,7 +2,7 @@
 use Prim.Native.Nat.{_+_, suc, ℕ}
 use mathlib.Core.Path.{_∙_, _≡_, ap, ap₂, refl, subst, sym}
 use mathlib.Core.Bool.{Bool, cond, false, true}
-use mathlib.Core.List.{List, [], _++_, _∷_, append-assoc, append-nil, map}
+use mathlib.Core.List.{List, [], _++_, _∷_, append-assoc, append-nil, map, map-map}
 use lib.Dec.{eqb}
 use lib.ListN.{length, length-append}
 use borrow.Author.Tests.{eq-eqb, eqb-true}
@@ -11,12 +11,11 @@ use Rattle.model.specs.Heap.{Heap, Slot, Val, cell, holds, next, null, o
 use Rattle.model.specs.Shape.{Seg, cells, core, counters, cut, cutFrom, last, lastFrom, node, nodeSlot, nodeVal, segments, shape, size}
 use Rattle.model.proofs.Cores.{chain-last, core-head, core-inner, first-inj, next-in}
 use Rattle.model.proofs.Expand.{cat-snoc, lift-tour, mem-cat, mem-of-cat}
-use Rattle.model.proofs.Lists.{map-same, map-two}
+use Rattle.model.proofs.Lists.{map-same}
 use Rattle.model.proofs.Logic.{bool-case, bool-ext, clash, mem-append-cases, mem-cases, mem-here, mem-one, mem-there}
-use Rattle.model.proofs.Notions.{Chain, Expansion, cat, img}
+use Rattle.model.proofs.Notions.{Chain, Expansion, cat, img, total}
 use Rattle.model.proofs.Order.{toured, tours-same}
 use Rattle.model.proofs.Walks.{AllClosed, AllUsed, Closed, ClosedHeap, Used, closed-map, map-closed, seg}
-pub use Rattle.model.proofs.Notions.{total}
 
 pub chain-used : (nx : ℕ → Slot) (c : ℕ) (l : List ℕ) (v : Val) (d : ℕ) → Chain nx c l v → mem d (c ∷ l) ≡ true → Used nx d
 chain-used nx c [] v d ch h = (v, ap nx (mem-one d c h) ∙ ch)
@@ -94,7 +93,7 @@ length-cat sg [] = refl
 length-cat sg (n ∷ l) = length-append (cells (sg n)) (cat sg l) ∙ ap (λ x. size (sg n) + x) (length-cat sg l)
 
 sizes : (sg : ℕ → Seg) (ss : List Seg) → map size (map (grow sg) ss) ≡ map (λ (s : Seg). total sg (cells s)) ss
-sizes sg ss = map-two (grow sg) size ss
+sizes sg ss = map-map size (grow sg) ss
     ∙ map-same (λ (s : Seg). length (cat sg (cells s))) (λ (s : Seg). total sg (cells s)) ss (λ s i. length-cat sg (cells s))
 
 module _ (W : Heap) (sg : ℕ → Seg) (H : Heap) (X : Expansion W sg H) where
@@ -149,7 +148,7 @@ module _ (W : Heap) (sg : ℕ → Seg) (H : Heap) (X : Expansion W sg H) where
   ptrs-grow : (vs : List Val) (ss : List Seg) → AllClosed (next W) vs → Alls (λ s. AllUsed (next W) (cells s)) ss
       → map (nodeVal (map (grow sg) ss)) (map (img sg) vs) ≡ map (nodeVal ss) vs
   ptrs-grow vs ss k us =
-      map-two (img sg) (nodeVal (map (grow sg) ss)) vs
+      map-map (nodeVal (map (grow sg) ss)) (img sg) vs
       ∙ map-closed (next W) (λ v. nodeVal (map (grow sg) ss) (img sg v)) (nodeVal ss) vs (λ v q. val-grow v ss q us) k
 
   slot-grow : (s : Seg) (ss : List Seg) → AllUsed (next W) (cells s) → Alls (λ s. AllUsed (next W) (cells s)) ss

@@ -16,11 +16,10 @@ use Rattle.model.specs.Runs.{isStop}
 use Rattle.model.proofs.Lists.{In, Pairs, in-append-cases, in-append-l, in-append-r, in-joined, in-map, in-single, pairs-append, pairs-few}
 use Rattle.model.proofs.Location.{choose-edge, way-guard}
 use Rattle.model.proofs.Logic.{bool-case}
-use Rattle.model.proofs.Notions.{guardOn}
+use Rattle.model.proofs.Notions.{Exclude, guardOn}
 use Rattle.model.proofs.Picks.{choose-is}
 use Rattle.model.proofs.Step.{step-go}
 use Rattle.model.proofs.Ways.{access-facts}
-pub use Rattle.model.proofs.Notions.{Exclude}
 
 edge-few : (s k : ℕ) (y : Way) (a : Answer) → length (edgeBy s k y a) ≤ 1
 edge-few s k y refused = omega arith

@@ -22,6 +22,7 @@ use Rattle.model.proofs.Lists.{In}
 use Rattle.model.proofs.Logic.{and-both, and-l, and-r, bool-case}
 use Rattle.model.proofs.ReadBack.{canon-writable, shape-length, shape-shape}
 use Rattle.model.proofs.ShapeBack.{layout-pointers}
+use Rattle.model.proofs.Slices.{sum-take}
 use Rattle.model.proofs.Unfold.{length-strand}
 use Rattle.model.proofs.Ways.{count-length}
 
@@ -54,12 +55,12 @@ image-accepted ps cs = (
 
 -- ---- folding
 
-fold-zero : (ps cs : List ℕ) → refusalImage ps cs ≡ 0
+pub fold-zero : (ps cs : List ℕ) → refusalImage ps cs ≡ 0
     → foldImage ps cs ≡ record { refusal = 0; shapeBytes = shapeRecord (shape (heapOf ps cs)); counts = filled 12 (counters (heapOf ps cs)) }
 unfolding foldImage
 fold-zero ps cs e = rw (e, foldImage)
 
-fold-suc : (ps cs : List ℕ) (n : ℕ) → refusalImage ps cs ≡ suc n
+pub fold-suc : (ps cs : List ℕ) (n : ℕ) → refusalImage ps cs ≡ suc n
     → foldImage ps cs ≡ record { refusal = suc n; shapeBytes = replicate 32 0; counts = replicate 12 0 }
 unfolding foldImage
 fold-suc ps cs n e = rw (e, foldImage)
@@ -113,7 +114,7 @@ fold-lengths ps cs = number-case (refusalImage ps cs)
 
 -- ---- unfolding
 
-unfold-zero : (r vs ps cs : List ℕ) → refusalUnfold r vs (length ps) (length cs) ≡ 0 → unfoldImage r vs ps cs
+pub unfold-zero : (r vs ps cs : List ℕ) → refusalUnfold r vs (length ps) (length cs) ≡ 0 → unfoldImage r vs ps cs
     ≡ record {
       refusal = 0;
       ptrBytes = map valByte (unfoldHeap (shapeOf r) (take (byte r 3) vs) .ptrs);
@@ -122,7 +123,7 @@ unfold-zero : (r vs ps cs : List ℕ) → refusalUnfold r vs (length ps) (length
 unfolding unfoldImage
 unfold-zero r vs ps cs e = rw (e, unfoldImage)
 
-unfold-suc : (r vs ps cs : List ℕ) (n : ℕ) → refusalUnfold r vs (length ps) (length cs) ≡ suc n
+pub unfold-suc : (r vs ps cs : List ℕ) (n : ℕ) → refusalUnfold r vs (length ps) (length cs) ≡ suc n
     → unfoldImage r vs ps cs ≡ record { refusal = suc n; ptrBytes = ps; cellBytes = cs }
 unfolding unfoldImage
 unfold-suc r vs ps cs n e = rw (e, unfoldImage)
@@ -181,11 +182,6 @@ strands-short vs b (s ∷ ss) (c ∷ cs) = omega (
   length-strand b c (spreadSlot vs s),
   strands-short vs (b + c) ss cs,
 )
-
-sum-take : (k : ℕ) (vs : List ℕ) → sum (λ v. v) (take k vs) ≤ sum (λ v. v) vs
-sum-take zero vs = omega arith
-sum-take (suc k) [] = omega arith
-sum-take (suc k) (v ∷ vs) = omega (arith, sum-take k vs)
 
 -- the pointers and the cells keep their lengths
 pub unfold-lengths : (r vs ps cs : List ℕ) → (length (unfoldImage r vs ps cs .ptrBytes) ≡ length ps) × (length (unfoldImage r vs ps cs .cellBytes) ≡ length cs)

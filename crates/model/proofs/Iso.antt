@@ -12,9 +12,8 @@ use Rattle.model.proofs.Facts.{heap-closed, heap-kept, is-heap}
 use Rattle.model.proofs.Folds.{counters-grow, fold-same, kept-up, large-closed}
 use Rattle.model.proofs.Lists.{map-same}
 use Rattle.model.proofs.Logic.{mem-here, mem-one}
-use Rattle.model.proofs.Notions.{Expansion, img, total}
+use Rattle.model.proofs.Notions.{Expansion, Renames, img, renameVal, total}
 use Rattle.model.proofs.Walks.{ClosedHeap, seg}
-pub use Rattle.model.proofs.Notions.{Renames, renameVal}
 
 -- a renaming is an expansion by chains of one cell
 abbrev alone : (ℕ → ℕ) → ℕ → Seg

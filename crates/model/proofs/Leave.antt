@@ -17,13 +17,12 @@ use Rattle.model.specs.Shape.{Seg, cells, counters, foldBy, last, nodeSl
 use Rattle.model.proofs.Facts.{unused-of}
 use Rattle.model.proofs.Folds.{Alls, Kept, counters-grow, fold-same, large-closed}
 use Rattle.model.proofs.Logic.{bool-case, clash}
-use Rattle.model.proofs.Notions.{Room, sg-after, total}
+use Rattle.model.proofs.Notions.{Room, SmallEdge, SmallUpdates, sg-after, total, worth}
 use Rattle.model.proofs.Sizes.{Neat, Short, neat, run-short}
 use Rattle.model.proofs.Step.{Agree, fault-alike, step-agree, step-go, went-alike}
 use Rattle.model.proofs.Walks.{ClosedHeap}
 use Rattle.model.proofs.Ways.{Fits, count-length}
 use Rattle.model.proofs.Weights.{Fair, update-small, update-value, weigh}
-pub use Rattle.model.proofs.Notions.{SmallEdge, SmallUpdates, guardOn, nodesOf, worth}
 
 -- the match of a state with a location and counters
 abbrev pub MatchIn : Status → ℕ → Heap → Loc → List ℕ → Type 0

@@ -2,6 +2,8 @@
 pub mod Logic
 pub mod Lists
 pub mod Numbers
+pub mod Slices
+pub mod Ops
 pub mod Walks
 pub mod Notions
 pub mod Listings
@@ -39,6 +41,7 @@ pub mod Leave
 pub mod Picks
 pub mod Location
 pub mod Guards
+pub mod Sorted
 pub mod Checked
 pub mod Listing
 pub mod Exact

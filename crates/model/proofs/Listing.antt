@@ -13,10 +13,10 @@ use Rattle.model.specs.Edges.{Edge, Loc, at, edgesOf, failed, sameLoc}
 use Rattle.model.specs.Heap.{Heap}
 use Rattle.model.specs.Machine.{Stmt, leak}
 use Rattle.model.specs.Translate.{Explored, Listing, Refusal, Routine, addEdges, explore, full, listed, listing}
+use Rattle.model.proofs.Listings.{Placed, addEdge, addLoc, explored, extend, locAt}
 use Rattle.model.proofs.Lists.{Distinct, In, any-find, any-in, in-append-cases, in-append-r}
 use Rattle.model.proofs.Logic.{bool-case, clash, eq-case}
 use Rattle.model.proofs.Same.{Prefix, distinct-snoc, elem-none, elem-some, loc-same, place-found, place-none, place-passes, place-snoc, place-test, prefix-in, prefix-length, prefix-refl, prefix-trans, same-loc-refl}
-pub use Rattle.model.proofs.Listings.{Placed, addEdge, addLoc, explored, extend, locAt}
 
 -- ---- the exploration without bounds
 

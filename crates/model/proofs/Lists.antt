@@ -4,10 +4,10 @@ use mathlib.Core.Path.{_∙_, _≡_, ap, ap₂, refl, subst, sym}
 use mathlib.Core.Logic.{_⊎_, inl, inr}
 use mathlib.Core.Option.{Option, none, some}
 use mathlib.Core.Bool.{Bool, true}
-use mathlib.Core.List.{List, [], _++_, _∷_, map}
+use mathlib.Core.List.{List, [], _++_, _∷_, append-assoc, append-nil, map, map-map}
 use native.Mathlib.Omega.{arith}
 use lib.Dec.{eqb}
-use lib.ListN.{List·getD-map, drop, getD, length, length-map}
+use lib.ListN.{List·getD-map, drop, getD, length, length-map, set}
 use borrow.Author.Tests.{eqb-true}
 use Rattle.model.specs.Base.{all, any, joined, mem}
 use Rattle.model.proofs.Logic.{and-both, and-l, and-r, clash, eqb-same, or-cases, or-l, or-r}
@@ -60,6 +60,13 @@ joined-in x l [] h k = absurd h
 joined-in x l (m ∷ ls) (inl e) k = in-append-l x m (joined ls) (subst (In x) e k)
 joined-in x l (m ∷ ls) (inr h) k = in-append-r x m (joined ls) (joined-in x l ls h k)
 
+pub joined-append : {A : Type 0} (l m : List (List A)) → joined (l ++ m) ≡ joined l ++ joined m
+joined-append [] m = refl
+joined-append (x ∷ l) m = ap (λ z. x ++ z) (joined-append l m) ∙ sym (append-assoc x (joined l) (joined m))
+
+pub joined-snoc : {A : Type 0} (ls : List (List A)) (l : List A) → joined (ls ++ l ∷ []) ≡ joined ls ++ l
+joined-snoc ls l = joined-append ls (l ∷ []) ∙ ap (λ z. joined ls ++ z) (append-nil l)
+
 pub all-in : {A : Type 0} (p : A → Bool) (l : List A) (x : A) → all p l ≡ true → In x l → p x ≡ true
 all-in p [] x h i = absurd i
 all-in p (y ∷ l) x h (inl e) = ap p e ∙ and-l (p y) (all p l) h
@@ -92,12 +99,15 @@ getD-in [] d i h = absurd (omega arith)
 getD-in (x ∷ l) d zero h = inl refl
 getD-in (x ∷ l) d (suc i) h = inr (getD-in l d i (omega arith))
 
+pub all-at : {A : Type 0} (p : A → Bool) (l : List A) (d : A) (i : ℕ) → all p l ≡ true → i < length l → p (getD l i d) ≡ true
+all-at p l d i e h = all-in p l (getD l i d) e (getD-in l d i h)
+
 pub in-getD : {A : Type 0} (l : List A) (d x : A) → In x l → (i : ℕ) × (i < length l) × (getD l i d ≡ x)
 in-getD [] d x h = absurd h
 in-getD (y ∷ l) d x (inl e) = (0, omega arith, sym e)
 in-getD (y ∷ l) d x (inr h) = let r = in-getD l d x h in (suc (r .0), omega arith, r .2)
 
--- in another list, or by another name, an element by its place
+-- within the list the default does not matter
 pub getD-default : {A : Type 0} (l : List A) (d e : A) (i : ℕ) → i < length l → getD l i d ≡ getD l i e
 getD-default [] d e i h = absurd (omega arith)
 getD-default (x ∷ l) d e zero h = refl
@@ -120,16 +130,17 @@ pub map-same : {A B : Type 0} (f g : A → B) (l : List A) → ((x : A) → In x
 map-same f g [] h = refl
 map-same f g (x ∷ l) h = ap₂ _∷_ (h x (inl refl)) (map-same f g l (λ y i. h y (inr i)))
 
-pub map-two : {A B C : Type 0} (f : A → B) (g : B → C) (l : List A) → map g (map f l) ≡ map (λ x. g (f x)) l
-map-two f g [] = refl
-map-two f g (x ∷ l) = ap (λ z. g (f x) ∷ z) (map-two f g l)
+pub map-set : {A B : Type 0} (f : A → B) (l : List A) (i : ℕ) (v : A) → map f (set l i v) ≡ set (map f l) i (f v)
+map-set f [] i v = refl
+map-set f (x ∷ l) zero v = refl
+map-set f (x ∷ l) (suc i) v = ap (λ r. f x ∷ r) (map-set f l i v)
 
 pub map-id : {A : Type 0} (f : A → A) (l : List A) → ((x : A) → In x l → f x ≡ x) → map f l ≡ l
 map-id f [] h = refl
 map-id f (x ∷ l) h = ap₂ _∷_ (h x (inl refl)) (map-id f l (λ y i. h y (inr i)))
 
 pub map-back : {A B : Type 0} (f : A → B) (g : B → A) (l : List A) → ((x : A) → In x l → g (f x) ≡ x) → map g (map f l) ≡ l
-map-back f g l h = map-two f g l ∙ map-id (λ x. g (f x)) l h
+map-back f g l h = map-map g f l ∙ map-id (λ x. g (f x)) l h
 
 -- `any` passes exactly where one of the elements does
 pub any-in : {A : Type 0} (p : A → Bool) (l : List A) (x : A) → In x l → p x ≡ true → any p l ≡ true
@@ -146,6 +157,9 @@ in-mem c l h = any-in (eqb c) l c h (eqb-same c)
 
 pub mem-in : (c : ℕ) (l : List ℕ) → mem c l ≡ true → In c l
 mem-in c l h = let r = any-find (eqb c) l h in subst (λ x. In x l) (sym (eqb-true c (r .0) (r .2))) (r .1)
+
+pub mem-at : (l : List ℕ) (i : ℕ) → i < length l → mem (getD l i 0) l ≡ true
+mem-at l i h = in-mem (getD l i 0) l (getD-in l 0 i h)
 
 -- ---- pairs
 

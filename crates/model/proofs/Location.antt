@@ -18,7 +18,7 @@ use Rattle.model.specs.Translate.{listed}
 use Rattle.model.proofs.Facts.{kept-test}
 use Rattle.model.proofs.Folds.{Kept, kept-down}
 use Rattle.model.proofs.Leave.{Fit, begin, way-lands}
-use Rattle.model.proofs.Lists.{In, getD-default, in-joined, in-map, joined-in, map-in}
+use Rattle.model.proofs.Lists.{In, getD-default, in-joined, in-map, in-single, joined-in, map-in}
 use Rattle.model.proofs.Logic.{bool-case, clash}
 use Rattle.model.proofs.Notions.{SmallEdge, guardOn, segAt, worth}
 use Rattle.model.proofs.Order.{used-below}
@@ -27,7 +27,6 @@ use Rattle.model.proofs.Start.{start}
 use Rattle.model.proofs.Step.{branch-same}
 use Rattle.model.proofs.Walks.{ClosedHeap}
 use Rattle.model.proofs.Ways.{Fits, access-facts, access-node, count-length, no-access, one-fits, size-at, two-fits, whole-fits}
-pub use Rattle.model.proofs.Lists.{in-single}
 
 -- an entry whose cell is not in use, and whose pick is at most 1 at choose
 accept-unused : (kd : Kind) (e : Entry) (h : Heap) → inUse (next h (e .cellNo)) ≡ false → (p : ℕ) → (kd ≡ picks → e .pick ≡ p) → p ≤ 1 → accepts kd e h ≡ true

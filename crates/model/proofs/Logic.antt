@@ -1,7 +1,7 @@
 -- Booleans, membership of a number in a list, lists without repetition.
 use Prim.Native.Nat.{_+_, suc, zero, ℕ}
 use mathlib.Core.Path.{_∙_, _≡_, refl, sym}
-use mathlib.Core.Bool.{Bool, _&&_, _||_, false, true, true≢false}
+use mathlib.Core.Bool.{Bool, _&&_, _||_, false, or-assoc, or-false, true, true≢false}
 use mathlib.Core.List.{List, [], _++_, _∷_}
 use lib.Dec.{eqb}
 use borrow.Author.Tests.{eq-eqb, eqb-false, eqb-true, ne-eqb}
@@ -45,14 +45,6 @@ pub or-false-r : (a b : Bool) → a || b ≡ false → b ≡ false
 or-false-r true b h = absurd (true≢false h)
 or-false-r false b h = h
 
-pub or-assoc : (a b c : Bool) → (a || b) || c ≡ a || (b || c)
-or-assoc true b c = refl
-or-assoc false b c = refl
-
-pub or-nil : (a : Bool) → a || false ≡ a
-or-nil true = refl
-or-nil false = refl
-
 pub eqb-same : (a : ℕ) → eqb a a ≡ true
 eqb-same a = eq-eqb a a refl
 
@@ -87,7 +79,7 @@ pub mem-append-cases {ℓ} : {C : Type ℓ} (c : ℕ) (s t : List ℕ) → mem c
 mem-append-cases c s t h f g = or-cases (mem c s) (mem c t) (sym (mem-append c s t) ∙ h) f g
 
 pub mem-one : (c d : ℕ) → mem c (d ∷ []) ≡ true → c ≡ d
-mem-one c d h = eqb-true c d (sym (or-nil (eqb c d)) ∙ h)
+mem-one c d h = eqb-true c d (sym (or-false (eqb c d)) ∙ h)
 
 -- sums over the numbers below b
 abbrev pub tsum : ℕ → (ℕ → ℕ) → ℕ

@@ -12,13 +12,11 @@ use Rattle.model.specs.Shape.{core, counters, shape}
 use Rattle.model.proofs.Facts.{heap-closed, heap-kept}
 use Rattle.model.proofs.Folds.{fold-same}
 use Rattle.model.proofs.Logic.{bool-case, clash, mem-cases, mem-here, mem-there}
-use Rattle.model.proofs.Notions.{EveryCore, counted, heads, upd}
-use Rattle.model.proofs.OneMerge.{after-counted, after-heads, after-heap, after-length}
+use Rattle.model.proofs.Notions.{EveryCore, Merges, MergesTo, counted, heads, merge, mergeHeap, no-more, then-more, upd}
+use Rattle.model.proofs.OneMerge.{after-counted, after-heads, after-heap, after-length, merge-expansion, mergeSegs}
 use Rattle.model.proofs.Order.{toured}
 use Rattle.model.proofs.Segments.{counted-ones, counted-single, heads-single, predecessor}
 use Rattle.model.proofs.Walks.{Used}
-pub use Rattle.model.proofs.Notions.{Merges, MergesTo, merge, mergeHeap, no-more, then-more}
-pub use Rattle.model.proofs.OneMerge.{merge-expansion, mergeSegs}
 
 -- each merge keeps the shape and the counters of the segments, and a heap stays a heap
 pub merge-keeps : {W U : Heap} {w u : ℕ → ℕ} → Merges W w U u → (shape U ≡ shape W) × (counted U u ≡ counted W w)

@@ -3,7 +3,7 @@ use Prim.Native.Nat.{_<_, _≤_, ℕ}
 use mathlib.Core.Path.{_∙_, _≡_, ap, ap₂, refl, sym}
 use mathlib.Core.Option.{some}
 use mathlib.Core.Bool.{_&&_, true}
-use mathlib.Core.List.{List, [], map}
+use mathlib.Core.List.{List, [], map, map-map}
 use native.Mathlib.Omega.{arith}
 use lib.Dec.{eqb, ltb}
 use lib.ListN.{getD, length, length-map}
@@ -14,18 +14,17 @@ use Rattle.model.specs.Machine.{leak}
 use Rattle.model.specs.Records.{byte, edgeRecord, guardBytes, locRecord, recordAt, updateCode, word}
 use Rattle.model.specs.Runs.{Config, Step, applied, enabled, guardHolds, leaves, moveOf, nodesAt, taken, updatesOf}
 use Rattle.model.specs.Translate.{Link, Listing, Routine, Tables, linkRecord, tablesOf}
-use Rattle.model.proofs.Bytes.{applied-code, table-record}
+use Rattle.model.proofs.Bytes.{applied-code, records-wide, table-record}
 use Rattle.model.proofs.Checked.{GoodStarts}
 use Rattle.model.proofs.EdgeBack.{edge-branch, edge-from, edge-guard, edge-length, edge-node, edge-to, edge-updates}
 use Rattle.model.proofs.Exact.{LinkGood, link-good}
-use Rattle.model.proofs.Listings.{Exact, WritableLoc, locAt}
-use Rattle.model.proofs.Lists.{In, any-find, any-in, getD-in, getD-map, in-map, map-same, map-two, some-inj, some-none}
+use Rattle.model.proofs.Listings.{Exact, WritableLoc, linkAt, locAt, noLink}
+use Rattle.model.proofs.Lists.{In, any-find, any-in, getD-in, getD-map, map-same, some-inj, some-none}
 use Rattle.model.proofs.Logic.{and-both, and-l, and-r, bool-case}
 use Rattle.model.proofs.Notions.{SmallEdge, guardOn, nodesOf, worth}
 use Rattle.model.proofs.Numbers.{in-numbers, numbers-in}
 use Rattle.model.proofs.Reached.{GoodLoc, good-edge, reached-good}
 use Rattle.model.proofs.ReadBack.{canon-writable, record-length}
-pub use Rattle.model.proofs.Listings.{linkAt, noLink}
 
 -- the move by an edge
 abbrev pub by-link : Config → Link → Step Config
@@ -63,16 +62,12 @@ module _ (r : Routine) (t : Listing) (X : Exact r t) (G : GoodStarts r) (a b : �
 
   -- records of the tables
   pub locs-wide : (x : List ℕ) → In x (map locRecord (t .locs)) → length x ≡ 32
-  locs-wide x q =
-      let m = in-map locRecord x (t .locs) q in
-      ap length (m .2) ∙ record-length (m .0) (good-writable (m .0) (reached-good r G (m .0) (X .sound (m .0) (m .1))))
+  locs-wide = records-wide locRecord (t .locs) (λ l q. record-length l (good-writable l (reached-good r G l (X .sound l q))))
 
   pub links-wide : (x : List ℕ) → In x (map linkRecord (t .links)) → length x ≡ 32
-  links-wide x q =
-      let m = in-map linkRecord x (t .links) q in
-      let k = m .0 in
-      let s = link-small k (link-good r t X k (m .1)) in
-      ap length (m .2) ∙ edge-length (k .from) (k .dest) (k .edge) (omega (arith, s .0 .number, nodes-few (k .edge .to) (s .1)))
+  links-wide = records-wide linkRecord (t .links) (λ k q.
+      let s = link-small k (link-good r t X k q) in
+      edge-length (k .from) (k .dest) (k .edge) (omega (arith, s .0 .number, nodes-few (k .edge .to) (s .1))))
 
   pub loc-record : (i : ℕ) → i < length (t .locs) → recordAt (T .locBytes) i ≡ locRecord (locAt (t .locs) i)
   loc-record i h =
@@ -105,7 +100,7 @@ module _ (r : Routine) (t : Listing) (X : Exact r t) (G : GoodStarts r) (a b : �
       let nodes : nodesAt T (k .dest) ≡ length us =
       ap (λ x. byte x 3) (loc-record (k .dest) (L .dest-below)) ∙ record-nodes (locAt (t .locs) (k .dest)) ∙ ap nodesOf (L .dest-is) ∙ sym (S .0 .number) in
       let worths : map (applied (c .values)) (map updateCode us) ≡ map (worth (c .values)) us =
-      map-two updateCode (applied (c .values)) us
+      map-map (applied (c .values)) updateCode us
       ∙ map-same (λ u. applied (c .values) (updateCode u)) (worth (c .values)) us
       (λ u i. let s = S .0 .small u i in applied-code u (c .values) (let z = s .1 in omega arith) (let z = s .0 in omega arith)) in
       let vals : map (applied (c .values)) (updatesOf (nodesAt T (word R 4)) R) ≡ map (worth (c .values)) us =

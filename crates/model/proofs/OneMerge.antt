@@ -2,7 +2,7 @@
 use Prim.Native.Nat.{_+_, suc, ℕ}
 use mathlib.Core.Path.{_∙_, _≡_, ap, ap₂, refl, subst, sym}
 use mathlib.Core.Bool.{cond, false, true}
-use mathlib.Core.List.{List, [], _++_, _∷_, map}
+use mathlib.Core.List.{List, [], _∷_, map, map-map}
 use native.Mathlib.Omega.{arith}
 use lib.Dec.{eqb}
 use lib.ListN.{length}
@@ -15,17 +15,14 @@ use Rattle.model.proofs.Cores.{not-pointed, one-holder}
 use Rattle.model.proofs.Effects.{next-put}
 use Rattle.model.proofs.Facts.{heap-closed, heap-kept, is-heap}
 use Rattle.model.proofs.Folds.{Kept, grow, kept-down, order-cat, segments-grow}
-use Rattle.model.proofs.Lists.{In, map-id, map-same, map-two}
+use Rattle.model.proofs.Lists.{In, map-id, map-same}
 use Rattle.model.proofs.Logic.{NoDup, clash, eq-case, eqb-sym, mem-cases, mem-here, mem-one, mem-there, or-false-l, or-false-r}
 use Rattle.model.proofs.Notions.{Chain, Expands, Expansion, cat, counted, heads, img, mergeHeap, upd}
 use Rattle.model.proofs.Order.{toured}
 use Rattle.model.proofs.Segments.{predecessor}
+use Rattle.model.proofs.Slices.{sum-append}
 use Rattle.model.proofs.Walks.{AllClosed, Closed, Used, closed-in, in-closed, seg}
 use Rattle.model.proofs.Writes.{slot-clash, upd-at, upd-off}
-
-sum-append : (w : ℕ → ℕ) (s t : List ℕ) → sum w (s ++ t) ≡ sum w s + sum w t
-sum-append w [] t = omega arith
-sum-append w (c ∷ s) t = let r = sum-append w s t in omega arith
 
 -- the heap before, seen from the heap after: each cell is a chain of its own, but p, which is followed by d
 abbrev pub mergeSegs : ℕ → ℕ → ℕ → Seg
@@ -148,7 +145,7 @@ module _ (W : Heap) (p d : ℕ) (x : IsHeap W) (u : Used (next W) d) (n : core W
   after-sums : (w : ℕ → ℕ) (ss : List Seg)
       → map (λ (s : Seg). sum w (cells s)) (map (grow (mergeSegs p d)) ss) ≡ map (λ (s : Seg). sum (upd w p (w p + w d)) (cells s)) ss
   after-sums w ss =
-      map-two (grow (mergeSegs p d)) (λ (s : Seg). sum w (cells s)) ss
+      map-map (λ (s : Seg). sum w (cells s)) (grow (mergeSegs p d)) ss
       ∙ map-same (λ (s : Seg). sum w (cat (mergeSegs p d) (cells s))) (λ (s : Seg). sum (upd w p (w p + w d)) (cells s)) ss (λ s i. after-sum w (cells s))
 
   pub after-counted : (w : ℕ → ℕ) → counted (mergeHeap p d W) (upd w p (w p + w d)) ≡ counted W w
@@ -156,7 +153,7 @@ module _ (W : Heap) (p d : ℕ) (x : IsHeap W) (u : Used (next W) d) (n : core W
 
   after-firsts : (ss : List Seg) → map (λ (s : Seg). s .first) (map (grow (mergeSegs p d)) ss) ≡ map (λ (s : Seg). s .first) ss
   after-firsts ss =
-      map-two (grow (mergeSegs p d)) (λ (s : Seg). s .first) ss
+      map-map (λ (s : Seg). s .first) (grow (mergeSegs p d)) ss
       ∙ map-same (λ (s : Seg). mergeSegs p d (s .first) .first) (λ (s : Seg). s .first) ss (λ s i. seg-first (s .first))
 
   pub after-heads : heads (mergeHeap p d W) ≡ heads W

@@ -10,7 +10,7 @@ use Rattle.model.specs.Edges.{failed}
 use Rattle.model.specs.Machine.{leak}
 use Rattle.model.specs.Records.{locRecord, recordAt}
 use Rattle.model.specs.Translate.{Checked, Explored, Listing, Outcome, Refusal, Routine, Tables, bad, check, full, good, linkRecord, listed, listedWith, listing, places, refusal, refusedWith, tableOf, tablesOf, translate}
-use Rattle.model.proofs.Bytes.{table-length, table-rest}
+use Rattle.model.proofs.Bytes.{table-empty, table-length, table-rest}
 use Rattle.model.proofs.Checked.{GoodStarts, check-good, good-inj}
 use Rattle.model.proofs.Exact.{listing-exact}
 use Rattle.model.proofs.Listing.{listing-whole, outcome-case}
@@ -39,15 +39,12 @@ translate-cases s a b = by-check (check s) refl
     by-check (good r) e = outcome-case (listing r (places 1024 a) (places 2048 b))
         (λ x p. inr (inl (r, x, e, p, rw (e, translate) (rw (p, translate))))) (λ t p. inr (inr (r, t, e, p, rw (e, translate) (rw (p, translate)))))
 
-zero-table : (n : ℕ) → tableOf n [] ≡ replicate n 0
-zero-table n = let e : n - 32 * 0 ≡ n = omega arith in ap (λ m. replicate m 0) e
-
 -- what a refusal leaves: "both tables all zero, and both counts 0"
 abbrev pub Cleared : ℕ → ℕ → Tables → Type 0
 Cleared a b t = (t .locBytes ≡ replicate a 0) × (t .edgeBytes ≡ replicate b 0) × (t .locCount ≡ 0) × (t .edgeCount ≡ 0)
 
 cleared : (a b : ℕ) (x : Refusal) → Cleared a b (refusedWith a b x .tables)
-cleared a b x = (zero-table a, zero-table b, refl, refl)
+cleared a b x = (table-empty a, table-empty b, refl, refl)
 
 pub refused-tables : (s : List ℕ) (a b : ℕ) → (translate s a b .refused .number ≡ 0 → ⊥) → Cleared a b (translate s a b .tables)
 refused-tables s a b z = by-case (translate-cases s a b)

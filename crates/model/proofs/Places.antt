@@ -13,11 +13,10 @@ use Rattle.model.specs.Heap.{Heap}
 use Rattle.model.specs.Machine.{Stmt}
 use Rattle.model.specs.Translate.{Listing, Refusal, Routine, addEdges, explore, full, listed, listing, refusal}
 use Rattle.model.proofs.Listing.{add-found, add-listed, any-loc, edge-locs, explore-end, explore-full, explore-next, explored-end, explored-prefix, extend-links, extend-prefix, full-listed, listing-whole, loc-place, outcome-case, placed-edge}
-use Rattle.model.proofs.Listings.{Placed, addEdge, explored, extend, locAt}
+use Rattle.model.proofs.Listings.{NoPlace, Placed, Refused, Why, addEdge, explored, extend, locAt, no-edge, no-location}
 use Rattle.model.proofs.Lists.{In}
 use Rattle.model.proofs.Logic.{bool-case, eq-case}
 use Rattle.model.proofs.Same.{place-le, place-none, prefix-length}
-pub use Rattle.model.proofs.Listings.{NoPlace, Refused, Why, no-edge, no-location}
 
 -- edges that have places are added
 pub add-fits : (cl ce i : ℕ) (es : List Edge) (t : Listing) → Placed cl ce (extend i es t) → addEdges cl ce i es t ≡ listed (extend i es t)

@@ -12,11 +12,10 @@ use Rattle.model.specs.Heap.{Heap, Slot, Val, cell, eachUsed, holds, kep
 use Rattle.model.proofs.Facts.{kept-test, test-kept}
 use Rattle.model.proofs.Lists.{In}
 use Rattle.model.proofs.Logic.{bool-case, clash, mem-append-cases, mem-append-l, mem-append-r, mem-here, mem-one, not-true}
+use Rattle.model.proofs.Notions.{Reaches, along, from-pointer}
 use Rattle.model.proofs.Order.{toured}
 use Rattle.model.proofs.Walks.{ClosedHeap, Tours, Used, Walks, at-null, at-seen, at-undef, go, tour-done, tour-more}
 use Rattle.model.proofs.Writes.{holds-inj}
-pub use Rattle.model.proofs.Notions.{Reaches, along, from-pointer}
-pub use Rattle.model.proofs.Order.{order-once}
 
 val-clash {ℓ} : {C : Type ℓ} {v : Val} {c : ℕ} → cell c ≡ v → v ≡ null ⊎ v ≡ undef → C
 val-clash {v} {c} e (inl q) = absurd (let z : _≡_ {A = ℕ} 0 1 = cc in omega arith)

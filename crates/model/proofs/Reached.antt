@@ -11,19 +11,18 @@ use borrow.Author.Tests.{eq-eqb, le-leb}
 use Rattle.model.specs.Edges.{Edge, Guard, Loc, Way, access, always, at, edgeBy, edgesAt, edgesOf, failed, isMore, isOne, picksOf, stepBy, stmtAt, ways, waysAt, whole}
 use Rattle.model.specs.Heap.{Heap, Val, cell, holds, inUse, kept, next, null, ptr, undef, unused}
 use Rattle.model.specs.Image.{spread, unfoldHeap}
-use Rattle.model.specs.Machine.{Effect, Entry, Op, Stmt, answerOf, branch, choose, clear, copy, done, effect, fault, free, freeVal, held, isNull, keep, kind, load, new, putSlot, run, same, setNull, setPtr, skip, step, stop, store, through, wipe}
+use Rattle.model.specs.Machine.{Effect, Entry, Op, Stmt, answerOf, branch, choose, clear, copy, done, effect, fault, free, freeVal, held, isNull, kind, load, new, putSlot, run, same, setNull, setPtr, skip, step, stop, store, through, wipe}
 use Rattle.model.specs.Runs.{State, Status, Step, made, past, running}
 use Rattle.model.specs.Shape.{counters, nodeVal, segments}
 use Rattle.model.specs.Translate.{Routine}
 use Rattle.model.proofs.Canon.{Canon, fold-canon}
 use Rattle.model.proofs.Checked.{GoodStarts}
-use Rattle.model.proofs.Facts.{heap-closed, heap-kept, kept-test}
+use Rattle.model.proofs.Facts.{heap-closed, heap-kept, keep-any, kept-test}
 use Rattle.model.proofs.Guards.{edges-cover, edges-exclude}
 use Rattle.model.proofs.Leave.{Fit, MatchIn, begin}
 use Rattle.model.proofs.Listings.{Reached, by-edge, from-start}
 use Rattle.model.proofs.Lists.{In, Pairs, getD-default, in-joined, in-map, some-inj}
 use Rattle.model.proofs.Location.{leave-backward, way-guard}
-use Rattle.model.proofs.Logic.{bool-case}
 use Rattle.model.proofs.Notions.{Exclude, Positive, SmallEdge, guardOn, nodesOf, worth}
 use Rattle.model.proofs.Order.{used-below}
 use Rattle.model.proofs.Picks.{made-goes}
@@ -61,15 +60,11 @@ effect-ptrs (same u w) n h = refl
 effect-ptrs choose n h = refl
 effect-ptrs skip n h = refl
 
-pub keep-ptrs : (n : ℕ) (x : Effect) → PtrsAre n x → PtrsAre n (keep x)
-keep-ptrs n (fault f) p = tt
-keep-ptrs n (done h) p = bool-case (kept h) (λ e. rw e p) (λ e. rw e tt)
-
 pub made-ptrs : (s : ℕ) (st : Stmt) (e : Entry) (h : Heap) (x : Step State) → made (begin s h) (step st e h) ≡ some x
     → length (x .after .heap .ptrs) ≡ length (h .ptrs)
 made-ptrs s st e h x m =
     let g = made-goes (begin s h) st e h x m in
-    by-run (run (st .op) (e .cellNo) h) (keep-ptrs (length (h .ptrs)) (effect (st .op) (e .cellNo) h) (effect-ptrs (st .op) (e .cellNo) h))
+    by-run (run (st .op) (e .cellNo) h) (keep-any (PtrsAre (length (h .ptrs))) (λ f. tt) (effect (st .op) (e .cellNo) h) (effect-ptrs (st .op) (e .cellNo) h))
     (rw (step-go st e h (g .0) (g .1)) at m)
   where
     by-run : (r : Effect) → PtrsAre (length (h .ptrs)) r → made (begin s h) (answerOf st (branch (st .op) (e .pick) h) r) ≡ some x

@@ -15,14 +15,12 @@ use Rattle.model.specs.Shape.{Seg, last, nodeSlot, nodeVal, segments}
 use Rattle.model.proofs.Bound.{few-nodes}
 use Rattle.model.proofs.Bytes.{filled-length, small-up, val-back}
 use Rattle.model.proofs.Canon.{Canon, canon-fold}
-use Rattle.model.proofs.Listings.{SmallVal}
+use Rattle.model.proofs.Listings.{SmallSlot, SmallVal, Writable, WritableLoc}
 use Rattle.model.proofs.Lists.{all-of, getD-in, in-getD, map-back}
 use Rattle.model.proofs.Logic.{and-both}
 use Rattle.model.proofs.Order.{used-below}
 use Rattle.model.proofs.Start.{end, slot-at}
 use Rattle.model.proofs.Walks.{Closed, Used, closed-in}
-pub use Rattle.model.proofs.EdgeBack.{edge-branch, edge-from, edge-guard, edge-length, edge-node, edge-to, edge-updates}
-pub use Rattle.model.proofs.Listings.{SmallSlot, Writable, WritableLoc}
 
 -- ---- heaps that a record holds
 
@@ -142,7 +140,7 @@ pub record-length : (l : Loc) → WritableLoc l → length (locRecord l) ≡ 32
 record-length (at s h) W = location-length s h W
 record-length (failed s f) W = failed-length s f
 
-fault-positive : (f : Fault) → 1 ≤ faultNumber f
+pub fault-positive : (f : Fault) → 1 ≤ faultNumber f
 fault-positive atNull = omega arith
 fault-positive atUndef = omega arith
 fault-positive leak = omega arith

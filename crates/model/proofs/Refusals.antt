@@ -3,7 +3,7 @@ use Prim.Native.Nat.{_+_, _<_, _≤_, suc, zero, ℕ}
 use mathlib.Core.Path.{_∙_, _≡_, ap, refl, subst, sym}
 use mathlib.Core.Logic.{_⊎_, inl, inr, ⊎-elim}
 use mathlib.Core.Option.{none, some}
-use mathlib.Core.Bool.{Bool, _&&_, _||_, cond, false, not, true}
+use mathlib.Core.Bool.{Bool, _&&_, _||_, cond, false, not, or-false, true}
 use mathlib.Core.List.{List, [], _++_, _∷_, append-nil}
 use native.Mathlib.Nat.{zero-add}
 use native.Mathlib.Omega.{arith}
@@ -16,7 +16,7 @@ use Rattle.model.specs.Shape.{canonical}
 use Rattle.model.specs.Translate.{Refusal, Routine, bad, badKind, badRecord, between, check, checkCounts, checkKinds, checkRecords, good, refusal}
 use Rattle.model.proofs.Checked.{bad-good, good-inj}
 use Rattle.model.proofs.Listings.{BadInput, GoodInput, bad-kind, bad-length, bad-record, bad-shapes, bad-statements, noRecords, recordRefusal, recordsOf, routineOf, wrongKind}
-use Rattle.model.proofs.Logic.{and-l, and-r, bool-case, clash, or-nil, or-r}
+use Rattle.model.proofs.Logic.{and-l, and-r, bool-case, clash, or-r}
 
 -- ---- the first record of a wrong kind
 
@@ -55,7 +55,7 @@ kind-cases after i (r ∷ rs) = bool-case (isH r)
     (λ h. bool-case (isS r && not after)
     (λ s. let a : after ≡ false = not-false after (and-r (isS r) (not after) s) in
     kind-more after false i r rs (rw (h, badKind) (rw (s, badKind))) (rw (h, a, and-l (isS r) (not after) s)) (λ k. rw (h, a)) (kind-cases false (suc i) rs))
-    (λ s. inl (0, rw (h, badKind) (rw (s, badKind) (ap some (omega arith))), omega arith, rw (h, or-nil after, s), λ m l. absurd (omega arith))))
+    (λ s. inl (0, rw (h, badKind) (rw (s, badKind) (ap some (omega arith))), omega arith, rw (h, or-false after, s), λ m l. absurd (omega arith))))
   where
     not-false : (b : Bool) → not b ≡ true → b ≡ false
     not-false true e = clash e refl

@@ -2,32 +2,32 @@
 use Prim.Native.Nat.{_+_, _-_, _<_, _≤_, suc, zero, ℕ}
 use mathlib.Core.Path.{_∙_, _≡_, ap, refl, subst, sym}
 use mathlib.Core.Logic.{inl, inr}
-use mathlib.Core.Bool.{_&&_, _||_, false, true}
+use mathlib.Core.Bool.{_&&_, true}
 use mathlib.Core.List.{List, [], _++_, _∷_, map}
 use native.Mathlib.Omega.{arith}
-use lib.Dec.{eqb, leb, ltb}
+use lib.Dec.{leb}
 use lib.ListN.{drop, getD, length, length-append, length-drop, length-map, replicate, take, take-append-drop}
 use lib.Seq.{drop-at, length-take-le, take-at}
-use borrow.Author.Tests.{le-leb, leb-true, lt-ltb, ne-eqb}
+use borrow.Author.Tests.{le-leb, leb-true, ne-eqb}
 use Rattle.model.specs.Base.{all, sum}
 use Rattle.model.specs.Heap.{Heap, IsHeap, Slot, Val, cell, holds, next, null, order, undef, unused}
-use Rattle.model.specs.Image.{Unfolding, cellBytesOf, cellSlot, foldImage, heapOf, refusalUnfold, unfoldHeap, unfoldImage}
-use Rattle.model.specs.Records.{byte, filled, isZero, layoutH, shapeOf, shapeRecord, slotByte, valByte, valOf, valueByte}
+use Rattle.model.specs.Image.{Unfolding, cellBytesOf, cellSlot, foldImage, heapOf, unfoldHeap, unfoldImage}
+use Rattle.model.specs.Records.{byte, filled, isZero, layoutH, shapeOf, shapeRecord, slotByte, valByte, valOf}
 use Rattle.model.specs.Shape.{Seg, canonical, counters, segments, shape, size}
 use Rattle.model.proofs.Bytes.{all-zero, filled-length, small-up, val-back}
 use Rattle.model.proofs.Canon.{fold-canon}
 use Rattle.model.proofs.Canonical.{canon-canonical, canonical-canon}
 use Rattle.model.proofs.Facts.{heap-closed, heap-kept, test-closed}
-use Rattle.model.proofs.Images.{fold-gives, fold-number, fold-writable, image-accepted, unfold-accepted, unfold-lengths, unfold-number}
+use Rattle.model.proofs.Images.{fold-gives, fold-number, fold-writable, image-accepted, unfold-accepted, unfold-lengths, unfold-number, unfold-zero}
 use Rattle.model.proofs.Iso.{renamed-same}
-use Rattle.model.proofs.Listings.{SmallSlot, SmallVal, Writable}
-use Rattle.model.proofs.Lists.{In, all-in, all-of, getD-in, in-append-cases, in-getD, in-map, map-back, map-id}
-use Rattle.model.proofs.Logic.{and-l, and-r, or-l, or-r}
+use Rattle.model.proofs.Listings.{SmallVal, Writable}
+use Rattle.model.proofs.Lists.{In, all-in, all-of, getD-in, in-getD, in-map, map-back, map-id}
+use Rattle.model.proofs.Logic.{and-l, and-r}
 use Rattle.model.proofs.Notions.{Positive, Renames, flat, renameVal}
 use Rattle.model.proofs.Order.{order-once, pigeon, toured, used-below}
 use Rattle.model.proofs.ReadBack.{shape-length, shape-shape}
 use Rattle.model.proofs.SameShape.{same-renamed}
-use Rattle.model.proofs.ShapeBack.{layout-closed, layout-few, layout-slots, shape-record-back}
+use Rattle.model.proofs.ShapeBack.{layout-closed, layout-few, layout-slots, shape-record-back, values-length, values-pass}
 use Rattle.model.proofs.Start.{flat-is}
 use Rattle.model.proofs.Unfold.{counters-unfold, shape-unfold, unfold-is-heap, unfold-length}
 use Rattle.model.proofs.Walks.{Closed, ClosedHeap, closed-in}
@@ -103,11 +103,6 @@ counters-room h x =
 
 -- ---- unfolding, then folding
 
-unfolded : (r vs ps cs : List ℕ) → refusalUnfold r vs (length ps) (length cs) ≡ 0 → let g = unfoldHeap (shapeOf r) (take (byte r 3) vs) in
-    unfoldImage r vs ps cs ≡ record { refusal = 0; ptrBytes = map valByte (g .ptrs); cellBytes = cellBytesOf (length cs) g }
-unfolding unfoldImage
-unfolded r vs ps cs e = rw (e, unfoldImage)
-
 -- what an accepted unfolding leaves is a heap of the shape read, with the counters given
 unfolded-heap : (r vs ps cs : List ℕ) → length vs ≡ 12 → unfoldImage r vs ps cs .refusal ≡ 0
     → let h = heapOf (unfoldImage r vs ps cs .ptrBytes) (unfoldImage r vs ps cs .cellBytes) in
@@ -130,7 +125,7 @@ unfolded-heap r vs ps cs l z =
     let short : length (g .slots) ≤ 240 = omega (arith, unfold-length S ws len, sum-filled ws (12 - length ws), ap (sum (λ v. v)) F, A .1) in
     let I = unfold-is-heap S C ws len pos in
     let R = renamed-same (λ c. c) g (heapOf (map valByte (g .ptrs)) (cellBytesOf (length cs) g)) I (heap-read g (heap-closed g I) short (length cs)) in
-    let q = ap (λ (u : Unfolding). heapOf (u .ptrBytes) (u .cellBytes)) (unfolded r vs ps cs e) in
+    let q = ap (λ (u : Unfolding). heapOf (u .ptrBytes) (u .cellBytes)) (unfold-zero r vs ps cs e) in
     (subst IsHeap (sym q) (R .0), ap shape q ∙ R .1 ∙ shape-unfold S C ws len pos, ap counters q ∙ R .2 ∙ counters-unfold S C ws len pos, F)
 
 -- folding what an accepted unfolding leaves is accepted, and gives back the record and the counters that were unfolded
@@ -149,12 +144,6 @@ unfold-fold-bytes r vs ps cs l z =
 
 -- ---- folding, then unfolding
 
-slot-passes : (k : ℕ) (s : Slot) → SmallSlot k s → valueByte k (slotByte s) ≡ true
-slot-passes k unused h = absurd h
-slot-passes k (holds (cell n)) h = or-l (ltb n k || eqb n 0xfe) (eqb n 0xff) (or-l (ltb n k) (eqb n 0xfe) (lt-ltb n k h))
-slot-passes k (holds null) h = or-l (ltb 0xfe k || true) false (or-r (ltb 0xfe k) true refl)
-slot-passes k (holds undef) h = or-r (ltb 0xff k || false) true refl
-
 -- the record of a shape keeps the layout
 layout-written : (h : Heap) → Writable h → layoutH (shapeRecord h) ≡ true
 layout-written h W =
@@ -162,15 +151,11 @@ layout-written h W =
     let ps = map valByte (h .ptrs) in
     let ss = map slotByte (h .slots) in
     let z : List ℕ = replicate (28 - length (ps ++ ss)) 0 in
-    let l : length (ps ++ ss) ≡ 6 + k = omega (arith, length-append ps ss, length-map (h .ptrs) valByte, length-map (h .slots) slotByte, W .six) in
-    let v : all (valueByte k) (take (6 + k) ((ps ++ ss) ++ z)) ≡ true =
-    ap (all (valueByte k)) (take-at (ps ++ ss) z (6 + k) l) ∙ all-of (valueByte k) (ps ++ ss) (λ b i. in-append-cases b ps ss i
-    (λ j. let r = in-map valByte b (h .ptrs) j in ap (valueByte k) (r .2) ∙ slot-passes k (holds (r .0)) (W .pointers (r .0) (r .1)))
-    (λ j. let r = in-map slotByte b (h .slots) j in ap (valueByte k) (r .2) ∙ slot-passes k (r .0) (W .nexts (r .0) (r .1)))) in
+    let l = values-length h W in
     let e : suc (suc (suc (suc (6 + k)))) ≡ 10 + k = omega arith in
     let o : all isZero (drop (10 + k) (shapeRecord h)) ≡ true = subst (λ n. all isZero (drop n (shapeRecord h)) ≡ true) e
     (ap (all isZero) (drop-at (ps ++ ss) z (6 + k) l) ∙ zeros-pass (28 - length (ps ++ ss))) in
-    rw (le-leb k 12 (W .few), v, o)
+    rw (le-leb k 12 (W .few), values-pass h W, o)
 
 -- unfolding what an accepted fold gives is accepted where there is room for the cells, and leaves the heap with its cells renamed
 pub fold-unfold-bytes : (ps cs qs ds : List ℕ) → foldImage ps cs .refusal ≡ 0 → length qs ≡ 6 → length cs ≤ length ds → length ds ≤ 240

@@ -14,9 +14,8 @@ use Rattle.model.specs.Base.{any, placeOf, sameList}
 use Rattle.model.specs.Edges.{Loc, at, failed, sameLoc}
 use Rattle.model.specs.Heap.{Heap, Slot, Val, cell, holds, null, sameHeap, sameSlot, sameVal, undef, unused}
 use Rattle.model.specs.Machine.{Fault, atNull, atUndef, faultNumber, leak}
-use Rattle.model.proofs.Lists.{In, getD-in, in-append-cases, in-append-l}
+use Rattle.model.proofs.Lists.{Distinct, In, getD-in, in-append-cases, in-append-l}
 use Rattle.model.proofs.Logic.{and-both, and-l, and-r, bool-case, clash, eqb-same, or-false-l, or-false-r}
-pub use Rattle.model.proofs.Lists.{Distinct, any-in}
 
 pub val-same : (v w : Val) → sameVal v w ≡ true → v ≡ w
 val-same (cell c) (cell d) e = ap cell (eqb-true c d e)

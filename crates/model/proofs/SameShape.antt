@@ -2,7 +2,7 @@
 use Prim.Native.Nat.{_<_, suc, zero, ℕ}
 use mathlib.Core.Path.{_∙_, _≡_, ap, ap₂, refl, subst, sym}
 use mathlib.Core.Bool.{cond, false, true}
-use mathlib.Core.List.{List, [], _++_, _∷_, head-eq-of-cons-eq, map, tail-eq-of-cons-eq}
+use mathlib.Core.List.{List, [], _++_, _∷_, head-eq-of-cons-eq, map, map-map, tail-eq-of-cons-eq}
 use native.Mathlib.Omega.{arith}
 use lib.Dec.{eqb}
 use lib.ListN.{length, length-append, length-map}
@@ -13,7 +13,6 @@ use Rattle.model.specs.Shape.{Seg, cells, counters, last, nodeSlot, segm
 use Rattle.model.proofs.Canon.{fold-canon}
 use Rattle.model.proofs.Facts.{heap-closed, heap-kept}
 use Rattle.model.proofs.Folds.{chain-used}
-use Rattle.model.proofs.Lists.{map-two}
 use Rattle.model.proofs.Logic.{NoDup, clash, eqb-same, eqb-sym, mem-cases, mem-here, mem-one, mem-there, or-false-l, or-false-r}
 use Rattle.model.proofs.Notions.{Chain, Expansion, Positive, Renames, flat, img, renameVal, segAt}
 use Rattle.model.proofs.Order.{toured, used-below}
@@ -59,7 +58,7 @@ module _ (W a b : Heap) (sa sb : ℕ → Seg) (A : Expansion W sa a) (B : Expans
   rename-val (cell n) k = ap cell (head-eq-of-cons-eq (carried n k))
 
   rename-vals : (vs : List Val) → AllClosed (next W) vs → map (renameVal f) (map (img sa) vs) ≡ map (img sb) vs
-  rename-vals vs k = map-two (img sa) (renameVal f) vs ∙ map-closed (next W) (λ v. renameVal f (img sa v)) (img sb) vs rename-val k
+  rename-vals vs k = map-map (renameVal f) (img sa) vs ∙ map-closed (next W) (λ v. renameVal f (img sa v)) (img sb) vs rename-val k
 
   chain-b : (n : ℕ) (v : Val) → next W n ≡ holds v → Chain (next b) (f (sa n .first)) (map f (sa n .rest)) (renameVal f (img sa v))
   chain-b n v e =

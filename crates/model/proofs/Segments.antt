@@ -10,18 +10,17 @@ use Rattle.model.specs.Base.{mem, sum}
 use Rattle.model.specs.Heap.{Heap, IsHeap, Slot, Val, cell, holds, next, order}
 use Rattle.model.specs.Shape.{Seg, cells, core, counters, segments, size}
 use Rattle.model.proofs.Bound.{few-nodes, segment-is}
+use Rattle.model.proofs.Cores.{not-pointed, one-holder}
 use Rattle.model.proofs.Facts.{heap-closed, heap-kept}
 use Rattle.model.proofs.Folds.{Kept, chain-used}
 use Rattle.model.proofs.Lists.{map-same}
 use Rattle.model.proofs.Logic.{NoDup, clash, mem-cases, mem-here, mem-there}
-use Rattle.model.proofs.Notions.{Chain, Reaches, along, flat, from-pointer, segAt}
+use Rattle.model.proofs.Notions.{Chain, EveryCore, IsSegment, Reaches, along, counted, flat, from-pointer, heads, segAt}
 use Rattle.model.proofs.Order.{toured}
 use Rattle.model.proofs.Reach.{kept-reaches}
 use Rattle.model.proofs.Start.{flat-is, seg-apart, where-is}
 use Rattle.model.proofs.Walks.{ClosedHeap, Used}
 use Rattle.model.proofs.Writes.{holds-inj}
-pub use Rattle.model.proofs.Cores.{core-is, not-pointed, one-holder}
-pub use Rattle.model.proofs.Notions.{EveryCore, IsSegment, counted, heads}
 
 no-loop : (h : Heap) (d : ℕ) → Reaches h d → core h d ≡ false → next h d ≡ holds (cell d) → ⊥
 no-loop h d (from-pointer i) n e = not-pointed h d n i
@@ -64,26 +63,18 @@ module _ (h : Heap) (x : IsHeap h) where
   kp : Kept h
   kp = heap-kept h x
 
-  -- a cell in use stands in one segment
-  pub in-segment : (c : ℕ) → Used (next h) c → (n : ℕ) × (n < length (segments h)) × (mem c (cells (segAt (segments h) n)) ≡ true)
-  in-segment = where-is h cl kp
-
-  pub in-one-segment : (n m c : ℕ) → n < length (segments h) → m < length (segments h)
-      → mem c (cells (segAt (segments h) n)) ≡ true → mem c (cells (segAt (segments h) m)) ≡ true → n ≡ m
-  in-one-segment = seg-apart h cl kp
-
   -- every core cell in use is the first cell of exactly one segment
   pub core-first : (c : ℕ) → Used (next h) c → core h c ≡ true
       → (n : ℕ) × (n < length (segments h)) × (segAt (segments h) n .first ≡ c) × ((m : ℕ) → m < length (segments h) → segAt (segments h) m .first ≡ c → m ≡ n)
   core-first c u k =
-      let r = in-segment c u in
+      let r = where-is h cl kp c u in
       let s = segAt (segments h) (r .0) in
       let here : (m : ℕ) → mem (segAt (segments h) m .first) (cells (segAt (segments h) m)) ≡ true =
       λ m. mem-here (segAt (segments h) m .first) (segAt (segments h) m .rest) in (
         r .0,
         r .1,
         mem-cases c (s .first) (s .rest) (r .2) sym (λ q. clash k (segments-are h x (r .0) (r .1) .after c q)),
-        λ m q e. in-one-segment m (r .0) c q (r .1) (subst (λ y. mem y (cells (segAt (segments h) m)) ≡ true) e (here m)) (r .2),
+        λ m q e. seg-apart h cl kp m (r .0) c q (r .1) (subst (λ y. mem y (cells (segAt (segments h) m)) ≡ true) e (here m)) (r .2),
       )
 
   -- "A shape has 0 to 12 nodes."

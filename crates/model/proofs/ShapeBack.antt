@@ -1,20 +1,21 @@
 -- A shape record that keeps the layout is written again as it stood, and its shape can be written and is closed.
-use Prim.Native.Nat.{_+_, _-_, _≤_, suc, ℕ}
-use mathlib.Core.Path.{_∙_, _≡_, ap, ap₂, subst, sym}
-use mathlib.Core.Bool.{_&&_, _||_, true}
+use Prim.Native.Nat.{_+_, _-_, _<_, _≤_, suc, ℕ}
+use mathlib.Core.Path.{_∙_, _≡_, ap, ap₂, refl, subst, sym}
+use mathlib.Core.Bool.{_&&_, _||_, false, true}
 use mathlib.Core.List.{List, [], _++_, _∷_, map}
 use native.Mathlib.Omega.{arith}
 use lib.Dec.{eqb, leb, ltb}
-use lib.ListN.{drop, length, length-drop, length-map, replicate, take, take-append-drop}
-use lib.Seq.{length-take-le, take-add}
-use borrow.Author.Tests.{eqb-true, leb-true, ltb-true}
+use lib.ListN.{drop, length, length-append, length-drop, length-map, replicate, take, take-append-drop}
+use lib.Seq.{length-take-le, take-add, take-at}
+use borrow.Author.Tests.{eqb-true, leb-true, lt-ltb, ltb-true, ne-eqb}
 use Rattle.model.specs.Base.{all}
-use Rattle.model.specs.Heap.{Slot, closed, holds, inUse}
+use Rattle.model.specs.Heap.{Heap, Slot, Val, cell, closed, holds, inUse, null, undef, unused}
+use Rattle.model.specs.Image.{cellSlot, heapOf}
 use Rattle.model.specs.Records.{byte, filled, isZero, layoutH, shapeOf, shapeRecord, slotByte, valByte, valOf, valueByte}
 use Rattle.model.proofs.Bytes.{all-zero, byte-back}
 use Rattle.model.proofs.Listings.{SmallSlot, SmallVal, Writable}
-use Rattle.model.proofs.Lists.{In, all-in, in-append-l, in-append-r, in-map, map-back}
-use Rattle.model.proofs.Logic.{and-l, and-r, bool-case, clash, or-cases}
+use Rattle.model.proofs.Lists.{In, all-in, all-of, in-append-cases, in-append-l, in-append-r, in-map, map-back, map-in, map-same}
+use Rattle.model.proofs.Logic.{and-l, and-r, bool-case, clash, or-cases, or-l, or-r}
 use Rattle.model.proofs.ReadBack.{writable-closed}
 
 -- the bytes of a record that keeps the layout, from byte 4 on, for k nodes
@@ -81,6 +82,37 @@ value-small k b q = bool-case (eqb b 0xfe) (λ e. rw e tt) (λ e. bool-case (eqb
     (λ f. rw (e, f) (or-cases (ltb b k || eqb b 0xfe) (eqb b 0xff) q
     (λ g. or-cases (ltb b k) (eqb b 0xfe) g (ltb-true b k) (λ z. clash z e)) (λ g. clash g f))))
 
+-- and the bytes of such values pass
+pub value-passes : (k : ℕ) (v : Val) → SmallVal k v → valueByte k (valByte v) ≡ true
+value-passes k (cell n) h = or-l (ltb n k || eqb n 0xfe) (eqb n 0xff) (or-l (ltb n k) (eqb n 0xfe) (lt-ltb n k h))
+value-passes k null h = or-l (ltb 0xfe k || true) false (or-r (ltb 0xfe k) true refl)
+value-passes k undef h = or-r (ltb 0xff k || false) true refl
+
+pub slot-passes : (k : ℕ) (s : Slot) → SmallSlot k s → valueByte k (slotByte s) ≡ true
+slot-passes k unused h = absurd h
+slot-passes k (holds v) h = value-passes k v h
+
+-- the bytes that a shape is written with
+module _ (h : Heap) (W : Writable h) where
+  pub values-length : length (map valByte (h .ptrs) ++ map slotByte (h .slots)) ≡ 6 + length (h .slots)
+  values-length = omega (
+    arith,
+    length-append (map valByte (h .ptrs)) (map slotByte (h .slots)),
+    length-map (h .ptrs) valByte,
+    length-map (h .slots) slotByte,
+    W .six,
+  )
+
+  pub values-pass : all (valueByte (length (h .slots))) (take (6 + length (h .slots)) (filled 28 (map valByte (h .ptrs) ++ map slotByte (h .slots)))) ≡ true
+  values-pass =
+      let k = length (h .slots) in
+      let ps = map valByte (h .ptrs) in
+      let ss = map slotByte (h .slots) in
+      ap (all (valueByte k)) (take-at (ps ++ ss) (replicate (28 - length (ps ++ ss)) 0) (6 + k) values-length)
+      ∙ all-of (valueByte k) (ps ++ ss) (λ b i. in-append-cases b ps ss i
+      (λ j. let r = in-map valByte b (h .ptrs) j in ap (valueByte k) (r .2) ∙ value-passes k (r .0) (W .pointers (r .0) (r .1)))
+      (λ j. let r = in-map slotByte b (h .slots) j in ap (valueByte k) (r .2) ∙ slot-passes k (r .0) (W .nexts (r .0) (r .1))))
+
 -- an accepted shape record is what its shape is written as
 module _ (r : List ℕ) (l : length r ≡ 32) (h : layoutH r ≡ true) where
   pub shape-record-back : shapeRecord (shapeOf r) ≡ r
@@ -125,3 +157,18 @@ module _ (r : List ℕ) (l : length r ≡ 32) (h : layoutH r ≡ true) where
 
   pub layout-closed : closed (shapeOf r) ≡ true
   layout-closed = writable-closed (shapeOf r) layout-writable
+
+  -- its bytes as a heap image: no successor byte is the mark of a cell that is not in use
+  byte-used : (b : ℕ) → In b (take (byte r 3) (drop 10 r)) → b ≡ 0xfd → ⊥
+  byte-used b i e =
+      let few = layout-few in
+      let n = layout-slots in
+      let z : SmallSlot (length (shapeOf r .slots)) (holds (valOf b)) = layout-writable .nexts _ (map-in (λ x. holds (valOf x)) b (take (byte r 3) (drop 10 r)) i) in
+      let y : 0xfd < length (shapeOf r .slots) = subst (λ x. SmallSlot (length (shapeOf r .slots)) (holds (valOf x))) e z in
+      omega arith
+
+  pub shape-image : shapeOf r ≡ heapOf (take 6 (drop 4 r)) (take (byte r 3) (drop 10 r))
+  shape-image = λ j. record {
+    ptrs = map valOf (take 6 (drop 4 r));
+    slots = map-same (λ b. holds (valOf b)) cellSlot (take (byte r 3) (drop 10 r)) (λ b i. rw (ne-eqb b 0xfd (byte-used b i))) j;
+  }

@@ -7,13 +7,14 @@ use native.Mathlib.Omega.{arith}
 use lib.ListN.{length, length-map}
 use Rattle.model.specs.Base.{mem}
 use Rattle.model.specs.Edges.{splitHeap}
-use Rattle.model.specs.Heap.{Heap, Slot, Val, cell, holds, kept, next, null, order, ptr, undef, unused}
-use Rattle.model.specs.Machine.{Effect, Op, choose, clear, copy, done, effect, fault, free, freeVal, held, isNull, keep, load, new, put, putSlot, run, same, setNull, setPtr, skip, stop, store, through, wipeSlot}
+use Rattle.model.specs.Heap.{Heap, Slot, Val, cell, holds, next, null, order, ptr, undef, unused}
+use Rattle.model.specs.Machine.{Effect, Op, choose, clear, copy, done, effect, fault, free, freeVal, held, isNull, load, new, put, putSlot, run, same, setNull, setPtr, skip, stop, store, through, wipeSlot}
 use Rattle.model.specs.Shape.{Seg, cells, core, segments}
 use Rattle.model.proofs.Cuts.{flat-cut, nodup-l, nodup-r}
 use Rattle.model.proofs.Effects.{closed-ptr}
+use Rattle.model.proofs.Facts.{keep-any}
 use Rattle.model.proofs.Folds.{Alls}
-use Rattle.model.proofs.Logic.{NoDup, bool-case, mem-append-l, mem-append-r}
+use Rattle.model.proofs.Logic.{NoDup, mem-append-l, mem-append-r}
 use Rattle.model.proofs.Notions.{flat}
 use Rattle.model.proofs.Order.{toured, used-below}
 use Rattle.model.proofs.Walks.{Closed, ClosedHeap}
@@ -67,12 +68,8 @@ effect-short (same u w) n b h cl l q = l
 effect-short choose n b h cl l q = l
 effect-short skip n b h cl l q = l
 
-keep-short : (b : ℕ) (x : Effect) → Short b x → Short b (keep x)
-keep-short b (fault f) s = tt
-keep-short b (done h) s = bool-case (kept h) (λ e. rw e s) (λ e. rw e tt)
-
 pub run-short : (op : Op) (n b : ℕ) (h : Heap) → ClosedHeap h → length (h .slots) ≤ b → n < b → Short b (run op n h)
-run-short op n b h cl l q = keep-short b (effect op n h) (effect-short op n b h cl l q)
+run-short op n b h cl l q = keep-any (Short b) (λ f. tt) (effect op n h) (effect-short op n b h cl l q)
 
 -- the cells of a segment are different, and below the number of slots
 abbrev pub Neat : ℕ → Seg → Type 0

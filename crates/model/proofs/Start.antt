@@ -9,15 +9,13 @@ use Rattle.model.specs.Base.{mem}
 use Rattle.model.specs.Heap.{Heap, Val, cell, holds, next, null, order, undef, unused}
 use Rattle.model.specs.Shape.{Seg, cells, core, last, node, nodeSlot, nodeVal, segments, shape}
 use Rattle.model.proofs.Cores.{mem-last, one-holder}
-use Rattle.model.proofs.Cuts.{cuts-trail, flat-apart, flat-mem, flat-nodup, inner-has, mem-flat, tours-trail}
+use Rattle.model.proofs.Cuts.{AllCore, Cuts, Head, alls-at, core-of-pointed, cuts-trail, flat-apart, flat-cut, flat-mem, flat-nodup, inner-has, linked-chain, mem-flat, node-head, tours-trail}
 use Rattle.model.proofs.Folds.{Alls, Kept}
 use Rattle.model.proofs.Lists.{getD-map}
 use Rattle.model.proofs.Logic.{NoDup, clash, mem-cases, or-l}
-use Rattle.model.proofs.Notions.{Expansion, img}
+use Rattle.model.proofs.Notions.{Expansion, flat, img, segAt}
 use Rattle.model.proofs.Order.{toured, used-below}
 use Rattle.model.proofs.Walks.{AllClosed, Closed, ClosedHeap, Used, holders, pointed, seg}
-pub use Rattle.model.proofs.Cuts.{AllCore, Cuts, Head, Linked, alls-at, core-of-pointed, flat-cut, linked-chain, node-head, nodup-l, nodup-r}
-pub use Rattle.model.proofs.Notions.{flat, segAt}
 
 module _ (h : Heap) (cl : ClosedHeap h) (kp : Kept h) where
   pub cuts-good : Alls (Cuts (next h) (core h)) (segments h)
@@ -27,6 +25,7 @@ module _ (h : Heap) (cl : ClosedHeap h) (kp : Kept h) where
   pub flat-is : flat (segments h) ≡ order h
   flat-is = flat-cut (core h) (order h)
 
+  -- a cell in use stands in one segment
   pub where-is : (c : ℕ) → Used (next h) c → (n : ℕ) × (n < length (segments h)) × (mem c (cells (segAt (segments h) n)) ≡ true)
   where-is c u = flat-mem (segments h) c (rw flat-is (kp c u))
 

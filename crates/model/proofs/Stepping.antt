@@ -8,17 +8,17 @@ use native.Mathlib.Omega.{arith}
 use lib.Dec.{eqb, ltb}
 use lib.ListN.{length, length-map}
 use borrow.Author.Tests.{leb-false}
-use Rattle.model.specs.Heap.{Heap, Slot, Val, cell, holds, kept, next, null, ptr, undef, unused}
+use Rattle.model.specs.Heap.{Heap, Slot, Val, cell, holds, next, null, ptr, undef, unused}
 use Rattle.model.specs.Image.{Stepping, answered, cellSlot, heapOf, pastEnd, refusalImage, refusalStep, stays, stepImage}
 use Rattle.model.specs.Machine.{Answer, Effect, Entry, Kind, Op, Stmt, accepts, allocates, answerOf, branch, choose, clear, copy, done, effect, fault, faulted, free, freeVal, held, isNull, keep, kind, load, new, other, picks, put, putSlot, refused, run, same, setNull, setPtr, skip, step, stop, stopped, stops, store, through, unlessStop, went, wipeSlot}
 use Rattle.model.specs.Records.{byte, fieldsS, isS, slotByte, stmtOf, targetsS, valByte, valOf}
 use Rattle.model.proofs.Effects.{closed-ptr}
-use Rattle.model.proofs.Facts.{heap-closed}
+use Rattle.model.proofs.Facts.{heap-closed, keep-any}
 use Rattle.model.proofs.Images.{image-accepted, image-number, number-case}
 use Rattle.model.proofs.Lists.{In}
 use Rattle.model.proofs.Logic.{bool-case}
 use Rattle.model.proofs.Order.{used-below}
-use Rattle.model.proofs.Reached.{PtrsAre, effect-ptrs, keep-ptrs}
+use Rattle.model.proofs.Reached.{PtrsAre, effect-ptrs}
 use Rattle.model.proofs.Walks.{Closed, ClosedHeap}
 
 -- how a step can end: refused by the checks, refused by the cell or the entry, or answered by the machine
@@ -108,13 +108,13 @@ step-stays r p c ps cs h = by-case (step-cases r p c ps cs)
 
 -- ---- lengths
 
-put-length : (l : List Slot) (c : ℕ) (s : Slot) → c < length l → length (put l c s) ≡ length l
+pub put-length : (l : List Slot) (c : ℕ) (s : Slot) → c < length l → length (put l c s) ≡ length l
 put-length [] c s h = absurd (omega arith)
 put-length (x ∷ l) zero s h = refl
 put-length (x ∷ l) (suc c) s h = ap suc (put-length l c s (omega arith))
 
 -- n slots after an effect
-abbrev SlotsAre : ℕ → Effect → Type 0
+abbrev pub SlotsAre : ℕ → Effect → Type 0
 SlotsAre n (done h) = length (h .slots) ≡ n
 SlotsAre n (fault f) = Unit {0}
 
@@ -131,26 +131,22 @@ free-slots h (cell c) k =
     let e = length-map (h .slots) (wipeSlot c) in
     put-length (map (wipeSlot c) (h .slots)) c unused (omega (arith, used-below (h .slots) c k)) ∙ e
 
-effect-slots : (op : Op) (n : ℕ) (h : Heap) → ClosedHeap h → pastEnd (kind op) n (length (h .slots)) ≡ false → SlotsAre (length (h .slots)) (effect op n h)
-effect-slots stop n h cl q = refl
-effect-slots (setNull u) n h cl q = refl
-effect-slots (copy u w) n h cl q = refl
-effect-slots (load u w) n h cl q = through-slots h (ptr h w) (closed-ptr (next h) (h .ptrs) w (cl .0)) (λ d. setPtr u (held (next h d)) h) (λ c z. refl)
-effect-slots (clear u) n h cl q =
+pub effect-sized : (op : Op) (n : ℕ) (h : Heap) → ClosedHeap h → (kind op ≡ allocates → n < length (h .slots)) → SlotsAre (length (h .slots)) (effect op n h)
+effect-sized stop n h cl q = refl
+effect-sized (setNull u) n h cl q = refl
+effect-sized (copy u w) n h cl q = refl
+effect-sized (load u w) n h cl q = through-slots h (ptr h w) (closed-ptr (next h) (h .ptrs) w (cl .0)) (λ d. setPtr u (held (next h d)) h) (λ c z. refl)
+effect-sized (clear u) n h cl q =
     through-slots h (ptr h u) (closed-ptr (next h) (h .ptrs) u (cl .0)) (λ d. putSlot d (holds null) h) (λ c z. put-length (h .slots) c (holds null) z)
-effect-slots (store u w) n h cl q =
+effect-sized (store u w) n h cl q =
     through-slots h (ptr h u) (closed-ptr (next h) (h .ptrs) u (cl .0)) (λ d. putSlot d (holds (ptr h w)) h)
     (λ c z. put-length (h .slots) c (holds (ptr h w)) z)
-effect-slots (new u) n h cl q = put-length (h .slots) n (holds undef) (leb-false (length (h .slots)) n q)
-effect-slots (free u) n h cl q = free-slots h (ptr h u) (closed-ptr (next h) (h .ptrs) u (cl .0))
-effect-slots (isNull u) n h cl q = refl
-effect-slots (same u w) n h cl q = refl
-effect-slots choose n h cl q = refl
-effect-slots skip n h cl q = refl
-
-keep-slots : (n : ℕ) (x : Effect) → SlotsAre n x → SlotsAre n (keep x)
-keep-slots n (fault f) p = tt
-keep-slots n (done h) p = bool-case (kept h) (λ e. rw e p) (λ e. rw e tt)
+effect-sized (new u) n h cl q = put-length (h .slots) n (holds undef) (q refl)
+effect-sized (free u) n h cl q = free-slots h (ptr h u) (closed-ptr (next h) (h .ptrs) u (cl .0))
+effect-sized (isNull u) n h cl q = refl
+effect-sized (same u w) n h cl q = refl
+effect-sized choose n h cl q = refl
+effect-sized skip n h cl q = refl
 
 -- the pointers and the cells keep their lengths
 abbrev pub SameLengths : List ℕ → List ℕ → Stepping → Type 0
@@ -175,9 +171,9 @@ answer-lengths st e ps cs cl q =
     by-run =
         let h = heapOf ps cs in
         let x = effect (st .op) (e .cellNo) h in
-        by-effect (branch (st .op) (e .pick) h) (keep x) (keep-ptrs (length (h .ptrs)) x (effect-ptrs (st .op) (e .cellNo) h))
-        (keep-slots (length (h .slots)) x (effect-slots (st .op) (e .cellNo) h cl
-        (subst (λ n. pastEnd (kind (st .op)) (e .cellNo) n ≡ false) (sym (length-map cs cellSlot)) q)))
+        by-effect (branch (st .op) (e .pick) h) (keep x) (keep-any (PtrsAre (length (h .ptrs))) (λ f. tt) x (effect-ptrs (st .op) (e .cellNo) h))
+        (keep-any (SlotsAre (length (h .slots))) (λ f. tt) x (effect-sized (st .op) (e .cellNo) h cl
+        (λ a. omega (arith, length-map cs cellSlot, leb-false (length cs) (e .cellNo) (subst (λ k. pastEnd k (e .cellNo) (length cs) ≡ false) a q)))))
 
     by-kind : (k : Kind) (a : Answer) → SameLengths ps cs (answered a ps cs) → SameLengths ps cs (answered (unlessStop k a) ps cs)
     by-kind stops a s = (refl, refl)

@@ -18,12 +18,10 @@ use Rattle.model.proofs.Facts.{is-heap}
 use Rattle.model.proofs.Folds.{counters-grow, fold-same, kept-up, large-closed}
 use Rattle.model.proofs.Lists.{map-same}
 use Rattle.model.proofs.Logic.{bool-case}
-use Rattle.model.proofs.Notions.{Chain, Expands, Expansion, img, total}
-use Rattle.model.proofs.Numbers.{mem-numbers, numbers-mem, numbers-nodup, read-all}
+use Rattle.model.proofs.Notions.{Chain, Expands, Expansion, Positive, img, total}
+use Rattle.model.proofs.Numbers.{length-numbers, mem-numbers, numbers-mem, numbers-nodup, read-all}
 use Rattle.model.proofs.Order.{toured, used-below}
 use Rattle.model.proofs.Walks.{Used, seg}
-pub use Rattle.model.proofs.Notions.{Positive}
-pub use Rattle.model.proofs.Numbers.{length-numbers}
 
 -- the cells of node n: as many as its counter says, from its first cell on
 abbrev pub laid : List ℕ → ℕ → Seg

@@ -1,7 +1,7 @@
 -- The bytes that the writers leave are those of the definitions, and those are the records of the model.
 use Prim.Native.Nat.{ℕ, suc, _+_, _-_, _*_, _/_, _%_, _≤_, _<_}
 use mathlib.Core.Path.{_≡_, refl, sym, ap, ap₂, _∙_}
-use mathlib.Core.List.{List, [], _∷_, _++_, append-assoc, map, map-map}
+use mathlib.Core.List.{List, [], _∷_, _++_, append-assoc, map, map-map, map-append}
 use native.Mathlib.Numerals.{add-one}
 use native.Mathlib.Omega.{arith}
 use lib.ListN.{length, getD, set, take, drop, replicate, length-append, length-drop}
@@ -10,6 +10,7 @@ use Rattle.model.specs.Base.{joined}
 use Rattle.model.specs.Heap.{Heap}
 use Rattle.model.specs.Edges.{Edge, at}
 use Rattle.model.specs.Records.{edgeRecord, filled, guardBytes, locRecord, shapeRecord, slotByte, twoBytes, updateCode, valByte}
+use Rattle.model.proofs.Lists.{joined-snoc}
 use Rattle.record.specs.Written.{edgeBytes, locationBytes, shapeBytesOf, taggedBytes, updateBytes}
 use Rattle.record.proofs.ListLaws.{drop-zeros, paste-seam}
 
@@ -44,10 +45,6 @@ module _ (h : Heap) (ps ss : List ℕ) (k : ℕ) (e : k ≡ length (h .slots)) (
 
 -- ---- edges
 
-joined-snoc : (us : List ℕ) (u : ℕ) → joined (map twoBytes (us ++ u ∷ [])) ≡ joined (map twoBytes us) ++ twoBytes u
-joined-snoc [] u = refl
-joined-snoc (x ∷ us) u = ap (λ l. x % 256 ∷ x / 256 ∷ l) (joined-snoc us u)
-
 joined-length : (us : List ℕ) → length (joined (map twoBytes us)) ≡ 2 * length us
 joined-length [] = refl
 joined-length (x ∷ us) = omega (arith, joined-length us)
@@ -75,7 +72,8 @@ updates-turn p us j h k =
     let d : drop (n + 2) (pre ++ drop n p) ≡ drop (8 + 2 * (j + 1)) p =
     ap (λ m. drop (m + 2) (pre ++ drop n p)) (sym lp) ∙ drop-append-add pre (drop n p) 2 ∙ drop-drop 2 n p ∙ ap (λ m. drop m p) next in
     let more : updateBytes us (j + 1) ≡ updateBytes us j ++ twoBytes u =
-    ap (λ m. updateBytes us m) (add-one j) ∙ ap (λ l. joined (map twoBytes l)) (take-suc us j 0 k) ∙ joined-snoc (take j us) u in
+    ap (λ m. updateBytes us m) (add-one j) ∙ ap (λ l. joined (map twoBytes l)) (take-suc us j 0 k)
+    ∙ ap joined (map-append twoBytes (take j us) (u ∷ [])) ∙ joined-snoc (map twoBytes (take j us)) (twoBytes u) in
     let second : 9 + 2 * j ≡ suc n = omega arith in
     rw (second, ← append-assoc (take 8 p) (updateBytes us j) (drop n p)) s
     ∙ ap₂ (λ x y. x ++ twoBytes u ++ y) t d ∙ rw more (simp append-assoc)

@@ -1,33 +1,22 @@
--- Generic laws of lists: a test of all elements and a comparison taken one element at a time, a copy at a seam, zeros dropped.
+-- Generic laws of lists: a comparison taken one element at a time, a copy at a seam, zeros dropped.
 use Prim.Native.Nat.{ℕ, zero, suc, _+_, _-_, _≤_, _<_}
-use mathlib.Core.Path.{_≡_, ap, ap₂}
-use mathlib.Core.Bool.{Bool, true, _&&_}
+use mathlib.Core.Path.{_≡_, ap₂}
+use mathlib.Core.Bool.{true, _&&_}
 use mathlib.Core.List.{List, _++_, append-assoc}
 use native.Mathlib.Numerals.{add-one}
 use native.Mathlib.Omega.{arith}
 use lib.Dec.{eqb}
-use lib.ListN.{length, getD, take, drop, replicate, drop-of-length-le, length-drop}
-use lib.Seq.{drop-append-add, drop-cons, paste, take-all, take-at}
-use Rattle.model.specs.Base.{all, sameList}
+use lib.ListN.{length, getD, take, drop, replicate, drop-of-length-le}
+use lib.Seq.{drop-append-add, drop-cons, paste, take-at}
+use Rattle.model.specs.Base.{sameList}
 
--- one turn of a loop that tests each element, and its end
-pub all-step : (p : ℕ → Bool) (l : List ℕ) (i : ℕ) → i < length l → all p (drop i l) ≡ p (getD l i 0) && all p (drop (i + 1) l)
-all-step p l i h = rw add-one (ap (all p) (drop-cons l i 0 h))
-
-pub all-end : (p : ℕ → Bool) (l : List ℕ) (i : ℕ) → length l ≤ i → all p (drop i l) ≡ true
-all-end p l i h = ap (all p) (drop-of-length-le l h)
-
--- the same of a loop that compares two lists
+-- one turn of a loop that compares two lists, and its end
 pub same-step : (l m : List ℕ) (i : ℕ) → i < length l → i < length m
     → sameList eqb (drop i l) (drop i m) ≡ eqb (getD l i 0) (getD m i 0) && sameList eqb (drop (i + 1) l) (drop (i + 1) m)
 same-step l m i h k = rw add-one (ap₂ (sameList eqb) (drop-cons l i 0 h) (drop-cons m i 0 k))
 
 pub same-end : (l m : List ℕ) (i : ℕ) → length l ≤ i → length m ≤ i → sameList eqb (drop i l) (drop i m) ≡ true
 same-end l m i h k = ap₂ (sameList eqb) (drop-of-length-le l h) (drop-of-length-le m k)
-
--- the part of a list from a on, as a lent part has it
-pub part-from : (l : List ℕ) (a : ℕ) → take (length l - a) (drop a l) ≡ drop a l
-part-from l a = take-all (length l - a) (drop a l) (omega (arith, length-drop a l))
 
 -- a copy that begins where one list ends and the next begins
 pub paste-seam : (a z s : List ℕ) (n m : ℕ) → length a ≡ n → paste (a ++ z) n s m ≡ a ++ (take m s ++ drop m z)

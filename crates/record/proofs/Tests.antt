@@ -1,7 +1,7 @@
 -- Tests in a row, as the code makes them: a conjunction whose first part is known, the ops that use w, and the refusals of an S record.
 use Prim.Native.Nat.{ℕ, zero, suc, _+_, _≤_, _<_}
 use mathlib.Core.Path.{_≡_, refl, sym, _∙_}
-use mathlib.Core.Bool.{Bool, true, false, _&&_}
+use mathlib.Core.Bool.{Bool, true, false, _&&_, and-assoc}
 use mathlib.Core.List.{List}
 use native.Mathlib.Omega.{arith}
 use lib.Dec.{ltb}
@@ -16,10 +16,6 @@ and-taken h e = rw h e
 
 pub and-left : {a r : Bool} (b : Bool) → r ≡ a → r ≡ false → r ≡ a && b
 and-left b e h = rw (sym e ∙ h) h
-
-pub and-assoc : (a b c : Bool) → (a && b) && c ≡ a && (b && c)
-and-assoc true b c = refl
-and-assoc false b c = refl
 
 -- the whole test of an S record's fields, and of an H record, by the parts that the code tests one after the other
 fields-grouped : (a b c d : Bool) → ((a && b) && c) && d ≡ a && ((b && c) && d)

@@ -11,14 +11,15 @@ use Rattle.model.specs.Base.{sameList, placeOf, numbers}
 use Rattle.model.specs.Edges.{Loc, sameLoc}
 use Rattle.model.specs.Records.{locRecord, recordAt}
 use Rattle.model.specs.Translate.{tableOf}
-use Rattle.model.proofs.Bytes.{table-record}
-use Rattle.model.proofs.Lists.{In, getD-in}
+use Rattle.model.proofs.Bytes.{records-wide, table-record}
+use Rattle.model.proofs.Listings.{WritableLoc}
+use Rattle.model.proofs.Lists.{In, getD-in, getD-map}
 use Rattle.model.proofs.Logic.{bool-ext}
-use Rattle.model.proofs.ReadBack.{WritableLoc, location-injective}
+use Rattle.model.proofs.Numbers.{length-numbers}
+use Rattle.model.proofs.ReadBack.{location-injective, record-length}
 use Rattle.model.proofs.Same.{bytes-same, same-bytes-refl, loc-same, same-loc-refl, place-le}
 use Rattle.search.specs.Search.{foundAt}
-use Rattle.search.proofs.ListLaws.{length-numbers, place-numbers, getD-map}
-use Rattle.search.proofs.Table.{wide-locations}
+use Rattle.search.proofs.ListLaws.{place-numbers}
 
 -- what is found from record i on
 unfoldable pub foundFrom : List ℕ → List ℕ → ℕ → ℕ → ℕ
@@ -61,5 +62,5 @@ found-location ls l n t r W L p q =
     let k′ : j < length (map locRecord ls) = omega (arith, length-map ls locRecord) in
     let m = getD ls j l in
     let e : recordAt t (0 + j) ≡ locRecord m =
-    ap₂ recordAt p z ∙ table-record n (map locRecord ls) j (wide-locations ls W) k′ ∙ getD-map locRecord ls l [] j k in
+    ap₂ recordAt p z ∙ table-record n (map locRecord ls) j (records-wide locRecord ls (λ x i. record-length x (W x i))) k′ ∙ getD-map locRecord ls j l [] k in
     ap₂ (sameList eqb) e q ∙ same-record m l (W m (getD-in ls l j k)) L)

@@ -1,4 +1,3 @@
 pub mod ListLaws
 pub mod Keys
-pub mod Table
 pub mod Found

@@ -1,8 +1,8 @@
 -- Laws on lists: parts of two lists that are the same, and places by number.
-use Prim.Native.Nat.{ℕ, zero, suc, _+_, _≤_, _<_}
+use Prim.Native.Nat.{ℕ, suc, _+_, _≤_, _<_}
 use mathlib.Core.Path.{_≡_, refl, sym, ap, ap₂, _∙_}
-use mathlib.Core.Bool.{Bool, true, false, cond}
-use mathlib.Core.List.{List, [], _∷_, map}
+use mathlib.Core.Bool.{Bool, true, cond}
+use mathlib.Core.List.{List, [], _∷_}
 use native.Mathlib.Omega.{arith}
 use lib.Dec.{eqb}
 use lib.ListN.{length, take, drop, getD, length-take, length-drop}
@@ -34,10 +34,6 @@ agree-same t a r b n h l f =
     (λ k q. let q′ : k < n = omega arith in part-at t a n k q′ ∙ f k q′ ∙ sym (part-at r b n k q′)) in
     ap (λ z. sameList eqb z (take n (drop b r))) e ∙ same-bytes-refl (take n (drop b r))
 
-pub length-numbers : (i n : ℕ) → length (numbers i n) ≡ n
-length-numbers i zero = refl
-length-numbers i (suc n) = ap suc (length-numbers (suc i) n)
-
 -- the first place of a list, found by the numbers of its places
 pub place-numbers : {A : Type 0} (p : ℕ → Bool) (q : A → Bool) (l : List A) (d : A) (i : ℕ)
     → ((j : ℕ) → j < length l → p (i + j) ≡ q (getD l j d)) → placeOf p (numbers i (length l)) ≡ placeOf q l
@@ -46,8 +42,3 @@ place-numbers p q (x ∷ l) d i h =
     let z : i + 0 ≡ i = omega arith in
     ap₂ (λ b n. cond b 0 (suc n)) (ap p (sym z) ∙ h 0 (omega arith))
     (place-numbers p q l d (suc i) (λ j k. let e : suc i + j ≡ i + suc j = omega arith in ap p e ∙ h (suc j) (omega arith)))
-
-pub getD-map : {A B : Type 0} (f : A → B) (l : List A) (d : A) (e : B) (i : ℕ) → i < length l → getD (map f l) i e ≡ f (getD l i d)
-getD-map f [] d e i h = absurd (omega arith)
-getD-map f (x ∷ l) d e zero h = refl
-getD-map f (x ∷ l) d e (suc i) h = getD-map f l d e i (omega arith)

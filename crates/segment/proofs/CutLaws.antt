@@ -1,5 +1,5 @@
 -- The cut when one cell is put behind the list: a core cell begins a segment, any other goes behind the last one.
-use Prim.Native.Nat.{ℕ, zero, suc, _+_, _<_, _≤_}
+use Prim.Native.Nat.{ℕ, suc, _+_, _<_, _≤_}
 use mathlib.Core.Path.{_≡_, _∙_, ap, refl}
 use mathlib.Core.Bool.{Bool, true, false}
 use mathlib.Core.List.{List, [], _∷_, _++_}
@@ -7,8 +7,9 @@ use native.Mathlib.Omega.{arith}
 use lib.ListN.{length, length-append}
 use Rattle.model.specs.Base.{mem}
 use Rattle.model.specs.Shape.{Seg, cells, cut, cutFrom, size}
-use Rattle.model.proofs.Logic.{bool-case, mem-append-l, mem-append-r, mem-here, mem-there}
-use Rattle.model.proofs.Start.{flat, flat-cut, segAt}
+use Rattle.model.proofs.Cuts.{flat-cut, mem-flat}
+use Rattle.model.proofs.Logic.{bool-case, mem-here, mem-there}
+use Rattle.model.proofs.Notions.{segAt}
 use Rattle.model.proofs.Walks.{seg}
 
 -- a segment with one cell more
@@ -72,11 +73,6 @@ grows-from p c cur (x ∷ l) m =
 pub cut-grows : (p : ℕ → Bool) (l m : List ℕ) → length (cut p l) ≤ length (cut p (l ++ m))
 cut-grows p [] m = omega arith
 cut-grows p (c ∷ l) m = grows-from p c [] l m
-
-mem-flat : (ss : List Seg) (n c : ℕ) → n < length ss → mem c (cells (segAt ss n)) ≡ true → mem c (flat ss) ≡ true
-mem-flat [] n c h k = absurd (omega arith)
-mem-flat (s ∷ ss) zero c h k = mem-append-l c (cells s) (flat ss) k
-mem-flat (s ∷ ss) (suc n) c h k = mem-append-r c (cells s) (flat ss) (mem-flat ss n c (omega arith) k)
 
 -- the cells of the segments are those of the list
 pub cut-mem : (p : ℕ → Bool) (l : List ℕ) (n c : ℕ) → n < length (cut p l) → mem c (cells (segAt (cut p l) n)) ≡ true → mem c l ≡ true

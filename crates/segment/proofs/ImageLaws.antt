@@ -6,26 +6,22 @@ use mathlib.Core.List.{List, [], _∷_, map}
 use native.Mathlib.Omega.{arith}
 use lib.ListN.{length, getD, take, length-append, length-map, List·getD-map}
 use lib.Seq.{getD-take, length-take-le}
-use borrow.Author.Tests.{ne-eqb}
 use Rattle.model.specs.Base.{mem}
 use Rattle.model.specs.Heap.{Heap, IsHeap, cell, next, order}
 use Rattle.model.specs.Shape.{Seg, cells, core, last, segments}
 use Rattle.model.specs.Records.{valOf}
 use Rattle.model.specs.Image.{heapOf}
+use Rattle.model.proofs.Bytes.{val-cell}
 use Rattle.model.proofs.Facts.{heap-closed, heap-kept}
-use Rattle.model.proofs.Logic.{mem-here, mem-there}
+use Rattle.model.proofs.Lists.{mem-at}
+use Rattle.model.proofs.Notions.{flat, segAt}
 use Rattle.model.proofs.Order.{pigeon, toured}
 use Rattle.model.proofs.Segments.{each-cell-once, segments-are}
-use Rattle.model.proofs.Start.{end, flat, segAt}
+use Rattle.model.proofs.Start.{end}
 use Rattle.model.proofs.Walks.{AllClosed, Closed, seg}
 use Rattle.segment.specs.Cut.{CutReady, heldCore, segs}
 use Rattle.segment.specs.Fold.{AllIn, InTable, LastsIn}
 use Rattle.segment.proofs.ShapeLaws.{cell-low, segs-same, slot-of}
-
-mem-at : (l : List ℕ) (i : ℕ) → i < length l → mem (getD l i 0) l ≡ true
-mem-at [] i h = absurd (omega arith)
-mem-at (x ∷ l) zero h = mem-here x l
-mem-at (x ∷ l) (suc i) h = mem-there (getD l i 0) x l (mem-at l i (omega arith))
 
 flat-first : (ss : List Seg) → 0 < length (flat ss) → (0 < length ss) × (getD (flat ss) 0 0 ≡ segAt ss 0 .first)
 flat-first [] h = absurd (omega arith)
@@ -72,7 +68,7 @@ module _ (ps cs : List ℕ) (x : IsHeap (heapOf ps cs)) (few : length cs ≤ 240
 
   byte-in : (m : List ℕ) (b : ℕ) → length cs ≤ length m → Closed (next (heapOf ps cs)) (valOf b) → InTable m b
   byte-in m b hm k q =
-      let e : valOf b ≡ cell b = rw (ne-eqb b 0xfe (λ t. omega arith), ne-eqb b 0xff (λ t. omega arith)) in
+      let e : valOf b ≡ cell b = val-cell b (λ t. omega arith) (λ t. omega arith) in
       omega (arith, cell-low ps cs x few b (subst (Closed (next (heapOf ps cs))) e k))
 
   values-in : (m qs : List ℕ) → length cs ≤ length m → AllClosed (next (heapOf ps cs)) (map valOf qs) → AllIn m qs

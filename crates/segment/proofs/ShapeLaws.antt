@@ -2,28 +2,31 @@
 use Prim.Native.Nat.{ℕ, _<_, _≤_}
 use mathlib.Core.Path.{_≡_, _∙_, ap, ap₂, refl, subst, sym}
 use mathlib.Core.Bool.{true}
-use mathlib.Core.List.{List, [], _∷_, map}
+use mathlib.Core.List.{List, [], _∷_, map, map-map}
 use native.Mathlib.Omega.{arith}
 use lib.Dec.{eqb, leb}
-use lib.ListN.{length, getD, length-map, List·getD-map}
+use lib.ListN.{length, getD, length-map}
 use borrow.Author.Tests.{lt-ltb}
 use Rattle.model.specs.Base.{mem}
-use Rattle.model.specs.Heap.{Heap, IsHeap, Val, cell, holds, next, null, order, undef}
+use Rattle.model.specs.Heap.{Heap, IsHeap, Val, cell, holds, next, null, order, undef, unused}
 use Rattle.model.specs.Shape.{Seg, cells, core, last, node, nodeSlot, nodeVal, segments, shape}
 use Rattle.model.specs.Records.{slotByte, valByte, valOf}
 use Rattle.model.specs.Image.{cellSlot, heapOf}
 use Rattle.model.proofs.Bytes.{byte-back}
-use Rattle.model.proofs.Changes.{holds-inj, slot-clash}
+use Rattle.model.proofs.Cuts.{AllCore, Head, core-of-pointed, node-head}
 use Rattle.model.proofs.Facts.{heap-closed, heap-kept}
+use Rattle.model.proofs.Lists.{getD-map}
 use Rattle.model.proofs.Logic.{bool-case, mem-here, or-l}
+use Rattle.model.proofs.Notions.{segAt}
 use Rattle.model.proofs.Order.{used-below}
 use Rattle.model.proofs.Segments.{core-first}
-use Rattle.model.proofs.Start.{AllCore, Head, core-of-pointed, end, last-head, node-head, segAt}
+use Rattle.model.proofs.Start.{end, last-head}
 use Rattle.model.proofs.Walks.{AllClosed, Closed, Used, holders, pointed, seg}
+use Rattle.model.proofs.Writes.{holds-inj, slot-clash}
 use Rattle.segment.specs.Cut.{heldCore, segs}
 use Rattle.segment.specs.Fold.{foldByte}
 use Rattle.segment.proofs.CutLaws.{cut-same}
-use Rattle.segment.proofs.ListLaws.{getD-any, map-at, map-map}
+use Rattle.segment.proofs.ListLaws.{map-at}
 
 -- the table m has for each cell of the segments ss the number of its segment
 abbrev pub Nodes : List Seg → List ℕ → Type 0
@@ -50,7 +53,7 @@ module _ (ps cs : List ℕ) (x : IsHeap (heapOf ps cs)) (few : length cs ≤ 240
   pub slot-of : (c : ℕ) (v : Val) → next (heapOf ps cs) c ≡ holds v → valOf (getD cs c 0) ≡ v
   slot-of c v e =
       let b = getD cs c 0 in
-      let s : cellSlot b ≡ holds v = sym (List·getD-map cellSlot cs c 0xfd ∙ ap cellSlot (getD-any cs c 0xfd 0 (cell-low c (v, e)))) ∙ e in
+      let s : cellSlot b ≡ holds v = sym (getD-map cellSlot cs c 0 unused (cell-low c (v, e))) ∙ e in
       bool-case (eqb b 0xfd) (λ t. slot-clash refl (rw t at s)) (λ t. holds-inj (rw t at s))
 
   module _ (m : List ℕ) (is : Nodes (segments (heapOf ps cs)) m) where

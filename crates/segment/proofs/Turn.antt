@@ -2,7 +2,7 @@
 use Prim.Native.Nat.{ℕ, suc, _+_, _-_, _<_, _≤_}
 use mathlib.Core.Path.{_≡_, _∙_, ap, ap₂, refl, subst, sym}
 use mathlib.Core.Bool.{true, false}
-use mathlib.Core.List.{List, [], _∷_, _++_, map}
+use mathlib.Core.List.{List, [], _∷_, _++_, map, map-append}
 use native.Mathlib.Numerals.{add-one}
 use native.Mathlib.Omega.{arith}
 use lib.Dec.{eqb}
@@ -10,17 +10,15 @@ use lib.ListN.{length, getD, take, drop, set, length-map, List·getD-append, tak
 use lib.Seq.{getD-at, getD-set-other, getD-set-same, getD-take, getD-append-seam, length-take-le, take-at, take-suc-set, take-take}
 use borrow.Author.Tests.{eqb-false, eqb-true}
 use Rattle.model.specs.Base.{mem}
-use Rattle.model.specs.Shape.{Seg, cells, last, lastFrom, size}
+use Rattle.model.specs.Shape.{Seg, cells, last, size}
+use Rattle.model.proofs.Cuts.{last-snoc, nodup-l}
 use Rattle.model.proofs.Logic.{NoDup, bool-case, clash, eq-case, mem-append-cases, mem-append-r, mem-here, mem-one, not-true}
-use Rattle.model.proofs.Start.{nodup-l, segAt}
+use Rattle.model.proofs.Notions.{segAt}
+use Rattle.model.proofs.Slices.{take-next}
 use Rattle.model.proofs.Walks.{seg}
 use Rattle.segment.specs.Cut.{CutReady, Entered, IsCut, Put, PutReady, heldCore, segs}
-use Rattle.segment.proofs.ListLaws.{length-snoc, map-append, snoc-place, take-more}
+use Rattle.segment.proofs.ListLaws.{length-snoc, snoc-place}
 use Rattle.segment.proofs.CutLaws.{behind, core-behind, cut-grows, cut-mem, ends}
-
-last-snoc : (c : ℕ) (l : List ℕ) (d : ℕ) → lastFrom c (l ++ d ∷ []) ≡ d
-last-snoc c [] d = refl
-last-snoc c (x ∷ l) d = last-snoc x l d
 
 -- the first of the segments, with what the tables say of them
 record Known (front : List Seg) (d : ℕ) (m l z : List ℕ) : Type 0 where
@@ -140,7 +138,7 @@ nodup-new (x ∷ s) d nd =
     rw (e, nodup-new s d (nd .1))
 
 order-at : (o : List ℕ) (n i : ℕ) → i < n → n ≤ length o → take n o ≡ (take i o ++ getD o i 0 ∷ []) ++ drop (i + 1) (take n o)
-order-at o n i h k = sym (take-append-drop (i + 1) (take n o)) ∙ ap (λ l. l ++ drop (i + 1) (take n o)) (take-take (i + 1) n o (omega arith) ∙ take-more o i (omega arith))
+order-at o n i h k = sym (take-append-drop (i + 1) (take n o)) ∙ ap (λ l. l ++ drop (i + 1) (take n o)) (take-take (i + 1) n o (omega arith) ∙ take-next o i (omega arith))
 
 module _ (o : List ℕ) (n : ℕ) (h m₀ l₀ z₀ : List ℕ) (c : CutReady o n h m₀ l₀ z₀) (i : ℕ) (b : i < n) (m l z : List ℕ) (em : length m ≡ length m₀)
     (el : length l ≡ length l₀) (ez : length z ≡ length z₀) (k : ℕ) (is : IsCut (segs h (take i o)) m l z k) where
@@ -156,5 +154,5 @@ module _ (o : List ℕ) (n : ℕ) (h m₀ l₀ z₀ : List ℕ) (c : CutReady o 
 
   pub turn-at : (m′ l′ z′ : List ℕ) (r : ℕ) → Put (heldCore h (getD o i 0)) (getD o i 0) k m l z m′ l′ z′ r → IsCut (segs h (take (i + 1) o)) m′ l′ z′ r
   turn-at m′ l′ z′ r pt =
-      rw (take-more o i (omega (arith, c .few))) (turn h (take i o) (getD o i 0) k m l z m′ l′ z′ r is ready-at pt
+      rw (take-next o i (omega (arith, c .few))) (turn h (take i o) (getD o i 0) k m l z m′ l′ z′ r is ready-at pt
       (nodup-new (take i o) (getD o i 0) (nodup-l (take i o ++ getD o i 0 ∷ []) (drop (i + 1) (take n o)) (rw (order-at o n i b (c .few)) at (c .once)))))

@@ -14,11 +14,12 @@ use Rattle.model.specs.Base.{all, sum}
 use Rattle.model.specs.Heap.{Slot, Val, cell, holds, null, undef}
 use Rattle.model.specs.Image.{cellBytesOf, firstCell, spread, strand, strands, unfoldHeap}
 use Rattle.model.specs.Records.{byte, isZero, shapeOf, slotByte, valByte, valOf}
-use Rattle.model.proofs.Bytes.{SmallVal, byte-back}
+use Rattle.model.proofs.Bytes.{byte-back}
+use Rattle.model.proofs.Listings.{SmallSlot, SmallVal}
 use Rattle.model.proofs.Lists.{In}
 use Rattle.model.proofs.Logic.{and-l, and-r}
-use Rattle.model.proofs.ReadBack.{SmallSlot}
 use Rattle.model.proofs.ShapeBack.{layout-few, layout-slots, layout-writable}
+use Rattle.model.proofs.Slices.{sum-take}
 use Rattle.spread.specs.Bytes.{FirstCells, imageBytes, placedByte, strandBytes, strandsBytes}
 use Rattle.spread.specs.Spread.{SpreadReady}
 
@@ -68,11 +69,6 @@ module _ (vs fs : List ℕ) (k : ℕ) (first : FirstCells vs fs) (same : length 
       (strands-image (b + c) ss cs (λ x q. h x (inr q)))
       ∙ sym (map-append slotByte (strand b c last) rest)
 
-sum-take : (vs : List ℕ) (k : ℕ) → sum (λ v. v) (take k vs) ≤ sum (λ v. v) vs
-sum-take vs zero = omega arith
-sum-take [] (suc k) = omega arith
-sum-take (v ∷ vs) (suc k) = omega (arith, sum-take vs k)
-
 -- a ready shape: its counters fit the cells
 module _ (r vs ps cs : List ℕ) (ready : SpreadReady r vs ps cs) where
   pub ready-few : byte r 3 ≤ 12
@@ -90,7 +86,7 @@ module _ (r vs ps cs : List ℕ) (ready : SpreadReady r vs ps cs) where
       leb-true (sum (λ v. v) vs) (length cs) (and-r (all (leb 1) (take (byte r 3) vs) && all isZero (drop (byte r 3) vs)) last (ready .fit))
 
   pub ready-nodes : sum (λ v. v) (take (byte r 3) vs) ≤ length cs
-  ready-nodes = omega (arith, ready-total, sum-take vs (byte r 3))
+  ready-nodes = omega (arith, ready-total, sum-take (byte r 3) vs)
 
   pub ready-counters : length (take (byte r 3) vs) ≡ byte r 3
   ready-counters = length-take-le (byte r 3) vs (omega (arith, ready .twelve, ready-few))

@@ -1,20 +1,15 @@
--- Laws on lists of numbers, for a loop at place i: what stands there, what is left after it, and what a store there makes of the front.
+-- Laws on lists of numbers, for a loop at place i: what a store there makes of the front, and sums of what is left.
 use Prim.Native.Nat.{ℕ, suc, _+_, _-_, _≤_, _<_}
 use mathlib.Core.Path.{_≡_, sym, ap, subst, _∙_}
-use mathlib.Core.Bool.{Bool, true, _&&_}
-use mathlib.Core.List.{List, [], _∷_, _++_, append-nil, map}
+use mathlib.Core.List.{List, [], _∷_, _++_, append-nil}
 use native.Mathlib.Numerals.{add-one}
 use native.Mathlib.Omega.{arith}
-use lib.ListN.{length, take, drop, getD, set, replicate, drop-of-length-le, length-drop}
-use lib.Seq.{append-snoc, drop-cons, getD-set-other, getD-set-same, take-all, take-suc-set}
-use Rattle.model.specs.Base.{all, sum}
-use Rattle.model.proofs.Lists.{all-in, getD-in}
+use lib.ListN.{length, take, drop, getD, set, replicate, drop-of-length-le}
+use lib.Seq.{append-snoc, getD-set-other, getD-set-same, take-all, take-suc-set}
+use Rattle.model.specs.Base.{sum}
 use Rattle.model.proofs.Logic.{eq-case}
+use Rattle.model.proofs.Slices.{drop-step}
 use borrow.Author.Tests.{eqb-false}
-
--- what is left from i on
-pub drop-step : (l : List ℕ) (i : ℕ) → i < length l → drop i l ≡ getD l i 0 ∷ drop (i + 1) l
-drop-step l i h = drop-cons l i 0 h ∙ ap (λ n. getD l i 0 ∷ drop n l) (sym (add-one i))
 
 -- a store at i, where the first i elements are done: what follows them now begins with the element stored
 pub push : (l : List ℕ) (i a : ℕ) (rest : List ℕ) → i < length l → take (i + 1) (set l i a) ++ rest ≡ take i l ++ (a ∷ rest)
@@ -31,30 +26,11 @@ set-below f l n a h e below k lt =
     eq-case k n (λ q. subst (λ m. getD (set l n a) m 0 ≡ f m) (sym q) (getD-set-same l n a 0 h ∙ e))
     (λ q. let ne = eqb-false k n q in getD-set-other l n k a 0 ne ∙ below k (omega arith))
 
-pub all-step : (p : ℕ → Bool) (l : List ℕ) (i : ℕ) → i < length l → all p (drop i l) ≡ p (getD l i 0) && all p (drop (i + 1) l)
-all-step p l i h = ap (all p) (drop-step l i h)
-
-pub all-end : (p : ℕ → Bool) (l : List ℕ) (i : ℕ) → length l ≤ i → all p (drop i l) ≡ true
-all-end p l i h = ap (all p) (drop-of-length-le l h)
-
-pub all-at : (p : ℕ → Bool) (l : List ℕ) (i : ℕ) → all p l ≡ true → i < length l → p (getD l i 0) ≡ true
-all-at p l i e h = all-in p l (getD l i 0) e (getD-in l 0 i h)
-
 pub sum-step : (l : List ℕ) (i : ℕ) → i < length l → sum (λ v. v) (drop i l) ≡ getD l i 0 + sum (λ v. v) (drop (i + 1) l)
 sum-step l i h = ap (sum (λ v. v)) (drop-step l i h)
 
 pub sum-end : (l : List ℕ) (i : ℕ) → length l ≤ i → sum (λ v. v) (drop i l) ≡ 0
 sum-end l i h = ap (sum (λ v. v)) (drop-of-length-le l h)
 
-pub map-step : (f : ℕ → ℕ) (l : List ℕ) (i : ℕ) → i < length l → map f (drop i l) ≡ f (getD l i 0) ∷ map f (drop (i + 1) l)
-map-step f l i h = ap (map f) (drop-step l i h)
-
-pub map-end : (f : ℕ → ℕ) (l : List ℕ) (i : ℕ) → length l ≤ i → map f (drop i l) ≡ []
-map-end f l i h = ap (map f) (drop-of-length-le l h)
-
 pub replicate-step : (n i a : ℕ) → i < n → replicate (n - i) a ≡ a ∷ replicate (n - (i + 1)) a
 replicate-step n i a h = let e : n - i ≡ suc (n - (i + 1)) = omega arith in rw e
-
--- a part up to the end
-pub part-tail : (l : List ℕ) (a : ℕ) → take (length l - a) (drop a l) ≡ drop a l
-part-tail l a = take-all (length l - a) (drop a l) (simp length-drop (omega arith))

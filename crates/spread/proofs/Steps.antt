@@ -11,8 +11,10 @@ use lib.Seq.{length-take-le}
 use borrow.Author.Tests.{leb-true}
 use Rattle.model.specs.Base.{all, sum}
 use Rattle.model.specs.Image.{firstCell}
+use Rattle.model.proofs.Lists.{all-at}
+use Rattle.model.proofs.Slices.{drop-step}
 use Rattle.spread.specs.Bytes.{imageBytes, placedByte, strandBytes, strandsBytes}
-use Rattle.spread.proofs.ListLaws.{all-at, drop-step, sum-step}
+use Rattle.spread.proofs.ListLaws.{sum-step}
 
 pub first-next : (vs : List ℕ) (n : ℕ) → n < length vs → firstCell vs (n + 1) ≡ firstCell vs n + getD vs n 0
 first-next [] n h = absurd (omega arith)
@@ -52,7 +54,7 @@ strands-end fs ss cs b n h = ap (λ l. strandsBytes fs b l (drop n cs)) (drop-of
 -- node n has a cell, and its cells, from cell b on, are within m
 pub node-room : (vs : List ℕ) (n b m : ℕ) → n < length vs → all (leb 1) vs ≡ true
     → b + sum (λ v. v) (drop n vs) ≡ sum (λ v. v) vs → sum (λ v. v) vs ≤ m → (1 ≤ getD vs n 0) × (b + getD vs n 0 ≤ m)
-node-room vs n b m h p e q = (leb-true 1 (getD vs n 0) (all-at (leb 1) vs n p h), omega (arith, sum-step vs n h))
+node-room vs n b m h p e q = (leb-true 1 (getD vs n 0) (all-at (leb 1) vs 0 n p h), omega (arith, sum-step vs n h))
 
 -- cells l with the strand of node n written, as k: the other strands follow
 pub strands-push : (fs ss cs l k : List ℕ) (b n : ℕ) → n < length ss → length ss ≡ length cs

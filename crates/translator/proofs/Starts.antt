@@ -1,5 +1,5 @@
 -- The starting shapes in the location table: one more entered, all entered, and the listing that the tables then hold.
-use Prim.Native.Nat.{ℕ, zero, suc, _+_, _-_, _*_, _<_, _≤_}
+use Prim.Native.Nat.{ℕ, zero, suc, _+_, _<_, _≤_}
 use native.Mathlib.Numerals.{add-one}
 use native.Mathlib.Omega.{arith}
 use mathlib.Core.Path.{_≡_, refl, sym, ap, subst, _∙_}
@@ -11,14 +11,14 @@ use Rattle.model.specs.Heap.{Heap}
 use Rattle.model.specs.Edges.{Loc, at}
 use Rattle.model.specs.Records.{locRecord, recordAt, shapeOf}
 use Rattle.model.specs.Translate.{Listing, check, good, places, tableOf}
+use Rattle.model.proofs.Bytes.{records-wide, table-empty}
 use Rattle.model.proofs.Canon.{Canon}
 use Rattle.model.proofs.Checked.{check-good}
-use Rattle.model.proofs.Lists.{In, in-map}
+use Rattle.model.proofs.Lists.{In, getD-map, in-map}
 use Rattle.model.proofs.Listings.{WritableLoc}
 use Rattle.model.proofs.ReadBack.{canon-writable, record-length}
 use Rattle.input.specs.Input.{routineOf}
 use Rattle.input.specs.Accepted.{Accepted}
-use Rattle.input.proofs.ListLaws.{map-at}
 use Rattle.input.proofs.Facts.{accepted-wide, start-at, start-record, starts-length, stmt-at, stmts-length}
 use Rattle.record.specs.Written.{placed}
 use Rattle.record.proofs.Placed.{placed-next}
@@ -38,9 +38,6 @@ start-stored [] z h = absurd (omega arith)
 start-stored (a ∷ []) z h = absurd (omega arith)
 start-stored (a ∷ b ∷ []) z h = absurd (omega arith)
 start-stored (a ∷ b ∷ c ∷ r) z h = refl
-
-table-empty : (n : ℕ) → replicate n 0 ≡ tableOf n []
-table-empty n = let e : n - 32 * 0 ≡ n = omega arith in rw e
 
 module _ (s : List ℕ) (n m : ℕ) (g : check s ≡ good (routineOf n s)) (A : Accepted s n m) where
   count-is : length (startLocs n s) ≡ m
@@ -66,16 +63,14 @@ module _ (s : List ℕ) (n m : ℕ) (g : check s ≡ good (routineOf n s)) (A : 
       subst (LocOk n) (sym (y .1)) (y .2, A .someStatements)
 
   start-wide : (r : List ℕ) → In r (map locRecord (startLocs n s)) → length r ≡ 32
-  start-wide r i =
-      let y = in-map locRecord r (startLocs n s) i in
-      ap length (y .2) ∙ record-length (y .0) (start-writable (y .0) (y .1))
+  start-wide = records-wide locRecord (startLocs n s) (λ l i. record-length l (start-writable l i))
 
   -- record j of the location table
   start-is : (j : ℕ) → j < m → getD (map locRecord (startLocs n s)) j [] ≡ startBytes (recordAt s (n + j))
   start-is j h =
       let d : Heap = shapeOf [] in
-      map-at locRecord (startLocs n s) j (at 0 d) [] (omega (arith, count-is))
-      ∙ ap locRecord (map-at (at 0) (routineOf n s .starts) j d (at 0 d) (omega (arith, starts-length s n m (A .whole))))
+      getD-map locRecord (startLocs n s) j (at 0 d) [] (omega (arith, count-is))
+      ∙ ap locRecord (getD-map (at 0) (routineOf n s .starts) j d (at 0 d) (omega (arith, starts-length s n m (A .whole))))
       ∙ ap (λ x. locRecord (at 0 x)) (start-at s n m (A .whole) j d h) ∙ start-record s n m A j h
 
   -- one more
@@ -95,7 +90,7 @@ module _ (s : List ℕ) (n m : ℕ) (g : check s ≡ good (routineOf n s)) (A : 
   enter-end j h = take-all j (map locRecord (startLocs n s)) (omega (arith, records-number))
 
   pub enter-none : (ls : List ℕ) → ls ≡ replicate (length ls) 0 → ls ≡ tableOf (length ls) (take 0 (map locRecord (startLocs n s)))
-  enter-none ls e = e ∙ table-empty (length ls)
+  enter-none ls e = e ∙ sym (table-empty (length ls))
 
   -- the listing of the starting shapes, before the first edge
   starting : Listing
@@ -105,7 +100,7 @@ module _ (s : List ℕ) (n m : ℕ) (g : check s ≡ good (routineOf n s)) (A : 
       → Holds (record { locs = startLocs n s; links = [] }) ls es m 0
   starts-held ls es p q room = record {
     locs = p;
-    edges = q ∙ table-empty (length es);
+    edges = q ∙ sym (table-empty (length es));
     locNumber = sym count-is;
     edgeNumber = refl;
     locsFit = omega (arith, count-is);

@@ -118,10 +118,6 @@ module _ (n : ℕ) (p : 0 < n) (h : n < 4096) where
   pub lowest-added : (cs : List ℕ) → length cs ≡ 12 → added n cs ≡ getD cs (trailingZeros 16 n) 0 + added (n - 2 ^ trailingZeros 16 n) cs
   lowest-added cs l = added-lowest 16 n cs (omega arith) p (rw l h)
 
-pub added-none : (cs : List ℕ) → added 0 cs ≡ 0
-added-none [] = refl
-added-none (c ∷ cs) = omega (arith, added-none cs)
-
 -- ---- a bound on a sum of counters of 32 bits
 
 pub added-most : (m : ℕ) (cs : List ℕ) → ((i : ℕ) → getD cs i 0 < 2 ^ 32) → added m cs ≤ 4294967295 * length cs

@@ -13,8 +13,8 @@ use Rattle.model.specs.Image.{cellSlot}
 use Rattle.model.specs.Records.{valOf}
 use Rattle.model.specs.Shape.{holdsCell, isCell}
 use Rattle.model.proofs.Logic.{bool-case, eq-case, eqb-same, or-r}
+use Rattle.model.proofs.Slices.{map-end, map-step}
 use Rattle.visit.specs.ByteLaws.{holds-byte, is-byte}
-use Rattle.visit.specs.ListLaws.{map-end, map-step}
 use Rattle.visit.specs.Steps.{CellsCounted, PointersCounted, heldOnce, heldTwice}
 use Rattle.visit.specs.Visit.{Held}
 

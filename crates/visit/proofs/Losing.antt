@@ -9,7 +9,7 @@ use lib.ListN.{length, getD, drop}
 use Rattle.model.specs.Heap.{Slot, eachUsed}
 use Rattle.model.specs.Image.{cellSlot}
 use Rattle.model.proofs.Logic.{bool-case}
-use Rattle.visit.specs.ListLaws.{map-end, map-step}
+use Rattle.model.proofs.Slices.{map-end, map-step}
 use Rattle.visit.specs.Steps.{lostAt}
 
 -- the cell has a mark

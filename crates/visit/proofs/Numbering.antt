@@ -2,8 +2,8 @@
 use Prim.Native.Nat.{ℕ, _<_, _≤_}
 use native.Mathlib.Nat.{zero-add}
 use native.Mathlib.Omega.{arith}
-use mathlib.Core.Path.{_≡_, refl, sym, ap, ap₂, _∙_}
-use mathlib.Core.Bool.{Bool, true, false, _&&_}
+use mathlib.Core.Path.{_≡_, sym, ap, ap₂, _∙_}
+use mathlib.Core.Bool.{true, false, _&&_, and-false}
 use mathlib.Core.List.{List, map}
 use lib.Dec.{eqb, leb}
 use lib.ListN.{length, getD, take, length-map}
@@ -16,10 +16,6 @@ use Rattle.visit.specs.Laws.{visited-length}
 use Rattle.visit.specs.ListLaws.{all-both, numbered-by, numbered-length, numbers-same}
 use Rattle.visit.specs.Steps.{placed}
 use Rattle.visit.specs.Visit.{Held, Visited}
-
-and-false : (a : Bool) → a && false ≡ false
-and-false true = refl
-and-false false = refl
 
 -- the order leaves a cell out
 pub not-numbered : {ps cs o s : List ℕ} {r : ℕ} → Visited ps cs o s r → length cs ≤ length o → (r ≡ length cs → ⊥) → canonical (heapOf ps cs) ≡ false

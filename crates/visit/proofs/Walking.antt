@@ -3,7 +3,7 @@ use Prim.Native.Nat.{ℕ, _+_, _<_, _≤_}
 use native.Mathlib.Numerals.{add-one}
 use native.Mathlib.Omega.{arith}
 use mathlib.Core.Path.{_≡_, refl, ap, subst, _∙_}
-use mathlib.Core.Bool.{true, false, not}
+use mathlib.Core.Bool.{true, false, not, or-false}
 use mathlib.Core.List.{List, [], _∷_, _++_, map}
 use lib.Dec.{eqb}
 use lib.ListN.{length, getD, set, take, drop, length-append, length-set}
@@ -13,12 +13,13 @@ use Rattle.model.specs.Base.{mem}
 use Rattle.model.specs.Heap.{Val, cell, null, undef, Slot, holds, closed, order}
 use Rattle.model.specs.Image.{heapOf}
 use Rattle.model.specs.Records.{valOf}
+use Rattle.model.proofs.Bytes.{val-cell}
 use Rattle.model.proofs.Facts.{test-closed}
-use Rattle.model.proofs.Logic.{bool-case, clash, eq-case, mem-append, mem-append-r, mem-here, not-true, or-nil}
+use Rattle.model.proofs.Logic.{bool-case, clash, eq-case, mem-append, mem-append-r, mem-here, not-true}
 use Rattle.model.proofs.Order.{nodup-snoc, pigeon, tours-same, toured, used-snoc}
+use Rattle.model.proofs.Slices.{map-end, map-step}
 use Rattle.model.proofs.Walks.{Closed, Tours, Used, Walks, at-null, at-seen, at-undef, go, tour-done, tour-more}
-use Rattle.visit.specs.ByteLaws.{cell-val, slot-val, used-few, val-cell}
-use Rattle.visit.specs.ListLaws.{map-end, map-step}
+use Rattle.visit.specs.ByteLaws.{cell-val, slot-val, used-few}
 use Rattle.visit.specs.Steps.{Visiting, Walked, slotAt}
 use Rattle.visit.specs.Visit.{VisitReady, Visited}
 
@@ -34,7 +35,7 @@ pub walk-past : (cs l : List ℕ) (v : ℕ) → Closed (slotAt cs) (valOf v) →
 walk-past cs l v k h = walk-none (slotAt cs) l (valOf v) (λ c e. let q = used-few cs c (rw e at k) in let p = cell-val v c e in omega arith)
 
 pub walk-seen : (cs l : List ℕ) (v : ℕ) → v < 0xfe → mem v l ≡ true → Walks (slotAt cs) l (valOf v) l
-walk-seen cs l v h m = rw (val-cell v h) (at-seen m)
+walk-seen cs l v h m = rw (val-cell v (λ e. omega arith) (λ e. omega arith)) (at-seen m)
 
 -- ---- one cell more
 
@@ -42,8 +43,11 @@ module _ {cs o s : List ℕ} {n : ℕ} (x : Visiting cs o s n) (v : ℕ) (k : Cl
   small : v < 0xfe
   small = let f = x .few in omega arith
 
+  is-cell : valOf v ≡ cell v
+  is-cell = let z = small in val-cell v (λ e. omega arith) (λ e. omega arith)
+
   in-use : Used (slotAt cs) v
-  in-use = rw (val-cell v small) at k
+  in-use = rw is-cell at k
 
   -- the mark tells whether the cell was seen
   pub marked-seen : (getD s v 0 ≡ 0 → ⊥) → mem v (take n o) ≡ true
@@ -78,14 +82,14 @@ module _ {cs o s : List ℕ} {n : ℕ} (x : Visiting cs o s n) (v : ℕ) (k : Cl
   put-behind e = let p = place-left e in let r = x .room in let q : n < length o = omega arith in rw add-one (take-suc-set o n v q)
 
   pub walk-go : getD s v 0 ≡ 0 → (t : List ℕ) → Walks (slotAt cs) (take (n + 1) (set o n v)) (valOf (getD cs v 0)) t → Walks (slotAt cs) (take n o) (valOf v) t
-  walk-go e t w = rw (val-cell v small) (go (marked-new e) (in-use .1 ∙ ap holds next-val) (rw (put-behind e) at w))
+  walk-go e t w = rw is-cell (go (marked-new e) (in-use .1 ∙ ap holds next-val) (rw (put-behind e) at w))
 
   marks-more : (c : ℕ) → c < length cs → eqb (getD (set s v 1) c 0) 0 ≡ not (mem c (take n o ++ v ∷ []))
   marks-more c i =
       let q = x .marks in
       eq-case c v
       (λ e. let b : v < length s = omega arith in rw (e, getD-set-same s v 1 0 b, mem-append-r v (take n o) (v ∷ []) (mem-here v [])))
-      (λ f. rw (getD-set-other s v c 1 0 (eqb-false c v f), mem-append c (take n o) (v ∷ []), f, or-nil (mem c (take n o))) (x .marked c i))
+      (λ f. rw (getD-set-other s v c 1 0 (eqb-false c v f), mem-append c (take n o) (v ∷ []), f, or-false (mem c (take n o))) (x .marked c i))
 
   pub visiting-more : getD s v 0 ≡ 0 → Visiting cs (set o n v) (set s v 1) (n + 1)
   visiting-more e = let p = place-left e in let b = put-behind e in record {

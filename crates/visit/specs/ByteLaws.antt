@@ -5,28 +5,25 @@ use mathlib.Core.Path.{_≡_, sym, ap, _∙_}
 use mathlib.Core.Bool.{false, not}
 use mathlib.Core.List.{List, [], _∷_, map}
 use lib.Dec.{eqb}
-use lib.ListN.{length, getD, length-map, List·getD-map, List·getD-eq-default}
+use lib.ListN.{length, getD, length-map, List·getD-eq-default}
 use borrow.Author.Tests.{ne-eqb}
 use Rattle.model.specs.Heap.{Val, cell, Slot, unused, holds, inUse, named}
 use Rattle.model.specs.Image.{cellSlot}
 use Rattle.model.specs.Records.{valByte, valOf}
 use Rattle.model.specs.Shape.{holdsCell, isCell}
 use Rattle.model.proofs.Bytes.{byte-back}
-use Rattle.model.proofs.Changes.{holds-inj, slot-clash}
+use Rattle.model.proofs.Lists.{getD-map}
 use Rattle.model.proofs.Logic.{bool-case, eq-case}
 use Rattle.model.proofs.Order.{used-below}
 use Rattle.model.proofs.Walks.{AllClosed, Closed, Used}
-use Rattle.visit.specs.ListLaws.{getD-any}
+use Rattle.model.proofs.Writes.{holds-inj, slot-clash}
 use Rattle.visit.specs.Steps.{slotAt}
-
-pub val-cell : (v : ℕ) → v < 0xfe → valOf v ≡ cell v
-val-cell v h = rw (ne-eqb v 0xfe (λ e. omega arith), ne-eqb v 0xff (λ e. omega arith))
 
 pub cell-val : (v c : ℕ) → valOf v ≡ cell c → v ≡ c
 cell-val v c e = sym (byte-back v) ∙ ap valByte e
 
 pub slot-at : (cs : List ℕ) (c : ℕ) → c < length cs → slotAt cs c ≡ cellSlot (getD cs c 0)
-slot-at cs c h = List·getD-map cellSlot cs c 0xfd ∙ ap cellSlot (getD-any cs c 0xfd 0 h)
+slot-at cs c h = getD-map cellSlot cs c 0 unused h
 
 pub slot-past : (cs : List ℕ) (c : ℕ) → length cs ≤ c → slotAt cs c ≡ unused
 slot-past cs c h = let l : length (map cellSlot cs) ≤ c = rw (length-map cs cellSlot) h in List·getD-eq-default (map cellSlot cs) unused l

@@ -2,7 +2,7 @@
 use Prim.Native.Nat.{ℕ, suc, _+_, _<_, _≤_}
 use native.Mathlib.Omega.{arith}
 use mathlib.Core.Path.{_≡_, refl, sym, ap, ap₂, subst, _∙_}
-use mathlib.Core.Bool.{Bool, true, false, not, _&&_}
+use mathlib.Core.Bool.{Bool, true, not, _&&_, Bool·not-not}
 use mathlib.Core.List.{List, [], _∷_, map}
 use lib.Dec.{eqb, ltb}
 use lib.ListN.{length, getD, take, length-map, List·getD-eq-default}
@@ -12,16 +12,13 @@ use Rattle.model.specs.Base.{mem}
 use Rattle.model.specs.Heap.{Slot, unused, holds, closed, eachUsed, kept, next, order}
 use Rattle.model.specs.Image.{cellSlot, heapOf}
 use Rattle.model.proofs.Facts.{test-closed}
+use Rattle.model.proofs.Lists.{mem-at}
 use Rattle.model.proofs.Logic.{NoDup, bool-case}
 use Rattle.model.proofs.Order.{toured}
 use Rattle.model.proofs.Walks.{Used}
 use Rattle.visit.specs.ByteLaws.{used-few}
-use Rattle.visit.specs.ListLaws.{mem-at, nodup-at}
+use Rattle.visit.specs.ListLaws.{nodup-at}
 use Rattle.visit.specs.Visit.{Visited}
-
-not-not : (b : Bool) → not (not b) ≡ b
-not-not true = refl
-not-not false = refl
 
 -- tests that agree on the cells
 each-same : (p q : ℕ → Bool) (i : ℕ) (ss : List Slot) → ((c : ℕ) → c < i + length ss → p c ≡ q c) → eachUsed p i ss ≡ eachUsed q i ss
@@ -34,7 +31,7 @@ module _ {ps cs o s : List ℕ} {r : ℕ} (d : Visited ps cs o s r) where
   pub kept-marked : eachUsed (λ c. not (eqb (getD s c 0) 0)) 0 (map cellSlot cs) ≡ kept (heapOf ps cs)
   kept-marked =
       each-same (λ c. not (eqb (getD s c 0) 0)) (λ c. mem c (order (heapOf ps cs))) 0 (map cellSlot cs)
-      (λ c k. let h : c < length cs = omega (arith, length-map cs cellSlot) in ap not (d .marked c h) ∙ not-not (mem c (order (heapOf ps cs))))
+      (λ c k. let h : c < length cs = omega (arith, length-map cs cellSlot) in ap not (d .marked c h) ∙ Bool·not-not (mem c (order (heapOf ps cs))))
 
   -- the order has r cells, where there is room for all
   pub visited-length : length cs ≤ length o → length (order (heapOf ps cs)) ≡ r

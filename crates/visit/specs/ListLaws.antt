@@ -7,23 +7,13 @@ use mathlib.Core.Path.{_≡_, refl, sym, ap, ap₂, subst, _∙_}
 use mathlib.Core.Bool.{Bool, true, false, _&&_}
 use mathlib.Core.List.{List, [], _∷_, map}
 use lib.Dec.{eqb}
-use lib.ListN.{length, getD, drop, drop-of-length-le}
-use lib.Seq.{drop-cons}
+use lib.ListN.{length, getD, drop}
 use Rattle.model.specs.Base.{all, mem, numbers, sameList}
-use Rattle.model.proofs.Logic.{NoDup, clash, mem-here, mem-there, not-true}
+use Rattle.model.proofs.Lists.{mem-at}
+use Rattle.model.proofs.Logic.{NoDup, clash, not-true}
+use Rattle.model.proofs.Numbers.{length-numbers}
 use Rattle.model.proofs.Same.{bytes-same}
-
-pub getD-any : (l : List ℕ) (n d e : ℕ) → n < length l → getD l n d ≡ getD l n e
-getD-any [] n d e h = absurd (omega arith)
-getD-any (a ∷ l) zero d e h = refl
-getD-any (a ∷ l) (suc n) d e h = getD-any l n d e (omega arith)
-
--- one turn of a loop over a list, and its end
-pub map-step : {B : Type 0} (f : ℕ → B) (l : List ℕ) (i : ℕ) → i < length l → map f (drop i l) ≡ f (getD l i 0) ∷ map f (drop (i + 1) l)
-map-step f l i h = rw (add-one, drop-cons l i 0)
-
-pub map-end : {B : Type 0} (f : ℕ → B) (l : List ℕ) (i : ℕ) → length l ≤ i → map f (drop i l) ≡ []
-map-end f l i h = rw (drop-of-length-le l h)
+use Rattle.model.proofs.Slices.{map-end, map-step}
 
 -- a loop that tests each element: one that passes, one that fails, and the end
 pub all-pass : {B : Type 0} (p : B → Bool) (f : ℕ → B) (l : List ℕ) (i : ℕ) → i < length l → p (f (getD l i 0)) ≡ true
@@ -48,10 +38,6 @@ numbers-fail p i n h e = ap (all p) (numbers-step i n h) ∙ rw e
 
 pub numbers-end : (p : ℕ → Bool) (i n : ℕ) → n ≤ i → all p (numbers i (n - i)) ≡ true
 numbers-end p i n h = let e : n - i ≡ 0 = omega arith in rw e
-
-pub length-numbers : (i n : ℕ) → length (numbers i n) ≡ n
-length-numbers i zero = refl
-length-numbers i (suc n) = ap suc (length-numbers (suc i) n)
 
 and-cross : (a b c d : Bool) → (a && b) && (c && d) ≡ (a && c) && (b && d)
 and-cross true true c d = refl
@@ -80,12 +66,6 @@ numbered-by f (x ∷ l) i h =
 -- a list of another length is not the first n numbers
 pub numbered-length : (l : List ℕ) (n : ℕ) → (length l ≡ n → ⊥) → sameList eqb l (numbers 0 n) ≡ false
 numbered-length l n h = not-true _ (λ e. h (ap length (bytes-same l (numbers 0 n) e) ∙ length-numbers 0 n))
-
--- an element stands in its list
-pub mem-at : (l : List ℕ) (i : ℕ) → i < length l → mem (getD l i 0) l ≡ true
-mem-at [] i h = absurd (omega arith)
-mem-at (x ∷ l) zero h = mem-here x l
-mem-at (x ∷ l) (suc i) h = mem-there (getD l i 0) x l (mem-at l i (omega arith))
 
 -- different places of a list without repetition have different numbers
 pub nodup-at : (l : List ℕ) (i j : ℕ) → NoDup l → i < length l → j < length l → getD l i 0 ≡ getD l j 0 → i ≡ j

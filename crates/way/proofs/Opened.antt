@@ -5,7 +5,7 @@ use mathlib.Core.List.{List, [], _∷_, _++_, append-nil, map, map-append}
 use mathlib.Core.Path.{_≡_, refl, ap, ap₂, sym, _∙_}
 use native.Mathlib.Omega.{arith}
 use lib.Dec.{eqb, ltb}
-use lib.ListN.{List·getD-map, drop, drop-of-length-le, getD, length, length-drop, length-map, set, take}
+use lib.ListN.{drop, drop-of-length-le, getD, length, length-drop, length-map, set, take}
 use lib.Seq.{drop-drop, getD-take, length-take-le, set-append-left, take-add, take-append-le, take-set-lt, take-take}
 use borrow.Author.Tests.{eqb-true, ltb-true, ne-eqb}
 use Rattle.model.specs.Base.{all}
@@ -14,9 +14,10 @@ use Rattle.model.specs.Heap.{Heap, Slot, unused, holds, cell, undef, inUse}
 use Rattle.model.specs.Image.{cellSlot, heapOf}
 use Rattle.model.specs.Machine.{Stmt, answerOf, refused, done, setPtr, new, effect, run, keep, put, step}
 use Rattle.model.specs.Records.{byte, shapeOf, valOf, valueByte}
+use Rattle.model.proofs.Lists.{getD-map, map-set}
 use Rattle.model.proofs.Logic.{and-l, and-r, bool-case, or-cases}
 use Rattle.way.specs.Way.{OpenReady, openedBytes, openedCount, openedHeap, withUnused}
-use Rattle.way.proofs.ListLaws.{getD-any, map-set, take-push}
+use Rattle.way.proofs.ListLaws.{take-push}
 
 put-end : (l : List Slot) (s : Slot) → put l (length l) s ≡ l ++ s ∷ []
 put-end [] s = refl
@@ -70,7 +71,7 @@ module _ (ss : List ℕ) (few : length ss ≤ 12) (values : all (valueByte (leng
 
   slot-of : (n : ℕ) → n < length ss → cellSlot (getD ss n 0) ≡ getD (map (λ b. holds (valOf b)) ss) n unused
   slot-of n h =
-      ap cellSlot (getD-any ss n 0 0xfd h) ∙ sym (List·getD-map cellSlot ss n 0xfd) ∙ ap (λ l. getD l n unused) same-slots
+      sym (getD-map cellSlot ss n 0 unused h) ∙ ap (λ l. getD l n unused) same-slots
 
   split-slots : (n : ℕ) → n < length ss → map cellSlot (set ss n (length ss) ++ getD ss n 0 ∷ [])
       ≡ put (put (map (λ b. holds (valOf b)) ss) (length ss) (getD (map (λ b. holds (valOf b)) ss) n unused)) n (holds (cell (length ss)))

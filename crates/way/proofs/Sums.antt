@@ -1,7 +1,7 @@
 -- Sums over cells, for the loop that adds them up: one cell more, what an entry is after a turn, and how large it can be.
 use Prim.Native.Nat.{ℕ, _+_, _*_, _%_, _^_, _≤_, _<_}
 use mathlib.Core.Bool.{Bool, true, false, cond}
-use mathlib.Core.List.{List, [], _∷_, _++_}
+use mathlib.Core.List.{List, [], _∷_}
 use mathlib.Core.Path.{_≡_, sym, ap, subst, _∙_}
 use native.Mathlib.Nat.{one-mul}
 use native.Mathlib.Omega.{arith}
@@ -10,10 +10,9 @@ use lib.ListN.{getD, getD-replicate, length, length-replicate, replicate, set, t
 use lib.Pow.{pow-mono, shl-exact}
 use lib.Seq.{getD-set-other, getD-set-same}
 use borrow.Author.Tests.{eq-eqb, eqb-false}
-use Rattle.model.specs.Base.{sum}
 use Rattle.model.proofs.Logic.{eq-case}
+use Rattle.model.proofs.Slices.{sum-append, take-next}
 use Rattle.way.specs.Way.{CellsReady, baseAt, sumAt}
-use Rattle.way.proofs.ListLaws.{take-next}
 
 -- a power of two that fits
 pub shifted : (c : ℕ) → c ≤ 11 → (1 * 2 ^ c) % 2 ^ 16 ≡ 2 ^ c
@@ -21,10 +20,6 @@ shifted c h = shl-exact 1 c 16 (omega arith) (omega arith) ∙ one-mul (2 ^ c)
 
 pub power-most : (c : ℕ) → c ≤ 11 → 2 ^ c ≤ 4096
 power-most c h = let h12 : c ≤ 12 = omega arith in pow-mono h12
-
-pub sum-append : (f : ℕ → ℕ) (l m : List ℕ) → sum f (l ++ m) ≡ sum f l + sum f m
-sum-append f [] m = omega arith
-sum-append f (x ∷ l) m = omega (arith, sum-append f l m)
 
 sum-next : (node : List ℕ) (f : ℕ → ℕ) (j : ℕ) (l : List ℕ) (i : ℕ) → i < length l
     → sumAt node f j (take (i + 1) l) ≡ sumAt node f j (take i l) + cond (eqb (getD node (getD l i 0) 0) j) (f (getD l i 0)) 0

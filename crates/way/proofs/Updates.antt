@@ -5,7 +5,7 @@ use mathlib.Core.List.{List, [], _∷_, map}
 use mathlib.Core.Path.{_≡_, refl, sym, ap, ap₂, subst, _∙_}
 use native.Mathlib.Omega.{arith}
 use lib.Dec.{eqb}
-use lib.ListN.{List·getD-map, getD, length, length-map, take}
+use lib.ListN.{getD, length, length-map, take}
 use lib.Seq.{ext-getD, getD-take, length-take-le}
 use borrow.Author.Tests.{eq-eqb, eqb-true, ne-eqb}
 use Rattle.model.specs.Base.{mem, sum}
@@ -13,14 +13,14 @@ use Rattle.model.specs.Edges.{Guard, updateOf, split, whole}
 use Rattle.model.specs.Heap.{Heap}
 use Rattle.model.specs.Records.{updateCode}
 use Rattle.model.specs.Shape.{Seg, cells}
-use Rattle.model.proofs.Logic.{NoDup, bool-ext, clash, mem-append-cases, mem-append-l, mem-append-r, mem-here, mem-there}
+use Rattle.model.proofs.Cuts.{flat-mem, flat-nodup, mem-flat}
+use Rattle.model.proofs.Lists.{getD-map}
+use Rattle.model.proofs.Logic.{NoDup, bool-ext, mem-here, mem-there}
 use Rattle.model.proofs.Notions.{flat, segAt}
-use Rattle.model.proofs.Start.{nodup-l, nodup-r}
+use Rattle.model.proofs.Slices.{sum-append}
 use Rattle.model.proofs.Walks.{seg}
 use Rattle.way.specs.Way.{codeAt, plusOf, sumAt, weightAt}
 use Rattle.way.proofs.Codes.{segment-update}
-use Rattle.way.proofs.ListLaws.{getD-any}
-use Rattle.way.proofs.Sums.{sum-append}
 
 -- the weights are those of the ways out of a shape
 pub weight-split : (n : ℕ) (h : Heap) → split n h .weight ≡ weightAt true n (length (h .slots))
@@ -28,23 +28,6 @@ weight-split n h = refl
 
 pub weight-whole : (g : Guard) (p n : ℕ) (h : Heap) → whole g p h .weight ≡ weightAt false n (length (h .slots))
 weight-whole g p n h = refl
-
--- ---- a cell of a segment is a cell of all
-
-mem-flat : (ss : List Seg) (j c : ℕ) → j < length ss → mem c (cells (segAt ss j)) ≡ true → mem c (flat ss) ≡ true
-mem-flat [] j c h q = absurd (omega arith)
-mem-flat (s ∷ ss) zero c h q = mem-append-l c (cells s) (flat ss) q
-mem-flat (s ∷ ss) (suc j) c h q = mem-append-r c (cells s) (flat ss) (mem-flat ss j c (omega arith) q)
-
-flat-mem : (ss : List Seg) (c : ℕ) → mem c (flat ss) ≡ true → (j : ℕ) × (j < length ss) × (mem c (cells (segAt ss j)) ≡ true)
-flat-mem [] c h = clash h refl
-flat-mem (s ∷ ss) c h = mem-append-cases c (cells s) (flat ss) h (λ q. (0, omega arith, q))
-    (λ q. let r = flat-mem ss c q in (suc (r .0), omega arith, r .2))
-
-flat-nodup : (ss : List Seg) (j : ℕ) → NoDup (flat ss) → j < length ss → NoDup (cells (segAt ss j))
-flat-nodup [] j nd h = absurd (omega arith)
-flat-nodup (s ∷ ss) zero nd h = nodup-l (cells s) (flat ss) nd
-flat-nodup (s ∷ ss) (suc j) nd h = flat-nodup ss j (nodup-r (cells s) (flat ss) nd) (omega arith)
 
 -- ---- sums over all cells
 
@@ -125,6 +108,5 @@ module _ (l node : List ℕ) (k : ℕ) (sp : Bool) (at : ℕ) (ss : List Seg) (S
       ext-getD 0 (take (length ss) us) (map code ss) (len ∙ sym (length-map ss code))
       (λ j lt.
       let below : j < length ss = rw len at lt in
-      let inside : j < length (map code ss) = rw (length-map ss code) below in
       getD-take (length ss) us j 0 below ∙ e j below ∙ update-code j below
-      ∙ sym (getD-any (map code ss) j 0 (code (seg 0 [])) inside ∙ List·getD-map code ss j (seg 0 [])))
+      ∙ sym (getD-map code ss j (seg 0 []) 0 below))

@@ -5,7 +5,8 @@ use lib.ListN.{drop, length-drop}
 use lib.Seq.{length-take-le}
 use borrow.Author.Needs.{needs}
 use Rattle.edge.proofs.Keeping.{keep-leaves}
-use Rattle.edge.proofs.Ready.{accepted-fields, location-wide, nodes-few}
+use Rattle.model.proofs.Statements.{statement-fields}
+use Rattle.edge.proofs.Ready.{location-wide, nodes-few}
 use Rattle.edge.proofs.keep_edge.Statement.{statement}
 use Rattle.edge.proofs.keep_edge.Tie as tie
 
@@ -17,7 +18,7 @@ branch-of-requires c κs =
     let s = c .before .before .before .before .before .before .before .before in
     let l = s .args .location .now in
     let R = s .pre .1 .ready in
-    let f = accepted-fields (s .pre .1 .statements) (s .args .statement .now) (R .statement .accepted) in
+    let f = statement-fields (s .pre .1 .statements) (s .args .statement .now) (R .statement .accepted) in
     (f .0, f .1, f .2, length-take-le 6 (drop 4 l) (omega (arith, location-wide R, length-drop 4 l)))
 
 move-to-requires : tie.Need-move-to-requires

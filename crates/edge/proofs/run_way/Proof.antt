@@ -3,7 +3,8 @@ use mathlib.Core.Path.{sym, _∙_}
 use native.Mathlib.Omega.{arith}
 use lib.Seq.{length-take-le}
 use borrow.Author.Needs.{needs}
-use Rattle.edge.proofs.Ready.{accepted-fields, location-wide, nodes-few, open-ready}
+use Rattle.model.proofs.Statements.{statement-fields}
+use Rattle.edge.proofs.Ready.{location-wide, nodes-few, open-ready}
 use Rattle.edge.proofs.Running.{run-ready, way-ran}
 use Rattle.edge.proofs.run_way.Statement.{statement}
 use Rattle.edge.proofs.run_way.Tie as tie
@@ -23,7 +24,7 @@ branch-of-requires : tie.Need-branch-of-requires
 branch-of-requires c κs =
     let s = c .before .before .before .before .before .before .before .before .before .before .before .before .before .before .before .before .before in
     let o = c .before .before .before .before .before .open-way in
-    let f = accepted-fields (s .pre .statements) (s .args .statement .now) (s .pre .ready .statement .accepted) in
+    let f = statement-fields (s .pre .statements) (s .args .statement .now) (s .pre .ready .statement .accepted) in
     (f .0, f .1, f .2, o .kept .1 .1 .1 .1 .0 ∙ s .pre .six)
 
 slice-relend-prefix-run : tie.Need-slice-relend-prefix-run

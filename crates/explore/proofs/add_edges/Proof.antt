@@ -4,7 +4,8 @@ use mathlib.Core.Path.{_≡_, _∙_}
 use native.Mathlib.Omega.{arith}
 use borrow.Author.Needs.{needs}
 use Rattle.model.specs.Records.{byte}
-use Rattle.explore.proofs.Here.{access-is, choice-ways, fields, location-wide, no-node, node-value, node-ways, plain-way, six-taken, stop-edges}
+use Rattle.model.proofs.Bytes.{val-cell}
+use Rattle.explore.proofs.Here.{access-is, choice-ways, fields, location-wide, no-node, node-ways, plain-way, six-taken, stop-edges}
 use Rattle.explore.proofs.Both.{nothing-added, only-added, only-given}
 use Rattle.explore.proofs.add_edges.Statement.{statement}
 use Rattle.explore.proofs.add_edges.Tie as tie
@@ -29,7 +30,7 @@ add-two-requires c κs =
     let s = c .before .before .before .before .before .before .before .before .before .before .before .before .before .before .before in
     let v = c .before .before .before .before .before .access in
     let h : v .result < 0xfd = search needs in
-    let e = access-is (s .args .location .now) (s .args .statement .now) (v .result) (v .ensures) ∙ node-value (v .result) h in
+    let e = access-is (s .args .location .now) (s .args .statement .now) (v .result) (v .ensures) ∙ val-cell (v .result) (λ q. omega arith) (λ q. omega arith) in
     (s .pre, rw (c .before .before .before .make-way .ensures, c .before .before .make-way2 .ensures) (λ n k g A. node-ways A (v .result) e))
 
 add-two-requires-2 : tie.Need-add-two-requires-2

@@ -4,7 +4,7 @@ use mathlib.Core.Option.{none, some}
 use native.Mathlib.Omega.{arith}
 use borrow.Author.Needs.{needs}
 use borrow.Author.Tests.{lt-ltb, le-ltb}
-use Rattle.input.specs.Input.{recordsOf}
+use Rattle.model.proofs.Listings.{recordsOf}
 use Rattle.input.specs.Parts.{kindFound}
 use Rattle.input.proofs.Outcomes.{kinds-4, kinds-rest}
 use Rattle.input.proofs.check_kinds.Statement.{statement}

@@ -7,7 +7,7 @@ use lib.ListN.{drop}
 use borrow.Author.Needs.{needs}
 use Rattle.model.specs.Records.{recordAt}
 use Rattle.model.specs.Translate.{badRecord, refusal}
-use Rattle.input.specs.Input.{recordsOf}
+use Rattle.model.proofs.Listings.{recordsOf}
 use Rattle.input.specs.Parts.{earlier}
 use Rattle.input.proofs.Records.{records-pass, records-fail, records-pass-end}
 use Rattle.input.proofs.Shapes.{number-few}

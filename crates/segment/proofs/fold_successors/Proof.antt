@@ -5,8 +5,8 @@ use mathlib.Core.List.{_++_, map}
 use native.Mathlib.Omega.{arith}
 use lib.ListN.{length, getD, take, drop}
 use borrow.Author.Needs.{needs}
+use Rattle.model.proofs.Slices.{map-fill}
 use Rattle.segment.specs.Fold.{foldByte}
-use Rattle.segment.proofs.ListLaws.{map-fill}
 use Rattle.segment.proofs.fold_successors.Statement.{statement}
 use Rattle.segment.proofs.fold_successors.Tie as tie
 
@@ -33,7 +33,7 @@ loop-again c =
     let f : ℕ → ℕ = λ x. foldByte (a .node .now) (getD (a .cells .now) x 0) in
     let v : l .i < length (a .last .now) = omega arith in
     let t : l .i < length (a .to .now) = omega arith in
-    (omega arith, search needs, map-fill f (a .last .now) (a .to .now) (l .to) (l .i) (c .fold-byte .result) v t (l .inv .2) (c .fold-byte .ensures))
+    (omega arith, search needs, map-fill f (a .last .now) (a .to .now) (l .to) 0 (l .i) (c .fold-byte .result) v t (l .inv .2) (c .fold-byte .ensures))
 
 returns : tie.Need-returns Inv-loop μ-loop
 returns c =

@@ -6,8 +6,8 @@ use native.Mathlib.Omega.{arith}
 use lib.ListN.{length, take, drop}
 use lib.Seq.{take-length}
 use borrow.Author.Needs.{needs}
+use Rattle.model.proofs.Slices.{map-fill}
 use Rattle.segment.specs.Fold.{foldByte}
-use Rattle.segment.proofs.ListLaws.{map-fill}
 use Rattle.segment.proofs.fold_values.Statement.{statement}
 use Rattle.segment.proofs.fold_values.Tie as tie
 
@@ -26,7 +26,7 @@ loop-again c =
     let l = c .before .before .before .loop in
     let v : l .i < length (a .values .now) = search needs in
     let t : l .i < length (a .to .now) = omega arith in
-    (omega arith, search needs, map-fill (foldByte (a .node .now)) (a .values .now) (a .to .now) (l .to) (l .i) (c .fold-byte .result) v t (l .inv .2) (c .fold-byte .ensures))
+    (omega arith, search needs, map-fill (foldByte (a .node .now)) (a .values .now) (a .to .now) (l .to) 0 (l .i) (c .fold-byte .result) v t (l .inv .2) (c .fold-byte .ensures))
 
 returns : tie.Need-returns Inv-loop μ-loop
 returns c =

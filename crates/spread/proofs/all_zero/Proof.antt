@@ -8,7 +8,7 @@ use Rattle.model.specs.Records.{isZero}
 use lib.ListN.{drop, getD, length}
 use borrow.Author.Needs.{needs}
 use Rattle.model.specs.Base.{all}
-use Rattle.spread.proofs.ListLaws.{all-end, all-step}
+use Rattle.model.proofs.Slices.{all-end, all-step}
 use Rattle.spread.proofs.all_zero.Statement.{statement}
 use Rattle.spread.proofs.all_zero.Tie as tie
 

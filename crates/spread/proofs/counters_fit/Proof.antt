@@ -9,7 +9,7 @@ use lib.Seq.{length-take-le}
 use borrow.Author.Needs.{needs}
 use Rattle.model.specs.Base.{all}
 use Rattle.model.specs.Records.{isZero}
-use Rattle.spread.proofs.ListLaws.{part-tail}
+use Rattle.model.proofs.Slices.{part-from}
 use Rattle.spread.proofs.counters_fit.Statement.{statement}
 use Rattle.spread.proofs.counters_fit.Tie as tie
 
@@ -24,7 +24,7 @@ returns c =
     let vs = a .counters .now in
     let h : a .k ≤ length vs = omega arith in
     let p : all (leb 1) (take (a .k) vs) ≡ true = cc in
-    let z : all isZero (drop (a .k) vs) ≡ true = cc (part-tail vs (a .k)) in
+    let z : all isZero (drop (a .k) vs) ≡ true = cc (part-from vs (a .k)) in
     rw (p, z, c .total .ensures)
 
 returns-2 : tie.Need-returns-2
@@ -32,7 +32,7 @@ returns-2 c =
     let a = c .before .before .before .before .before .before .before .args in
     let vs = a .counters .now in
     let p : all (leb 1) (take (a .k) vs) ≡ true = cc in
-    let z : all isZero (drop (a .k) vs) ≡ false = cc (part-tail vs (a .k)) in
+    let z : all isZero (drop (a .k) vs) ≡ false = cc (part-from vs (a .k)) in
     rw (p, z)
 
 returns-3 : tie.Need-returns-3

@@ -5,8 +5,9 @@ use mathlib.Core.List.{_∷_, _++_, map}
 use native.Mathlib.Omega.{arith}
 use lib.ListN.{drop, getD, length, length-set, take}
 use borrow.Author.Needs.{needs}
+use Rattle.model.proofs.Slices.{map-end, map-step}
 use Rattle.spread.specs.Bytes.{placedByte}
-use Rattle.spread.proofs.ListLaws.{map-end, map-step, push, pushed}
+use Rattle.spread.proofs.ListLaws.{push, pushed}
 use Rattle.spread.proofs.place_pointers.Statement.{statement}
 use Rattle.spread.proofs.place_pointers.Tie as tie
 

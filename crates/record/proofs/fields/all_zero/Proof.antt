@@ -6,8 +6,8 @@ use lib.ListN.{length, drop}
 use borrow.Author.Tests.{eq-eqb, ne-eqb}
 use Rattle.model.specs.Base.{all}
 use Rattle.model.specs.Records.{isZero}
-use Rattle.record.proofs.ListLaws.{all-step, all-end}
 use borrow.Author.Needs.{needs}
+use Rattle.model.proofs.Slices.{all-end, all-step}
 use Rattle.record.proofs.fields.all_zero.Statement.{statement}
 use Rattle.record.proofs.fields.all_zero.Tie as tie
 

@@ -1,26 +1,24 @@
 -- Records of the right kinds: first the statements, then the shapes, and no others.
-use Prim.Native.Nat.{ℕ, suc, _+_, _*_}
-use native.Mathlib.Omega.{arith}
-use mathlib.Core.Path.{_≡_, refl, sym, _∙_}
-use mathlib.Core.Bool.{Bool, true, false, _&&_}
+use Prim.Native.Nat.{_+_, suc, ℕ}
+use mathlib.Core.Path.{_∙_, _≡_, refl, sym}
 use mathlib.Core.Option.{none, some}
+use mathlib.Core.Bool.{and-false, false, true}
 use mathlib.Core.List.{List, [], _∷_}
-use lib.ListN.{length, take, drop}
+use native.Mathlib.Omega.{arith}
+use lib.ListN.{drop, length, take}
 use borrow.Author.Tests.{eqb-true, ne-eqb}
 use Rattle.model.specs.Base.{all, count}
 use Rattle.model.specs.Records.{byte, isH, isS}
 use Rattle.model.specs.Translate.{badKind}
 use Rattle.model.proofs.Lists.{some-none}
 use Rattle.model.proofs.Logic.{and-both, bool-case}
-use Rattle.input.specs.Input.{recordsOf}
-use Rattle.input.proofs.Records.{records-length}
 
--- an S is no H
+-- a record is not of both kinds
 pub no-shape : (r : List ℕ) → isS r ≡ true → isH r ≡ false
 no-shape r h = ne-eqb (byte r 0) 0x48 (λ e. let k = eqb-true (byte r 0) 0x53 h in omega arith)
 
-pub no-statement : (r : List ℕ) → isH r ≡ true → isS r ≡ false
-no-statement r h = ne-eqb (byte r 0) 0x53 (λ e. let k = eqb-true (byte r 0) 0x48 h in omega arith)
+pub not-both : (r : List ℕ) → isH r ≡ true → isS r ≡ false
+not-both r h = ne-eqb (byte r 0) 0x53 (λ e. let k = eqb-true (byte r 0) 0x48 h in omega arith)
 
 pub record Sorted (rs : List (List ℕ)) : Type 0 where
   pub statements : all isS (take (count isS rs) rs) ≡ true
@@ -33,20 +31,16 @@ record Shapes (rs : List (List ℕ)) : Type 0 where
   all-h : all isH rs ≡ true
   count-h : count isH rs ≡ length rs
 
-and-not : (b : Bool) → b && false ≡ false
-and-not true = refl
-and-not false = refl
-
 shapes : (i : ℕ) (rs : List (List ℕ)) → badKind true i rs ≡ none → Shapes rs
 shapes i [] e = record { none-s = refl; all-h = refl; count-h = refl }
 shapes i (r ∷ rs) e = bool-case (isH r)
     (λ h. let q = shapes (suc i) rs (rw (h, badKind) at e) in
     record {
-      none-s = rw (no-statement r h) (omega (arith, q .none-s));
+      none-s = rw (not-both r h) (omega (arith, q .none-s));
       all-h = and-both (isH r) (all isH rs) h (q .all-h);
       count-h = rw h (omega (arith, q .count-h));
     })
-    (λ h. let z : badKind true i (r ∷ rs) ≡ some i = rw (h, badKind) (rw (and-not (isS r), badKind)) in some-none (sym e ∙ z))
+    (λ h. let z : badKind true i (r ∷ rs) ≡ some i = rw (h, badKind) (rw (and-false (isS r), badKind)) in some-none (sym e ∙ z))
 
 shapes-sorted : (rs : List (List ℕ)) → Shapes rs → Sorted rs
 shapes-sorted rs q = record {
@@ -73,7 +67,3 @@ kinds-sorted i (r ∷ rs) e = bool-case (isH r)
     bool-case (isS r)
     (λ s. sorted-more r rs s (kinds-sorted (suc i) rs (rw (s, badKind) at z)))
     (λ s. let y : badKind false i (r ∷ rs) ≡ some i = rw (h, badKind) (rw (s, badKind)) in some-none (sym e ∙ y)))
-
--- so the records of an input are its statements and its shapes
-pub counts-whole : (s : List ℕ) (n : ℕ) → 32 * n ≡ length s → badKind false 0 (recordsOf s) ≡ none → count isS (recordsOf s) + count isH (recordsOf s) ≡ n
-counts-whole s n w e = kinds-sorted 0 (recordsOf s) e .whole ∙ records-length s n w

@@ -1,0 +1,68 @@
+-- Parts of lists: what is left from a place on and what stands before it, with tests, maps and sums of these, for a loop at that place.
+use Prim.Native.Nat.{_+_, _-_, _<_, _≤_, suc, zero, ℕ}
+use mathlib.Core.Path.{_∙_, _≡_, ap, sym}
+use mathlib.Core.Bool.{Bool, _&&_, true}
+use mathlib.Core.List.{List, [], _++_, _∷_, append-assoc, map, map-append}
+use native.Mathlib.Numerals.{add-one}
+use native.Mathlib.Omega.{arith}
+use lib.ListN.{drop, drop-of-length-le, getD, length, length-drop, length-map, set, take}
+use lib.Seq.{drop-cons, length-take-le, paste-suc, set-at, take-all, take-suc}
+use Rattle.model.specs.Base.{all, sum}
+
+-- what is left from i on
+pub drop-step : (l : List ℕ) (i : ℕ) → i < length l → drop i l ≡ getD l i 0 ∷ drop (i + 1) l
+drop-step l i h = drop-cons l i 0 h ∙ ap (λ n. getD l i 0 ∷ drop n l) (sym (add-one i))
+
+-- one element more of the front
+pub take-next : (l : List ℕ) (i : ℕ) → i < length l → take (i + 1) l ≡ take i l ++ getD l i 0 ∷ []
+take-next l i h = ap (λ n. take n l) (add-one i) ∙ take-suc l i 0 h
+
+-- the part from a on, as a lent part has it
+pub part-from : (l : List ℕ) (a : ℕ) → take (length l - a) (drop a l) ≡ drop a l
+part-from l a = take-all (length l - a) (drop a l) (omega (arith, length-drop a l))
+
+-- one turn of a loop that tests each element, and its end
+pub all-step : (p : ℕ → Bool) (l : List ℕ) (i : ℕ) → i < length l → all p (drop i l) ≡ p (getD l i 0) && all p (drop (i + 1) l)
+all-step p l i h = ap (all p) (drop-step l i h)
+
+pub all-end : (p : ℕ → Bool) (l : List ℕ) (i : ℕ) → length l ≤ i → all p (drop i l) ≡ true
+all-end p l i h = ap (all p) (drop-of-length-le l h)
+
+-- and of one that reads each
+pub map-step : {B : Type 0} (f : ℕ → B) (l : List ℕ) (i : ℕ) → i < length l → map f (drop i l) ≡ f (getD l i 0) ∷ map f (drop (i + 1) l)
+map-step f l i h = ap (map f) (drop-step l i h)
+
+pub map-end : {B : Type 0} (f : ℕ → B) (l : List ℕ) (i : ℕ) → length l ≤ i → map f (drop i l) ≡ []
+map-end f l i h = ap (map f) (drop-of-length-le l h)
+
+-- ---- stores
+
+-- a list s whose first elements are f of those of vs, and whose others are those of t: one store more
+pub map-fill : {A B : Type 0} (f : A → B) (vs : List A) (t s : List B) (d : A) (i : ℕ) (x : B) → i < length vs → i < length t
+    → s ≡ map f (take i vs) ++ drop i t → x ≡ f (getD vs i d) → set s i x ≡ map f (take (i + 1) vs) ++ drop (i + 1) t
+map-fill f vs t s d i x h k e q =
+    let p = map f (take i vs) in
+    let n : length p ≡ i = length-map (take i vs) f ∙ length-take-le i vs (omega arith) in
+    ap (λ l. set l i x) (e ∙ ap (λ l. p ++ l) (drop-cons t i x k)) ∙ set-at p (getD t i x) (drop (suc i) t) x i n
+    ∙ rw add-one (sym (ap (λ l. map f l ++ drop (suc i) t) (take-suc vs i d h) ∙ ap (λ l. l ++ drop (suc i) t) (map-append f (take i vs) (getD vs i d ∷ []))
+    ∙ append-assoc p (f (getD vs i d) ∷ []) (drop (suc i) t) ∙ ap (λ y. p ++ y ∷ drop (suc i) t) (sym q)))
+
+-- one element more of rec copied over the front of part
+pub copy-turn : (part rec : List ℕ) (i : ℕ) → i < length part → i < length rec
+    → set (take i rec ++ drop i part) i (getD rec i 0) ≡ take (i + 1) rec ++ drop (i + 1) part
+copy-turn part rec i h k =
+    let z : 0 + i ≡ i = omega arith in
+    let y : 0 + (i + 1) ≡ i + 1 = omega arith in
+    let p = paste-suc part 0 rec i 0 (omega arith) k in
+    rw (z, ← add-one i, y) at p
+
+-- ---- sums
+
+pub sum-append : (w : ℕ → ℕ) (s t : List ℕ) → sum w (s ++ t) ≡ sum w s + sum w t
+sum-append w [] t = omega arith
+sum-append w (c ∷ s) t = omega (arith, sum-append w s t)
+
+pub sum-take : (k : ℕ) (vs : List ℕ) → sum (λ v. v) (take k vs) ≤ sum (λ v. v) vs
+sum-take zero vs = omega arith
+sum-take (suc k) [] = omega arith
+sum-take (suc k) (v ∷ vs) = omega (arith, sum-take k vs)
