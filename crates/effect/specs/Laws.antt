@@ -7,17 +7,17 @@ use mathlib.Core.List.{List, [], _∷_, map}
 use native.Mathlib.Omega.{arith}
 use lib.Dec.{eqb}
 use lib.ListN.{length, length-map}
-use borrow.Author.Tests.{eqb-true, not-true}
-use Rattle.model.specs.Heap.{Val, cell, null, undef, unused, holds, Heap, ptr, next, inUse, closed}
+use borrow.Author.Tests.{eqb-true}
+use Rattle.model.specs.Heap.{Val, cell, null, undef, unused, holds, Heap, ptr, next, closed}
 use Rattle.model.specs.Shape.{Seg}
-use Rattle.model.specs.Machine.{Effect, done, fault, Fault, atNull, atUndef, leak, faultNumber, Op, stop, setNull, copy, load, clear, store, new, free, isNull, same, choose, skip, Kind, stops, picks, allocates, other, kind, Entry, accepts, putSlot, setPtr, held, freeVal, through, effect}
+use Rattle.model.specs.Machine.{Effect, done, fault, Fault, atNull, atUndef, leak, faultNumber, Op, stop, setNull, copy, load, clear, store, new, free, isNull, same, choose, skip, Kind, stops, picks, allocates, other, kind, putSlot, setPtr, held, freeVal, through, effect}
 use Rattle.model.specs.Records.{valByte, valOf, slotByte}
 use Rattle.model.specs.Image.{cellSlot, heapOf}
 use Rattle.model.proofs.Logic.{bool-case, mem-here, mem-one}
 use Rattle.model.proofs.Bytes.{byte-back}
 use Rattle.model.proofs.Walks.{ClosedHeap, seg}
 use Rattle.model.proofs.Effects.{effect-alike}
-use Rattle.model.proofs.Facts.{test-closed, closed-test, unused-of}
+use Rattle.model.proofs.Facts.{test-closed, closed-test}
 use Rattle.model.proofs.Lists.{map-back}
 use Rattle.model.proofs.Notions.{Alike, Expansion, Room, both-bad, both-ok, img, sg-after}
 use Rattle.model.proofs.Stepping.{SlotsAre, effect-sized}
@@ -79,11 +79,6 @@ effect-closed op n h g c f e =
     closed-test g
     (alike-closed (sg-after (kind op) n n (λ i. seg i [])) (effect op n h) (effect op n h)
     (effect-alike h (λ i. seg i []) h (itself h (test-closed h c)) op n n (λ m a. refl) r r) g e)
-
--- the machine accepts an entry at new only where the cell is not in use
-pub accepts-unused : (k : Kind) (e : Entry) (h : Heap) → accepts k e h ≡ true → k ≡ allocates → next h (e .cellNo) ≡ unused
-accepts-unused k e h a q =
-    unused-of (next h (e .cellNo)) (not-true (inUse (next h (e .cellNo))) (subst (λ x. accepts x e h ≡ true) q a))
 
 -- ---- the number of slots
 

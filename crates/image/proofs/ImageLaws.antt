@@ -6,14 +6,14 @@ use mathlib.Core.Bool.{Bool, true, false, _&&_, cond, not}
 use mathlib.Core.List.{List, _++_, append-nil, map}
 use lib.Dec.{eqb, leb}
 use lib.ListN.{length, getD, take, drop, replicate, getD-replicate, length-map}
-use borrow.Author.Tests.{eqb-true, leb-true}
+use borrow.Author.Tests.{leb-true}
 use Rattle.model.specs.Heap.{closed, eachUsed, kept}
 use Rattle.model.specs.Image.{cellSlot, foldImage, heapOf, lengths, refusalImage}
 use Rattle.model.specs.Records.{filled, shapeRecord}
 use Rattle.model.specs.Shape.{Seg, counters, last, nodeSlot, segments, shape, size}
 use Rattle.model.specs.Heap.{next}
 use Rattle.model.proofs.Images.{fold-suc, fold-zero, image-accepted, number-case}
-use Rattle.model.proofs.Logic.{and-l, and-r}
+use Rattle.model.proofs.Logic.{and-r}
 use Rattle.visit.specs.Laws.{kept-marked}
 use Rattle.visit.specs.Visit.{VisitReady, Visited}
 use Rattle.record.specs.Written.{shapeBytesOf}
@@ -51,9 +51,6 @@ module _ (ps cs : List ℕ) where
   module _ {b : Bool} (e : b ≡ lengths ps cs) (t : b ≡ true) where
     long : lengths ps cs ≡ true
     long = sym e ∙ t
-
-    pub lengths-six : length ps ≡ 6
-    lengths-six = eqb-true (length ps) 6 (and-l (eqb (length ps) 6) (leb (length cs) 240) long)
 
     pub lengths-few : length cs ≤ 240
     lengths-few = leb-true (length cs) 240 (and-r (eqb (length ps) 6) (leb (length cs) 240) long)

@@ -26,7 +26,6 @@ use Rattle.input.specs.Parts.{earlier, recordRefusal}
 use Rattle.input.specs.Accepted.{Accepted}
 use Rattle.input.proofs.Records.{counts-whole, record-wide, records-at, records-length}
 use Rattle.input.proofs.Shapes.{refusal-by-h, refusal-by-s}
-use Rattle.input.proofs.Fields.{InRange, in-range}
 use Rattle.input.proofs.Opened.{Opened, check-opened, record-passed}
 
 -- ---- lengths and places of the routine that is read from n statements and m shapes
@@ -122,10 +121,6 @@ good-accepted s r e =
 module _ (s : List ℕ) (n m : ℕ) (A : Accepted s n m) where
   pub accepted-wide : (i : ℕ) → i < n + m → length (recordAt s i) ≡ 32
   accepted-wide i h = let w = A .whole in record-wide s i (omega arith)
-
-  -- the fields of a statement
-  pub accepted-fields : (i : ℕ) → i < n → InRange n (recordAt s i)
-  accepted-fields i h = in-range n (recordAt s i) (A .someStatements) (A .noRefusal i h)
 
   -- the location record of a starting shape is its shape record with another tag
   pub start-record : (j : ℕ) → j < m → locRecord (at 0 (shapeOf (recordAt s (n + j)))) ≡ 0x4c ∷ 0 ∷ 0 ∷ drop 3 (recordAt s (n + j))

@@ -12,15 +12,12 @@ use Rattle.model.specs.Heap.{Heap, Slot, Val, cell, holds, next, null, o
 use Rattle.model.specs.Shape.{Seg, core, cut, cutFrom, holdsCell, isCell, last, nodeSlot, nodeVal, segments, shape}
 use Rattle.model.proofs.Cores.{core-head}
 use Rattle.model.proofs.Cuts.{AllCore, Cuts, alls-at, core-of-pointed, linked-chain}
-use Rattle.model.proofs.Folds.{Alls, Kept, fold-same}
+use Rattle.model.proofs.Folds.{Alls, Kept}
 use Rattle.model.proofs.Logic.{bool-case, clash, eq-case, eqb-same, or-cases, or-l, tsum}
 use Rattle.model.proofs.Notions.{Chain, segAt}
 use Rattle.model.proofs.Order.{toured}
 use Rattle.model.proofs.Start.{cuts-good, end, last-head, slot-at, start}
 use Rattle.model.proofs.Walks.{ClosedHeap, Tours, Walks, at-null, at-seen, at-undef, go, holders, pointed, tour-done, tour-more}
-
-pub fold-fold : (h : Heap) → ClosedHeap h → Kept h → shape (shape h) ≡ shape h
-fold-fold h cl k = sym (fold-same (shape h) (segAt (segments h)) h (start h cl k))
 
 -- the head of each segment is core
 module _ (nx : ℕ → Slot) (p : ℕ → Bool) where

@@ -13,7 +13,7 @@ use borrow.Author.Tests.{eqb-true, ne-eqb}
 use Rattle.model.specs.Base.{all, joined}
 use Rattle.model.specs.Edges.{Update}
 use Rattle.model.specs.Heap.{Val, cell, null, undef}
-use Rattle.model.specs.Records.{bits, filled, isZero, recordAt, twoBytes, updateCode, valByte, valOf, word}
+use Rattle.model.specs.Records.{bits, filled, isZero, recordAt, updateCode, valByte, valOf}
 use Rattle.model.specs.Runs.{added, applied}
 use Rattle.model.specs.Translate.{tableOf}
 use Rattle.model.proofs.Listings.{SmallVal}
@@ -45,10 +45,6 @@ byte-back b =
 -- two bytes are read back as their number
 pub word-back : (n : ℕ) → n % 256 + 256 * (n / 256) ≡ n
 word-back n = mod-add-div n 256
-
-pub word-at : (l : List ℕ) (n : ℕ) (m : List ℕ) → word (l ++ (twoBytes n ++ m)) (length l) ≡ n
-word-at [] n m = word-back n
-word-at (x ∷ l) n m = word-at l n m
 
 pub added-none : (cs : List ℕ) → added 0 cs ≡ 0
 added-none [] = refl

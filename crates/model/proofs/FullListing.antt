@@ -10,7 +10,7 @@ use Rattle.model.specs.Edges.{Edge, Loc, Way, at, edgeBy, edgesOf, faile
 use Rattle.model.specs.Heap.{Heap, Slot, Val, cell, holds, null, undef, unused}
 use Rattle.model.specs.Machine.{Answer, Effect, Entry, Fault, Kind, Stmt, accepts, allocates, answerOf, atNull, atUndef, branch, done, fault, faultNumber, faulted, kind, leak, other, picks, refused, run, step, stop, stopped, stops, target, unlessStop, went}
 use Rattle.model.specs.Records.{locRecord, slotByte, valByte}
-use Rattle.model.specs.Translate.{Listing, Routine, check, good, listed, listing}
+use Rattle.model.specs.Translate.{Listing, Routine, check, good, listing}
 use Rattle.model.proofs.Checked.{GoodStarts, check-good}
 use Rattle.model.proofs.Digits.{Below, code-below, code-injective, codeOf}
 use Rattle.model.proofs.Exact.{edge-below}
@@ -20,7 +20,6 @@ use Rattle.model.proofs.Lists.{Distinct, In, getD-in, in-append-cases, 
 use Rattle.model.proofs.Logic.{NoDup, bool-case, not-true}
 use Rattle.model.proofs.Moves.{good-writable}
 use Rattle.model.proofs.Order.{pigeon}
-use Rattle.model.proofs.Places.{whole-listing}
 use Rattle.model.proofs.Reached.{GoodLoc, good-edge}
 use Rattle.model.proofs.ReadBack.{location-injective, record-length}
 use Rattle.model.proofs.Same.{prefix-length}
@@ -208,10 +207,3 @@ full-exists s r e =
     let c = radix (r .stmts) in
     full-within r (c ^ 32)
     (λ i. locs-few c (radix-byte (r .stmts)) (explored (r .stmts) (r .starts) i .locs) (explored-once r G i) (explored-fits r G i))
-
--- and it is the listing where it has places.
-pub listing-exists : (s : List ℕ) (r : Routine) → check s ≡ good r → (t : Listing) × (listing r (length (t .locs)) (length (t .links)) ≡ listed t)
-listing-exists s r e =
-    let f = full-exists s r e in
-    let t = f .0 in
-    (t, whole-listing r (length (t .locs)) (length (t .links)) t (f .1) (omega arith, omega arith))

@@ -47,10 +47,6 @@ merge-shrinks (merge {W = W} p d x u n e) = after-length W p d x u n e
 pub merge-exists : (W : Heap) (w : ℕ → ℕ) → IsHeap W → (d : ℕ) → Used (next W) d → core W d ≡ false → (U : Heap) × (u : ℕ → ℕ) × Merges W w U u
 merge-exists W w x d u n = let r = predecessor W x d u n in let p = r .0 in (mergeHeap p d W, upd w p (w p + w d), merge p d x u n (r .1))
 
--- where every cell in use is core nothing is left to merge
-pub nothing-left : {W U : Heap} {w u : ℕ → ℕ} → EveryCore W → Merges W w U u → ⊥
-nothing-left k (merge p d x u n e) = clash (k d u) n
-
 -- merging until every cell is core gives the shape, and for each node, in the order of the visit, the counters of its segment added up
 pub merged-is : (h W : Heap) (w u : ℕ → ℕ) → IsHeap h → MergesTo h w W u → EveryCore W → (shape W ≡ shape h) × (map u (order W) ≡ counted h w)
 merged-is h W w u x m k = let r = merges-keep m x in (r .0, sym (counted-single W u (r .2) k) ∙ r .1)

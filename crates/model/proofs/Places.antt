@@ -83,23 +83,6 @@ one-listing r cl ce cl′ ce′ t u p q =
     let d = any-places r cl′ ce′ u q (cl + cl′) (ce + ce′) (omega arith) (omega arith) in
     cc
 
--- Where something is refused, the listing does not fit,
-pub too-few : (r : Routine) (cl ce cl′ ce′ : ℕ) (x : Refusal) (t : Listing) → listing r cl ce ≡ full x → listing r cl′ ce′ ≡ listed t
-    → (cl < length (t .locs)) ⊎ (ce < length (t .links))
-too-few r cl ce cl′ ce′ x t p q =
-    bool-case (ltb cl (length (t .locs))) (λ a. inl (ltb-true cl (length (t .locs)) a))
-    (λ a. bool-case (ltb ce (length (t .links))) (λ b. inr (ltb-true ce (length (t .links)) b))
-    (λ b. full-listed (sym p ∙ any-places r cl′ ce′ t q cl ce (ltb-false cl (length (t .locs)) a) (ltb-false ce (length (t .links)) b))))
-
--- and where it does not fit, something is refused.
-pub too-many : (r : Routine) (cl ce cl′ ce′ : ℕ) (t : Listing) → listing r cl′ ce′ ≡ listed t → (cl < length (t .locs)) ⊎ (ce < length (t .links))
-    → (x : Refusal) × (listing r cl ce ≡ full x)
-too-many r cl ce cl′ ce′ t q h =
-    outcome-case (listing r cl ce) (λ x p. (x, p))
-    (λ u p. let e = one-listing r cl ce cl′ ce′ u t p q in
-    let f = subst (Placed cl ce) e (fits r cl ce u p) in
-    absurd (⊎-elim (λ (a : cl < length (t .locs)). omega arith) (λ (b : ce < length (t .links)). omega arith) h))
-
 -- ---- what a refusal says
 
 place-or-room : (cl : ℕ) (ls : List Loc) (l : Loc) → placeOf (sameLoc l) ls < cl → In l ls ⊎ (length ls < cl)

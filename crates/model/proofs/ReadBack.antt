@@ -133,9 +133,6 @@ failed-statement s f = refl
 pub failed-fault : (s : ℕ) (f : Fault) → byte (locRecord (failed s f)) 2 ≡ faultNumber f
 failed-fault s f = refl
 
-pub failed-nodes : (s : ℕ) (f : Fault) → byte (locRecord (failed s f)) 3 ≡ 0
-failed-nodes s f = refl
-
 pub record-length : (l : Loc) → WritableLoc l → length (locRecord l) ≡ 32
 record-length (at s h) W = location-length s h W
 record-length (failed s f) W = failed-length s f

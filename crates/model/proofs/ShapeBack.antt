@@ -9,7 +9,7 @@ use lib.ListN.{drop, length, length-append, length-drop, length-map, replicate, 
 use lib.Seq.{length-take-le, take-add, take-at}
 use borrow.Author.Tests.{eqb-true, leb-true, lt-ltb, ltb-true, ne-eqb}
 use Rattle.model.specs.Base.{all}
-use Rattle.model.specs.Heap.{Heap, Slot, Val, cell, closed, holds, inUse, null, undef, unused}
+use Rattle.model.specs.Heap.{Heap, Slot, Val, cell, closed, holds, null, undef, unused}
 use Rattle.model.specs.Image.{cellSlot, heapOf}
 use Rattle.model.specs.Records.{byte, filled, isZero, layoutH, shapeOf, shapeRecord, slotByte, valByte, valOf, valueByte}
 use Rattle.model.proofs.Bytes.{all-zero, byte-back}
@@ -129,9 +129,6 @@ module _ (r : List ℕ) (l : length r ≡ 32) (h : layoutH r ≡ true) where
   layout-slots =
       let few = layout-few in
       length-map (take (byte r 3) (drop 10 r)) (λ b. holds (valOf b)) ∙ length-take-le (byte r 3) (drop 10 r) (omega (arith, length-drop 10 r))
-
-  pub layout-used : (s : Slot) → In s (shapeOf r .slots) → inUse s ≡ true
-  layout-used s q = let x = in-map (λ b. holds (valOf b)) s (take (byte r 3) (drop 10 r)) q in ap inUse (x .2)
 
   -- and it can be written and is closed
   pub layout-writable : Writable (shapeOf r)

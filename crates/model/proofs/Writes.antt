@@ -66,9 +66,6 @@ module _ (nw : ℕ → Slot) (sg : ℕ → Seg) (nh : ℕ → Slot) (E : Expands
 
 -- a new cell
 module _ (nw : ℕ → Slot) (sg : ℕ → Seg) (nh : ℕ → Slot) (E : Expands nw sg nh) (n h : ℕ) (fw : nw n ≡ unused) (fh : nh h ≡ unused) where
-  abbrev pub sg-new : ℕ → Seg
-  sg-new = upd sg n (seg h [])
-
   pub n-img : (x : Val) → Closed nw x → img (upd sg n (seg h [])) x ≡ img sg x
   n-img null q = refl
   n-img undef q = refl

@@ -1,5 +1,5 @@
 -- A search of a table, record by record, and what it finds in a table of locations: the number of the known location.
-use Prim.Native.Nat.{ℕ, suc, _+_, _-_, _≤_, _<_}
+use Prim.Native.Nat.{ℕ, suc, _+_, _-_, _<_}
 use mathlib.Core.Path.{_≡_, ap, ap₂, _∙_}
 use mathlib.Core.Bool.{true, false}
 use mathlib.Core.List.{List, [], map}
@@ -15,9 +15,8 @@ use Rattle.model.proofs.Bytes.{records-wide, table-record}
 use Rattle.model.proofs.Listings.{WritableLoc}
 use Rattle.model.proofs.Lists.{In, getD-in, getD-map}
 use Rattle.model.proofs.Logic.{bool-ext}
-use Rattle.model.proofs.Numbers.{length-numbers}
 use Rattle.model.proofs.ReadBack.{location-injective, record-length}
-use Rattle.model.proofs.Same.{bytes-same, same-bytes-refl, loc-same, same-loc-refl, place-le}
+use Rattle.model.proofs.Same.{bytes-same, same-bytes-refl, loc-same, same-loc-refl}
 use Rattle.search.specs.Search.{foundAt}
 use Rattle.search.proofs.ListLaws.{place-numbers}
 
@@ -42,9 +41,6 @@ module _ (t r : List ℕ) (i n : ℕ) (below : i < n) where
 pub found-end : (t r : List ℕ) (i n : ℕ) → n ≡ i → foundFrom t r i n ≡ n
 unfolding foundFrom
 found-end t r i n h = let e : n - i ≡ 0 = omega arith in rw e (omega arith)
-
-pub found-le : (t r : List ℕ) (n : ℕ) → foundAt t r n ≤ n
-found-le t r n = omega (arith, place-le (λ i. sameList eqb (recordAt t i) r) (numbers 0 n), length-numbers 0 n)
 
 -- two locations are the same where their records are
 same-record : (m l : Loc) → WritableLoc m → WritableLoc l → sameList eqb (locRecord m) (locRecord l) ≡ sameLoc l m

@@ -1,6 +1,6 @@
 -- Opening a shape: the bytes are those of the opened heap, and new runs on the opened heap as it does on the shape.
 use Prim.Native.Nat.{ℕ, zero, suc, _+_, _-_, _≤_, _<_}
-use mathlib.Core.Bool.{Bool, true, false, _||_, cond, not}
+use mathlib.Core.Bool.{Bool, true, false, _||_, not}
 use mathlib.Core.List.{List, [], _∷_, _++_, append-nil, map, map-append}
 use mathlib.Core.Path.{_≡_, refl, ap, ap₂, sym, _∙_}
 use native.Mathlib.Omega.{arith}
@@ -9,10 +9,9 @@ use lib.ListN.{drop, drop-of-length-le, getD, length, length-drop, length-map, s
 use lib.Seq.{drop-drop, getD-take, length-take-le, set-append-left, take-add, take-append-le, take-set-lt, take-take}
 use borrow.Author.Tests.{eqb-true, ltb-true, ne-eqb}
 use Rattle.model.specs.Base.{all}
-use Rattle.model.specs.Edges.{stepBy, whole, always}
-use Rattle.model.specs.Heap.{Heap, Slot, unused, holds, cell, undef, inUse}
+use Rattle.model.specs.Heap.{Heap, Slot, unused, holds, cell, undef}
 use Rattle.model.specs.Image.{cellSlot, heapOf}
-use Rattle.model.specs.Machine.{Stmt, answerOf, refused, done, setPtr, new, effect, run, keep, put, step}
+use Rattle.model.specs.Machine.{done, setPtr, new, effect, run, keep, put}
 use Rattle.model.specs.Records.{byte, shapeOf, valOf, valueByte}
 use Rattle.model.proofs.Lists.{getD-map, map-set}
 use Rattle.model.proofs.Logic.{and-l, and-r, bool-case, or-cases}
@@ -138,13 +137,3 @@ effect-opened u h =
 
 pub run-opened : (u : ℕ) (h : Heap) → run (new u) (length (h .slots)) (withUnused h) ≡ run (new u) (length (h .slots)) h
 run-opened u h = ap keep (effect-opened u h)
-
-past-unused : (l : List Slot) → getD (l ++ unused ∷ []) (length l) unused ≡ getD l (length l) unused
-past-unused [] = refl
-past-unused (x ∷ l) = past-unused l
-
--- and the step that the whole shape stands for is the one on the opened heap
-pub step-opened : (st : Stmt) (u : ℕ) (h : Heap) → st .op ≡ new u
-    → step st (record { pick = 0; cellNo = length (h .slots) }) (withUnused h) ≡ stepBy st (length (h .slots)) (whole always 0 h)
-step-opened st u h e =
-    rw e (ap₂ (λ s f. cond (not (inUse s)) (answerOf (record { op = new u; first = st .first; second = st .second }) 0 f) refused) (past-unused (h .slots)) (run-opened u h))

@@ -9,8 +9,7 @@ use lib.ListN.{getD, length, length-map, take}
 use lib.Seq.{ext-getD, getD-take, length-take-le}
 use borrow.Author.Tests.{eq-eqb, eqb-true, ne-eqb}
 use Rattle.model.specs.Base.{mem, sum}
-use Rattle.model.specs.Edges.{Guard, updateOf, split, whole}
-use Rattle.model.specs.Heap.{Heap}
+use Rattle.model.specs.Edges.{updateOf, split}
 use Rattle.model.specs.Records.{updateCode}
 use Rattle.model.specs.Shape.{Seg, cells}
 use Rattle.model.proofs.Cuts.{flat-mem, flat-nodup, mem-flat}
@@ -21,13 +20,6 @@ use Rattle.model.proofs.Slices.{sum-append}
 use Rattle.model.proofs.Walks.{seg}
 use Rattle.way.specs.Way.{codeAt, plusOf, sumAt, weightAt}
 use Rattle.way.proofs.Codes.{segment-update}
-
--- the weights are those of the ways out of a shape
-pub weight-split : (n : ℕ) (h : Heap) → split n h .weight ≡ weightAt true n (length (h .slots))
-weight-split n h = refl
-
-pub weight-whole : (g : Guard) (p n : ℕ) (h : Heap) → whole g p h .weight ≡ weightAt false n (length (h .slots))
-weight-whole g p n h = refl
 
 -- ---- sums over all cells
 
