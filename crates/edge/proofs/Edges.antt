@@ -66,7 +66,7 @@ fault-of (suc (suc (suc (suc f)))) n le = absurd (omega arith)
 
 -- ---- a run by a ready way
 
-module _ {l r : List ℕ} {sp : Bool} {v p : ℕ} {ps cs o : List ℕ} {f b c m : ℕ} (W : WayRan l r sp v p ps cs o f b c m) where
+module _ {l r : List ℕ} {sp : Bool} {v p : ℕ} {ps cs o x : List ℕ} {f b c m : ℕ} (W : WayRan l r sp v p ps cs o x f b c m) where
   module _ {n s : ℕ} {h : Heap} (R : WayReady l r n s h sp v p) where
     -- what the run gave, by the shape
     outcome-is : run (stmtOf r .op) (length (h .slots)) (wayOf sp always v p h .heap) ≡ effectOf f (heapOf ps (take c cs))
@@ -110,9 +110,9 @@ module _ {l r : List ℕ} {sp : Bool} {v p : ℕ} {ps cs o : List ℕ} {f b c m 
       }
 
   -- the image of a run that is done can be folded
-  pub leave-ready : (t us : List ℕ) → EdgeReady l r sp v p t us → length ps ≡ 6 → length cs ≡ 16 → length o ≡ 16 → f ≡ 0
-      → LeaveReady ps (take c cs) o m (byte l 3) sp v t us
-  leave-ready t us E six cells places z =
+  pub leave-ready : (t us : List ℕ) → EdgeReady l r sp v p t us → length ps ≡ 6 → length cs ≡ 16 → length o ≡ 16 → length x ≡ 16 → f ≡ 0
+      → LeaveReady ps (take c cs) o m x (byte l 3) sp v t us
+  leave-ready t us E six cells places marks z =
       let n = E .statements in
       let s = E .number in
       let h = E .shape in
@@ -128,6 +128,8 @@ module _ {l r : List ℕ} {sp : Bool} {v p : ℕ} {ps cs o : List ℕ} {f b c m 
         visited = W .visited z;
         long = omega arith;
         short = omega arith;
+        holders = omega arith;
+        held = W .held z;
         isNode = node-below (E .ready);
         hasTail = tail-kept (E .ready) z;
         wide = E .wide;

@@ -21,10 +21,9 @@ use Rattle.record.proofs.Bytes.{location-record}
 use Rattle.way.specs.Way.{SumReady, codeAt}
 use Rattle.way.proofs.Updates.{Segmented, update-codes}
 use Rattle.edge.specs.Parts.{IsLeft, LeaveReady}
-use Rattle.edge.proofs.Running.{zeros}
 
-module _ {ps cs o : List ℕ} {n k : ℕ} {sp : Bool} {v : ℕ} {t us : List ℕ} (L : LeaveReady ps cs o n k sp v t us) where
-  pub shape-ready : ShapeReady ps cs o n (replicate 16 0) (replicate 16 0) (replicate 16 0) (replicate 16 0) (replicate 6 0) (replicate 16 0)
+module _ {ps cs o : List ℕ} {n : ℕ} {h : List ℕ} {k : ℕ} {sp : Bool} {v : ℕ} {t us : List ℕ} (L : LeaveReady ps cs o n h k sp v t us) where
+  pub shape-ready : ShapeReady ps cs o n h (replicate 16 0) (replicate 16 0) (replicate 16 0) (replicate 6 0) (replicate 16 0)
   shape-ready =
       let few = L .few in
       let old = L .fewOld in
@@ -34,8 +33,8 @@ module _ {ps cs o : List ℕ} {n k : ℕ} {sp : Bool} {v : ℕ} {t us : List ℕ
         few = omega arith;
         visited = L .visited;
         long = L .long;
-        holders = omega arith;
-        clear = λ c q. zeros 16 c;
+        holders = L .holders;
+        held = L .held;
         nodes = omega arith;
         lasts = omega arith;
         sizes = omega arith;
@@ -67,7 +66,7 @@ module _ {ps cs o : List ℕ} {n k : ℕ} {sp : Bool} {v : ℕ} {t us : List ℕ
         let below : x .0 < m = omega (arith, x .1, S .number) in
         omega (arith, S .nodes (x .0) c below (x .2))
 
-    pub sum-ready : length nd ≡ 16 → SumReady o n nd k sp v m us
+    pub sum-ready : length nd ≡ 16 → SumReady o n nd k sp v (length us)
     sum-ready len =
         let old = L .fewOld in
         let room = L .room in
@@ -75,14 +74,12 @@ module _ {ps cs o : List ℕ} {n k : ℕ} {sp : Bool} {v : ℕ} {t us : List ℕ
         record {
           fewCells = L .short;
           listed = L .long;
-          fewNew = omega arith;
-          room = omega arith;
           different = different;
           ready = record {
             fewOld = old;
             below = cell-below;
             tabled = λ c i. omega (arith, cell-below c i);
-            nodes = node-of;
+            nodes = λ c i. omega (arith, node-of c i);
             isNode = L .isNode;
             hasTail = tail-visited;
           };
@@ -100,7 +97,7 @@ module _ {ps cs o : List ℕ} {n k : ℕ} {sp : Bool} {v : ℕ} {t us : List ℕ
 
     -- the record t′ and the updates us′
     pub is-left : (s : ℕ) (t′ us′ : List ℕ) → t′ ≡ locationBytes s p q m ++ drop 32 t → length us′ ≡ length us
-        → ((j : ℕ) → j < m → getD us′ j 0 ≡ codeAt nd k sp v (take n o) j) → IsLeft ps cs k sp v s t′ us′ m
+        → ((j : ℕ) → j < length us → getD us′ j 0 ≡ codeAt nd k sp v (take n o) j) → IsLeft ps cs k sp v s t′ us′ m
     is-left s t′ us′ te len codes =
         let g = heapOf ps cs in
         let ss = segments g in

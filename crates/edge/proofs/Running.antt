@@ -64,8 +64,9 @@ module _ {l r : List ℕ} {n s : ℕ} {h : Heap} {sp : Bool} {v p : ℕ} (R : Wa
     whole-new : byte r 1 ≡ 6 → sp ≡ false
     whole-new = new-whole sp (byte r 1) (byte r 2) (byte r 3) v h (R .isNode)
 
-    pub run-ready : (o : List ℕ) → 13 ≤ length o → RunReady (byte r 1) (byte r 2) (byte r 3) (byte l 3) ps (take c cs) o (replicate 16 0)
-    run-ready o places =
+    pub run-ready : (o m : List ℕ) → 13 ≤ length o → 13 ≤ length m → ((i : ℕ) → getD m i 0 ≡ 0)
+        → RunReady (byte r 1) (byte r 2) (byte r 3) (byte l 3) ps (take c cs) o m
+    run-ready o m places marks none =
         let f = statement-fields n r (R .statement .accepted) in
         let sh = shape-is R in
         let len = part-length in
@@ -86,14 +87,14 @@ module _ {l r : List ℕ} {n s : ℕ} {h : Heap} {sp : Bool} {v p : ℕ} (R : Wa
               (subst (λ k. inUse (next (openedHeap false (byte r 1) v (shapeOf l)) k) ≡ false) (sym slots-is) (opened-fresh (byte r 1) v (shapeOf l) e)));
           room = omega arith;
           marks = omega arith;
-          clear = λ i q. zeros 16 i;
+          clear = λ i q. none i;
         }
 
     -- the branch b, and the image qs, ds that the run leaves, with fault f and m cells visited
-    pub way-ran : (qs ds o : List ℕ) (f b m : ℕ) → ((ks : List ℕ) → b ≡ branch (opOf (byte r 1) (byte r 2) (byte r 3)) p (heapOf ps ks))
-        → IsRun (byte r 1) (byte r 2) (byte r 3) (byte l 3) ps (take c cs) qs ds o f m → length ds ≡ length (take c cs)
-        → WayRan l r sp v p qs (ds ++ drop c cs) o f b c m
-    way-ran qs ds o f b m be I len =
+    pub way-ran : (qs ds o t : List ℕ) (f b m : ℕ) → ((ks : List ℕ) → b ≡ branch (opOf (byte r 1) (byte r 2) (byte r 3)) p (heapOf ps ks))
+        → IsRun (byte r 1) (byte r 2) (byte r 3) (byte l 3) ps (take c cs) qs ds o t f m → length ds ≡ length (take c cs)
+        → WayRan l r sp v p qs (ds ++ drop c cs) o t f b c m
+    way-ran qs ds o t f b m be I len =
         let op = stmtOf r .op in
         let lc : length ds ≡ c = len ∙ part-length in
         let part : take c (ds ++ drop c cs) ≡ ds = take-at ds (drop c cs) c lc in
@@ -107,4 +108,5 @@ module _ {l r : List ℕ} {n s : ℕ} {h : Heap} {sp : Bool} {v p : ℕ} (R : Wa
           isHeap = λ z. rw part (I .isHeap z);
           visited = λ z. rw part (I .visited z);
           few = λ z. omega (arith, I .few z);
+          held = λ z. rw part (I .held z);
         }

@@ -3,7 +3,7 @@ use Prim.Native.Nat.{ℕ, _+_, _≤_, _<_}
 use mathlib.Core.Path.{_≡_}
 use mathlib.Core.Bool.{Bool, true}
 use mathlib.Core.List.{List, map}
-use lib.ListN.{length, take}
+use lib.ListN.{length, getD, take}
 use Rattle.model.specs.Heap.{Heap, IsHeap, next, order}
 use Rattle.model.specs.Image.{heapOf}
 use Rattle.model.specs.Machine.{branch, run}
@@ -12,11 +12,12 @@ use Rattle.model.specs.Records.{byte, locRecord, shapeOf, stmtOf, updateCode}
 use Rattle.model.specs.Shape.{segments, shape}
 use Rattle.model.proofs.Walks.{Used}
 use Rattle.effect.specs.Effect.{effectOf}
+use Rattle.visit.specs.Visit.{Held}
 use Rattle.way.specs.Way.{weightAt}
 use Rattle.edge.specs.Edge.{WayReady, wayOf}
 
 -- some location and way are ready, and there is room for the heap image and the visit
-pub record RunsReady (l r : List ℕ) (sp : Bool) (v p : ℕ) (ps cs o : List ℕ) : Type 0 where
+pub record RunsReady (l r : List ℕ) (sp : Bool) (v p : ℕ) (ps cs o s : List ℕ) : Type 0 where
   pub statements : ℕ
   pub number : ℕ
   pub shape : Heap
@@ -24,10 +25,12 @@ pub record RunsReady (l r : List ℕ) (sp : Bool) (v p : ℕ) (ps cs o : List �
   pub six : length ps ≡ 6
   pub room : 13 ≤ length cs
   pub places : 13 ≤ length o
+  pub marks : 13 ≤ length s
+  pub clear : (c : ℕ) → getD s c 0 ≡ 0
 
 -- the fault f, the branch b, and the image of c cells afterwards are those of the statement run on the way's heap; without a fault
--- o holds the n cells in visit order
-pub record WayRan (l r : List ℕ) (sp : Bool) (v p : ℕ) (ps cs o : List ℕ) (f b c n : ℕ) : Type 0 where
+-- o holds the n cells in visit order, and the marks s tell the core cells
+pub record WayRan (l r : List ℕ) (sp : Bool) (v p : ℕ) (ps cs o s : List ℕ) (f b c n : ℕ) : Type 0 where
   pub outcome : effectOf f (heapOf ps (take c cs)) ≡ run (stmtOf r .op) (byte l 3) (wayOf sp always v p (shapeOf l) .heap)
   pub branch : b ≡ branch (stmtOf r .op) p (shapeOf l)
   pub known : f ≤ 3
@@ -35,9 +38,10 @@ pub record WayRan (l r : List ℕ) (sp : Bool) (v p : ℕ) (ps cs o : List ℕ) 
   pub isHeap : f ≡ 0 → IsHeap (heapOf ps (take c cs))
   pub visited : f ≡ 0 → take n o ≡ order (heapOf ps (take c cs))
   pub few : f ≡ 0 → n ≤ c
+  pub held : f ≡ 0 → Held ps (take c cs) s
 
--- a heap image in visit order, of at most k + 1 cells, and room for the target t and the updates us; at a split the tail, cell k, is in use
-pub record LeaveReady (ps cs o : List ℕ) (n k : ℕ) (sp : Bool) (v : ℕ) (t us : List ℕ) : Type 0 where
+-- a heap image in visit order with the counts of holders h, of at most k + 1 cells, and room for the target t and the updates us; at a split the tail, cell k, is in use
+pub record LeaveReady (ps cs o : List ℕ) (n : ℕ) (h : List ℕ) (k : ℕ) (sp : Bool) (v : ℕ) (t us : List ℕ) : Type 0 where
   pub isHeap : IsHeap (heapOf ps cs)
   pub six : length ps ≡ 6
   pub fewOld : k ≤ 12
@@ -45,6 +49,8 @@ pub record LeaveReady (ps cs o : List ℕ) (n k : ℕ) (sp : Bool) (v : ℕ) (t 
   pub visited : take n o ≡ order (heapOf ps cs)
   pub long : n ≤ length o
   pub short : n ≤ 13
+  pub holders : length cs ≤ length h
+  pub held : Held ps cs h
   pub isNode : sp ≡ true → v < k
   pub hasTail : sp ≡ true → Used (next (heapOf ps cs)) k
   pub wide : length t ≡ 32

@@ -25,7 +25,7 @@ struct Gone {
     visited: usize,
 }
 
-// Opens the location's shape for the way and runs the statement on it.
+// Opens the location's shape for the way and runs the statement on it; the marks of the run count holders.
 fn run_way(
     location: &[u8],
     statement: &[u8],
@@ -35,9 +35,10 @@ fn run_way(
     pointers: &mut [u8],
     cells: &mut [u8],
     order: &mut [u8],
+    seen: &mut [u8],
 ) -> Gone
-    requires { ⌜ RunsReady (now location) (now statement) split (node .0) pick (now pointers) (now cells) (now order) ⌝ }
-    ensures { λ r. ⌜ WayRan (now (location .entry)) (now (statement .entry)) split (node .0) pick (now (pointers .exit)) (now (cells .exit)) (now (order .exit)) (r .fault) (r .branch) (r .cells) (r .visited) ⌝ }
+    requires { ⌜ RunsReady (now location) (now statement) split (node .0) pick (now pointers) (now cells) (now order) (now seen) ⌝ }
+    ensures { λ r. ⌜ WayRan (now (location .entry)) (now (statement .entry)) split (node .0) pick (now (pointers .exit)) (now (cells .exit)) (now (order .exit)) (now (seen .exit)) (r .fault) (r .branch) (r .cells) (r .visited) ⌝ }
 {
     let op = statement[1];
     let u = Pointer(statement[2]);
@@ -45,8 +46,7 @@ fn run_way(
     let k = location[3] as usize;
     let n = way::open_way(location, op, split, node, pointers, cells);
     let branch = effect::branch_of(op, u, w, pick, &pointers[..]);
-    let mut seen = [0u8; 16];
-    let ran = machine::run(op, u, w, k, pointers, &mut cells[..n], order, &mut seen);
+    let ran = machine::run(op, u, w, k, pointers, &mut cells[..n], order, seen);
     Gone {
         fault: ran.fault,
         branch: branch,
@@ -67,12 +67,13 @@ fn target_of(statement: &[u8], branch: u8) -> Statement
     }
 }
 
-// Folds what a run left: the target's record, and an update for each new node. Answers how many there are.
+// Folds what a run left, by the marks of the run: the target's record, and an update for each new node. Answers how many there are.
 fn leave(
     pointers: &[u8],
     cells: &[u8],
     order: &[u8],
     visited: usize,
+    held: &[u8],
     k: usize,
     split: bool,
     at: Node,
@@ -80,10 +81,9 @@ fn leave(
     target: &mut [u8],
     updates: &mut [u16],
 ) -> usize
-    requires { ⌜ LeaveReady (now pointers) (now cells) (now order) visited k split (at .0) (now target) (now updates) ⌝ }
+    requires { ⌜ LeaveReady (now pointers) (now cells) (now order) visited (now held) k split (at .0) (now target) (now updates) ⌝ }
     ensures { λ r. ⌜ IsLeft (now (pointers .entry)) (now (cells .entry)) k split (at .0) (to .0) (now (target .exit)) (now (updates .exit)) r ⌝ }
 {
-    let mut held = [0u8; 16];
     let mut node = [0u8; 16];
     let mut last = [0u8; 16];
     let mut size = [0u32; 16];
@@ -94,14 +94,14 @@ fn leave(
         cells,
         order,
         visited,
-        &mut held,
+        held,
         &mut node,
         &mut last,
         &mut size,
         &mut folded,
         &mut successors,
     );
-    way::sum_updates(order, visited, &node, k, split, at, m, updates);
+    way::sum_updates(order, visited, &node, k, split, at, updates);
     record::write_location(target, to, &folded, &successors, m);
     m
 }
@@ -122,6 +122,7 @@ fn run_edge(
     let mut pointers = [0u8; 6];
     let mut cells = [0u8; 16];
     let mut order = [0u8; 16];
+    let mut seen = [0u8; 16];
     let gone = run_way(
         location,
         statement,
@@ -131,6 +132,7 @@ fn run_edge(
         &mut pointers,
         &mut cells,
         &mut order,
+        &mut seen,
     );
     let fault = gone.fault;
     if fault != 0 {
@@ -149,6 +151,7 @@ fn run_edge(
             &cells[..n],
             &order,
             gone.visited,
+            &seen,
             location[3] as usize,
             split,
             node,

@@ -42,11 +42,12 @@ all-well a b c e f g = rw (e, f, g)
 
 module _ (ps cs : List ℕ) where
   -- no order is given with a refusal
-  refused-with : (o : List ℕ) (r n : ℕ) → suc r ≡ refusalImage ps cs → ImageChecked ps cs o (suc r) n
-  refused-with o r n e = record { refusal = e; visited = λ z. absurd (omega arith); few = λ z. absurd (omega arith) }
+  refused-with : (o m : List ℕ) (r n : ℕ) → suc r ≡ refusalImage ps cs → ImageChecked ps cs o m (suc r) n
+  refused-with o m r n e =
+      record { refusal = e; visited = λ z. absurd (omega arith); few = λ z. absurd (omega arith); held = λ z. absurd (omega arith) }
 
-  pub check-lengths : (o : List ℕ) (b : Bool) → b ≡ lengths ps cs → b ≡ false → ImageChecked ps cs o 13 0
-  check-lengths o b e f = refused-with o 12 0 (bad-lengths (lengths ps cs) (closed (heapOf ps cs)) (kept (heapOf ps cs)) (sym e ∙ f))
+  pub check-lengths : (o m : List ℕ) (b : Bool) → b ≡ lengths ps cs → b ≡ false → ImageChecked ps cs o m 13 0
+  check-lengths o m b e f = refused-with o m 12 0 (bad-lengths (lengths ps cs) (closed (heapOf ps cs)) (kept (heapOf ps cs)) (sym e ∙ f))
 
   module _ {b : Bool} (e : b ≡ lengths ps cs) (t : b ≡ true) where
     long : lengths ps cs ≡ true
@@ -55,28 +56,29 @@ module _ (ps cs : List ℕ) where
     pub lengths-few : length cs ≤ 240
     lengths-few = leb-true (length cs) 240 (and-r (eqb (length ps) 6) (leb (length cs) 240) long)
 
-    pub check-open : (o : List ℕ) (k : Bool) → k ≡ closed (heapOf ps cs) → k ≡ false → ImageChecked ps cs o 13 0
-    check-open o k q f = refused-with o 12 0 (bad-values (lengths ps cs) (closed (heapOf ps cs)) (kept (heapOf ps cs)) long (sym q ∙ f))
+    pub check-open : (o m : List ℕ) (k : Bool) → k ≡ closed (heapOf ps cs) → k ≡ false → ImageChecked ps cs o m 13 0
+    check-open o m k q f = refused-with o m 12 0 (bad-values (lengths ps cs) (closed (heapOf ps cs)) (kept (heapOf ps cs)) long (sym q ∙ f))
 
     module _ {k : Bool} (q : k ≡ closed (heapOf ps cs)) (u : k ≡ true) where
-      pub check-ready : (o : List ℕ) → length o ≡ 240 → VisitReady ps cs o (replicate 240 0)
-      check-ready o h =
+      pub check-ready : (o m : List ℕ) → length o ≡ 240 → m ≡ replicate 240 0 → VisitReady ps cs o m
+      check-ready o m h z =
           let f = lengths-few in
-          record { isClosed = sym q ∙ u; few = f; room = omega arith; marks = omega arith; clear = λ c l. getD-replicate 240 c 0 0 (omega arith) }
+          record { isClosed = sym q ∙ u; few = f; room = omega arith; marks = rw z f; clear = λ c l. rw z (getD-replicate 240 c 0 0 (omega arith)) }
 
       -- n cells are visited: o is their order, and m marks them
       module _ {o m : List ℕ} {n : ℕ} (d : Visited ps cs o m n) (x : Bool)
           (w : x ≡ eachUsed (λ c. not (eqb (getD m c 0) 0)) 0 (map cellSlot cs)) where
-        pub check-lost : x ≡ false → ImageChecked ps cs o 14 0
+        pub check-lost : x ≡ false → ImageChecked ps cs o m 14 0
         check-lost f =
             let h = heapOf ps cs in
-            refused-with o 13 0 (bad-cells (lengths ps cs) (closed h) (kept h) long (sym q ∙ u) (sym (kept-marked d) ∙ sym w ∙ f))
+            refused-with o m 13 0 (bad-cells (lengths ps cs) (closed h) (kept h) long (sym q ∙ u) (sym (kept-marked d) ∙ sym w ∙ f))
 
-        pub check-done : x ≡ true → ImageChecked ps cs o 0 n
+        pub check-done : x ≡ true → ImageChecked ps cs o m 0 n
         check-done f =
             let h = heapOf ps cs in
-            let e = all-well (lengths ps cs) (closed h) (kept h) long (sym q ∙ u) (sym (kept-marked d) ∙ sym w ∙ f) in
-            record { refusal = e; visited = λ _. d .visited; few = λ _. d .few }
+            let i : kept h ≡ true = sym (kept-marked d) ∙ sym w ∙ f in
+            let e = all-well (lengths ps cs) (closed h) (kept h) long (sym q ∙ u) i in
+            record { refusal = e; visited = λ _. d .visited; few = λ _. d .few; held = λ _. d .held i }
 
 -- ---- folding
 
@@ -91,17 +93,17 @@ unfolding foldedHeap
 fold-passed ps cs e = sym (fold-zero ps cs e)
 
 -- what the fold asks of a checked image
-pub fold-ready : {ps cs o : List ℕ} {r n : ℕ} → ImageChecked ps cs o r n → r ≡ 0 → length o ≡ 240 → FoldReady ps cs o n
-fold-ready {ps} {cs} {o} {r} {n} d z l =
+pub fold-ready : {ps cs o m : List ℕ} {r n : ℕ} → ImageChecked ps cs o m r n → r ≡ 0 → length o ≡ 240 → length m ≡ 240 → FoldReady ps cs o n m
+fold-ready {ps} {cs} {o} {m} {r} {n} d z l w =
     let e : refusalImage ps cs ≡ 0 = sym (d .refusal) ∙ z in
     let A = image-accepted ps cs .0 e in
     let f = A .1 in
     let k = d .few z in
-    record { isHeap = A .2; six = A .0; few = f; visited = d .visited z; long = omega arith }
+    record { isHeap = A .2; six = A .0; few = f; visited = d .visited z; long = omega arith; holders = omega arith; held = d .held z }
 
-module _ {ps cs o : List ℕ} {n : ℕ} (x : FoldReady ps cs o n) where
+module _ {ps cs o : List ℕ} {n : ℕ} {h : List ℕ} (x : FoldReady ps cs o n h) where
   -- and of the work lists, which begin with zeros
-  pub shape-ready : ShapeReady ps cs o n (replicate 240 0) (replicate 240 0) (replicate 12 0) (replicate 12 0) (replicate 6 0) (replicate 12 0)
+  pub shape-ready : ShapeReady ps cs o n h (replicate 240 0) (replicate 12 0) (replicate 12 0) (replicate 6 0) (replicate 12 0)
   shape-ready =
       let f = x .few in
       record {
@@ -110,8 +112,8 @@ module _ {ps cs o : List ℕ} {n : ℕ} (x : FoldReady ps cs o n) where
         few = f;
         visited = x .visited;
         long = x .long;
-        holders = omega arith;
-        clear = λ c l. getD-replicate 240 c 0 0 (omega arith);
+        holders = x .holders;
+        held = x .held;
         nodes = omega arith;
         lasts = omega arith;
         sizes = omega arith;

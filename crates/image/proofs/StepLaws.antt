@@ -34,7 +34,7 @@ module _ {op u w x : ℕ} {ps cs : List ℕ} where
       let f = s .ready .few in
       record { ready = s .ready; fresh = s .fresh; room = omega arith; marks = omega arith; clear = λ c l. getD-replicate 240 c 0 0 (omega arith) }
 
-  pub ran-on : {qs ds o : List ℕ} {f n : ℕ} → IsRun op u w x ps cs qs ds o f n → RunOn op u w x ps cs f qs ds
+  pub ran-on : {qs ds o s : List ℕ} {f n : ℕ} → IsRun op u w x ps cs qs ds o s f n → RunOn op u w x ps cs f qs ds
   ran-on d = record { outcome = d .outcome; low = d .known }
 
   -- on the copies vs, ws, which become qs, ds

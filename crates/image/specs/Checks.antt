@@ -7,12 +7,15 @@ use lib.ListN.{length, take}
 use Rattle.model.specs.Heap.{order}
 use Rattle.model.specs.Machine.{Kind, accepts}
 use Rattle.model.specs.Image.{heapOf, refusalImage, pastEnd}
+use Rattle.visit.specs.Visit.{Held}
 
--- the refusal r of the image ps, cs; without one the first n numbers of o are the cells in order of first visit
-pub record ImageChecked (ps cs o : List ℕ) (r n : ℕ) : Type 0 where
+-- the refusal r of the image ps, cs; without one the first n numbers of o are the cells in order of first visit, and the
+-- marks s tell the core cells
+pub record ImageChecked (ps cs o s : List ℕ) (r n : ℕ) : Type 0 where
   pub refusal : r ≡ refusalImage ps cs
   pub visited : r ≡ 0 → take n o ≡ order (heapOf ps cs)
   pub few : r ≡ 0 → n ≤ length cs
+  pub held : r ≡ 0 → Held ps cs s
 
 -- the entry of pick p and cell c is not refused, at a statement of kind k
 abbrev pub accepted : Kind → ℕ → ℕ → List ℕ → List ℕ → Bool

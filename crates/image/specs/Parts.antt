@@ -10,16 +10,20 @@ use Rattle.model.specs.Machine.{kind, run, step}
 use Rattle.model.specs.Records.{filled, shapeRecord, opOf, stmtOf}
 use Rattle.model.specs.Image.{Folding, Stepping, heapOf, pastEnd, stays, answered}
 use Rattle.effect.specs.Effect.{EffectReady, effectOf}
+use Rattle.visit.specs.Visit.{Held}
 
 -- ---- folding
 
--- a heap of six pointers and at most 240 cells; the first n numbers of o are its cells in order of first visit
-pub record FoldReady (ps cs o : List ℕ) (n : ℕ) : Type 0 where
+-- a heap of six pointers and at most 240 cells; the first n numbers of o are its cells in order of first visit, and h counts
+-- their holders
+pub record FoldReady (ps cs o : List ℕ) (n : ℕ) (h : List ℕ) : Type 0 where
   pub isHeap : IsHeap (heapOf ps cs)
   pub six : length ps ≡ 6
   pub few : length cs ≤ 240
   pub visited : take n o ≡ order (heapOf ps cs)
   pub long : n ≤ length o
+  pub holders : length cs ≤ length h
+  pub held : Held ps cs h
 
 -- the record and the counters of a heap
 unfoldable pub foldedHeap : Heap → Folding

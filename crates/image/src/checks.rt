@@ -4,7 +4,7 @@ ghost use mathlib.Core.Bool.{_&&_};
 ghost use mathlib.Core.List.{List};
 ghost use mathlib.Core.Path.{_≡_};
 ghost use lib.Dec.{eqb};
-ghost use lib.ListN.{length};
+ghost use lib.ListN.{length, replicate};
 ghost use Rattle.model.specs.Image.{lengths, refusalUnfold, refusalStep};
 ghost use Rattle.model.specs.Machine.{kind};
 ghost use Rattle.model.specs.Records.{layoutH, opOf};
@@ -26,10 +26,10 @@ pub struct Checked {
     pub visited: usize,
 }
 
-// Checks an image: its lengths and values, then that every cell in use is visited. The order of the visit is kept.
-pub fn check_image(pointers: &[u8], cells: &[u8], order: &mut [u8]) -> Checked
-    requires { ⌜ length (now order) ≡ 240 ⌝ }
-    ensures { λ r. ⌜ ImageChecked (now (pointers .entry)) (now (cells .entry)) (now (order .exit)) (r .refusal) (r .visited) ⌝ }
+// Checks an image: its lengths and values, then that every cell in use is visited. The order and the marks of the visit are kept.
+pub fn check_image(pointers: &[u8], cells: &[u8], order: &mut [u8], seen: &mut [u8]) -> Checked
+    requires { ⌜ (length (now order) ≡ 240) × (now seen ≡ replicate 240 0) ⌝ }
+    ensures { λ r. ⌜ ImageChecked (now (pointers .entry)) (now (cells .entry)) (now (order .exit)) (now (seen .exit)) (r .refusal) (r .visited) ⌝ }
 {
     if !lengths_ok(pointers, cells) {
         return Checked {
@@ -43,9 +43,8 @@ pub fn check_image(pointers: &[u8], cells: &[u8], order: &mut [u8]) -> Checked
             visited: 0,
         };
     }
-    let mut seen = [0u8; 240];
-    let n = visit::visit(pointers, cells, order, &mut seen);
-    if visit::nothing_lost(cells, &seen) {
+    let n = visit::visit(pointers, cells, order, seen);
+    if visit::nothing_lost(cells, &seen[..]) {
         Checked {
             refusal: 0,
             visited: n,
@@ -99,7 +98,8 @@ pub fn step_refusal(rec: &[u8], pointers: &[u8], cells: &[u8]) -> u8
     ensures { λ r. ⌜ r ≡ refusalStep (now (rec .entry)) (now (pointers .entry)) (now (cells .entry)) ⌝ }
 {
     let mut order = [0u8; 240];
-    let checked = check_image(pointers, cells, &mut order);
+    let mut seen = [0u8; 240];
+    let checked = check_image(pointers, cells, &mut order, &mut seen);
     if checked.refusal != 0 {
         return checked.refusal;
     }

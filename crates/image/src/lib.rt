@@ -30,12 +30,11 @@ fn clear_past(counters: &mut [u32], k: usize)
     }
 }
 
-// Folds a heap whose visit order is given.
-fn fold_heap(pointers: &[u8], cells: &[u8], order: &[u8], n: usize) -> Folded
-    requires { ⌜ FoldReady (now pointers) (now cells) (now order) n ⌝ }
+// Folds a heap whose visit order and counts of holders are given.
+fn fold_heap(pointers: &[u8], cells: &[u8], order: &[u8], n: usize, held: &[u8]) -> Folded
+    requires { ⌜ FoldReady (now pointers) (now cells) (now order) n (now held) ⌝ }
     ensures { λ r. ⌜ foldingOf r ≡ foldedHeap (heapOf (now (pointers .entry)) (now (cells .entry))) ⌝ }
 {
-    let mut held = [0u8; 240];
     let mut node = [0u8; 240];
     let mut last = [0u8; 12];
     let mut size = [0u32; 12];
@@ -46,7 +45,7 @@ fn fold_heap(pointers: &[u8], cells: &[u8], order: &[u8], n: usize) -> Folded
         cells,
         order,
         n,
-        &mut held,
+        held,
         &mut node,
         &mut last,
         &mut size,
@@ -68,7 +67,8 @@ pub fn fold(pointers: &[u8], cells: &[u8]) -> Folded
     ensures { λ r. ⌜ foldingOf r ≡ foldImage (now (pointers .entry)) (now (cells .entry)) ⌝ }
 {
     let mut order = [0u8; 240];
-    let checked = check_image(pointers, cells, &mut order);
+    let mut seen = [0u8; 240];
+    let checked = check_image(pointers, cells, &mut order, &mut seen);
     if checked.refusal != 0 {
         return Folded {
             refusal: checked.refusal,
@@ -76,7 +76,7 @@ pub fn fold(pointers: &[u8], cells: &[u8]) -> Folded
             counters: [0u32; 12],
         };
     }
-    fold_heap(pointers, cells, &order, checked.visited)
+    fold_heap(pointers, cells, &order, checked.visited, &seen)
 }
 
 // Writes the heap image of a shape with counters; a refused unfolding leaves pointers and cells.

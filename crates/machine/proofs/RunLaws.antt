@@ -23,7 +23,7 @@ use Rattle.effect.specs.Effect.{effectOf}
 use Rattle.effect.specs.Laws.{answer-done, answer-fault, effect-closed, image-slots}
 use Rattle.effect.proofs.Ops.{new-op}
 use Rattle.visit.specs.Laws.{kept-marked, visited-length}
-use Rattle.visit.specs.Visit.{Held, VisitReady, Visited}
+use Rattle.visit.specs.Visit.{VisitReady, Visited}
 use Rattle.segment.specs.Cut.{CutReady, IsCut, heldCore, segs}
 use Rattle.segment.specs.Fold.{AllIn, LastsIn, foldByte}
 use Rattle.segment.proofs.ImageLaws.{image-ready, lasts-in, pointers-in}
@@ -40,12 +40,13 @@ fault-most leak = omega arith
 module _ {op u w x : ℕ} {ps cs o s : List ℕ} (p : RunReady op u w x ps cs o s) (qs ds : List ℕ) {r : ℕ}
     (e : effectOf r (heapOf qs ds) ≡ effect (opOf op u w) x (heapOf ps cs)) where
   -- a fault
-  pub run-faults : (t : List ℕ) → (r ≡ 0 → ⊥) → IsRun op u w x ps cs qs ds t r 0
-  run-faults t n = record {
+  pub run-faults : (t m : List ℕ) → (r ≡ 0 → ⊥) → IsRun op u w x ps cs qs ds t m r 0
+  run-faults t m n = record {
     outcome = run-fault (opOf op u w) x r (heapOf ps cs) (heapOf qs ds) e n;
     isHeap = λ z. absurd (n z);
     visited = λ z. absurd (n z);
     few = λ z. absurd (n z);
+    held = λ z. absurd (n z);
     known = let a = answer-fault (opOf op u w) x (heapOf ps cs) r (heapOf qs ds) e n in omega (arith, fault-most (a .0), a .2);
   }
 
@@ -93,7 +94,7 @@ module _ {op u w x : ℕ} {ps cs o s : List ℕ} (p : RunReady op u w x ps cs o 
           → eqb n (length ds) || eachUsed (λ c. not (eqb (getD m c 0) 0)) 0 (map cellSlot ds) ≡ eachUsed (λ c. not (eqb (getD m c 0) 0)) 0 (map cellSlot ds)
       number-first room = eq-case n (length ds) (λ q. rw (eq-eqb n (length ds) q) (sym (kept-marked d ∙ all-kept q room))) (λ q. rw q)
 
-      pub run-done : eachUsed (λ c. not (eqb (getD m c 0) 0)) 0 (map cellSlot ds) ≡ true → IsRun op u w x ps cs qs ds t 0 n
+      pub run-done : eachUsed (λ c. not (eqb (getD m c 0) 0)) 0 (map cellSlot ds) ≡ true → IsRun op u w x ps cs qs ds t m 0 n
       run-done k =
           let i : kept (heapOf qs ds) ≡ true = sym (kept-marked d) ∙ k in
           record {
@@ -101,15 +102,17 @@ module _ {op u w x : ℕ} {ps cs o s : List ℕ} (p : RunReady op u w x ps cs o 
             isHeap = λ _. record { isClosed = done-closed; isKept = i };
             visited = λ _. d .visited;
             few = λ _. d .few;
+            held = λ _. d .held i;
             known = omega arith;
           }
 
-      pub run-leaks : eachUsed (λ c. not (eqb (getD m c 0) 0)) 0 (map cellSlot ds) ≡ false → IsRun op u w x ps cs qs ds t 3 0
+      pub run-leaks : eachUsed (λ c. not (eqb (getD m c 0) 0)) 0 (map cellSlot ds) ≡ false → IsRun op u w x ps cs qs ds t m 3 0
       run-leaks k = record {
         outcome = run-lost (opOf op u w) x r (heapOf ps cs) (heapOf qs ds) e z (sym (kept-marked d) ∙ k);
         isHeap = λ f. absurd (omega arith);
         visited = λ f. absurd (omega arith);
         few = λ f. absurd (omega arith);
+        held = λ f. absurd (omega arith);
         known = omega arith;
       }
 
@@ -118,61 +121,59 @@ module _ {ps cs o : List ℕ} {n : ℕ} {h m l z p q : List ℕ} (x : ShapeReady
   few-segments : length (segments (heapOf ps cs)) ≤ 12
   few-segments = twelve (heapOf ps cs) (x .isHeap) (length-map ps _ ∙ x .six)
 
-  -- the holders are counted in h′
-  module _ (h′ : List ℕ) (d : Held ps cs h′) where
-    held-core : (c : ℕ) → mem c (order (heapOf ps cs)) ≡ true → heldCore h′ c ≡ core (heapOf ps cs) c
-    held-core c i =
+  held-core : (c : ℕ) → mem c (order (heapOf ps cs)) ≡ true → heldCore h c ≡ core (heapOf ps cs) c
+  held-core c i =
+      let g = heapOf ps cs in
+      x .held c (cell-low ps cs (x .isHeap) (x .few) c (toured g (heap-closed g (x .isHeap)) .used c i))
+
+  pub cut-ready : CutReady o n h m l z
+  cut-ready =
+      let f = few-segments in
+      let a = x .lasts in
+      let b = x .sizes in
+      image-ready ps cs (x .isHeap) (x .few) o n h m l z (x .long) (x .visited) held-core (x .holders) (x .nodes) (omega arith) (omega arith)
+
+  -- the order is cut into r segments
+  module _ (m′ l′ z′ : List ℕ) (r : ℕ) (t : IsCut (segs h (take n o)) m′ l′ z′ r) where
+    cut-heap : IsCut (segments (heapOf ps cs)) m′ l′ z′ r
+    cut-heap = subst (λ ss. IsCut ss m′ l′ z′ r) (ap (segs h) (x .visited) ∙ segs-same h (heapOf ps cs) held-core) t
+
+    few-nodes : r ≤ 12
+    few-nodes = rw (cut-heap .number) few-segments
+
+    pub values-ready : length m′ ≡ length m → (length ps ≤ length p) × AllIn m′ ps
+    values-ready k =
+        let i = x .pointers in
+        let j = x .six in
+        (omega arith, pointers-in ps cs (x .isHeap) (x .few) m′ (rw k (x .nodes)))
+
+    pub successors-ready : length m′ ≡ length m → length l′ ≡ length l → (r ≤ length l′) × (r ≤ length q) × LastsIn m′ cs l′ r
+    successors-ready k a =
+        let f = few-nodes in
+        let b = x .lasts in
+        let i = x .successors in
+        (omega arith, omega arith, lasts-in ps cs (x .isHeap) (x .few) m′ l′ r (rw k (x .nodes)) (omega arith) (cut-heap .lasts))
+
+    pub shape-is : (p′ q′ : List ℕ) → p′ ≡ map (foldByte m′) ps ++ drop (length ps) p
+        → q′ ≡ map (λ c. foldByte m′ (getD cs c 0)) (take r l′) ++ drop r q → IsShape ps cs m′ z′ p′ q′ r
+    shape-is p′ q′ a b =
         let g = heapOf ps cs in
-        d c (cell-low ps cs (x .isHeap) (x .few) c (toured g (heap-closed g (x .isHeap)) .used c i))
-
-    pub cut-ready : length h′ ≡ length h → CutReady o n h′ m l z
-    cut-ready k =
-        let f = few-segments in
-        let a = x .lasts in
-        let b = x .sizes in
-        image-ready ps cs (x .isHeap) (x .few) o n h′ m l z (x .long) (x .visited) held-core (rw k (x .holders)) (x .nodes) (omega arith) (omega arith)
-
-    -- the order is cut into r segments
-    module _ (m′ l′ z′ : List ℕ) (r : ℕ) (t : IsCut (segs h′ (take n o)) m′ l′ z′ r) where
-      cut-heap : IsCut (segments (heapOf ps cs)) m′ l′ z′ r
-      cut-heap = subst (λ ss. IsCut ss m′ l′ z′ r) (ap (segs h′) (x .visited) ∙ segs-same h′ (heapOf ps cs) held-core) t
-
-      few-nodes : r ≤ 12
-      few-nodes = rw (cut-heap .number) few-segments
-
-      pub values-ready : length m′ ≡ length m → (length ps ≤ length p) × AllIn m′ ps
-      values-ready k =
-          let i = x .pointers in
-          let j = x .six in
-          (omega arith, pointers-in ps cs (x .isHeap) (x .few) m′ (rw k (x .nodes)))
-
-      pub successors-ready : length m′ ≡ length m → length l′ ≡ length l → (r ≤ length l′) × (r ≤ length q) × LastsIn m′ cs l′ r
-      successors-ready k a =
-          let f = few-nodes in
-          let b = x .lasts in
-          let i = x .successors in
-          (omega arith, omega arith, lasts-in ps cs (x .isHeap) (x .few) m′ l′ r (rw k (x .nodes)) (omega arith) (cut-heap .lasts))
-
-      pub shape-is : (p′ q′ : List ℕ) → p′ ≡ map (foldByte m′) ps ++ drop (length ps) p
-          → q′ ≡ map (λ c. foldByte m′ (getD cs c 0)) (take r l′) ++ drop r q → IsShape ps cs m′ z′ p′ q′ r
-      shape-is p′ q′ a b =
-          let g = heapOf ps cs in
-          let ss = segments g in
-          let k = cut-heap in
-          let i = x .pointers in
-          let j = x .six in
-          let short : length p ≤ length ps = omega arith in
-          let nil : drop (length ps) p ≡ [] = drop-of-length-le p short in
-          let s : map (λ c. foldByte m′ (getD cs c 0)) (take r l′) ≡ map slotByte (shape g .slots) =
-          ap (map (λ c. foldByte m′ (getD cs c 0))) (k .lasts) ∙ shape-successors ps cs (x .isHeap) (x .few) m′ (k .nodes) in
-          let n : r ≡ length (map slotByte (shape g .slots)) =
-          k .number ∙ sym (length-map (shape g .slots) slotByte ∙ length-map ss (λ (t : Seg). nodeSlot ss (next g (last t)))) in
-          record {
-            number = k .number;
-            twelve = few-nodes;
-            pointers = a ∙ ap (λ y. map (foldByte m′) ps ++ y) nil ∙ append-nil (map (foldByte m′) ps) ∙ shape-pointers ps cs (x .isHeap) (x .few) m′ (k .nodes);
-            successors = ap (take r) (b ∙ ap (λ y. y ++ drop r q) s)
-                ∙ ap (λ i. take i (map slotByte (shape g .slots) ++ drop r q)) n ∙ take-append-seam (map slotByte (shape g .slots)) (drop r q);
-            sizes = k .sizes;
-            nodes = λ j c i. k .nodes j c (rw (k .number) at i);
-          }
+        let ss = segments g in
+        let k = cut-heap in
+        let i = x .pointers in
+        let j = x .six in
+        let short : length p ≤ length ps = omega arith in
+        let nil : drop (length ps) p ≡ [] = drop-of-length-le p short in
+        let s : map (λ c. foldByte m′ (getD cs c 0)) (take r l′) ≡ map slotByte (shape g .slots) =
+        ap (map (λ c. foldByte m′ (getD cs c 0))) (k .lasts) ∙ shape-successors ps cs (x .isHeap) (x .few) m′ (k .nodes) in
+        let n : r ≡ length (map slotByte (shape g .slots)) =
+        k .number ∙ sym (length-map (shape g .slots) slotByte ∙ length-map ss (λ (t : Seg). nodeSlot ss (next g (last t)))) in
+        record {
+          number = k .number;
+          twelve = few-nodes;
+          pointers = a ∙ ap (λ y. map (foldByte m′) ps ++ y) nil ∙ append-nil (map (foldByte m′) ps) ∙ shape-pointers ps cs (x .isHeap) (x .few) m′ (k .nodes);
+          successors = ap (take r) (b ∙ ap (λ y. y ++ drop r q) s)
+              ∙ ap (λ i. take i (map slotByte (shape g .slots) ++ drop r q)) n ∙ take-append-seam (map slotByte (shape g .slots)) (drop r q);
+          sizes = k .sizes;
+          nodes = λ j c i. k .nodes j c (rw (k .number) at i);
+        }

@@ -12,6 +12,7 @@ use Rattle.model.specs.Records.{opOf, valByte, slotByte}
 use Rattle.model.specs.Shape.{cells, segments, shape, counters}
 use Rattle.model.proofs.Notions.{segAt}
 use Rattle.effect.specs.Effect.{EffectReady, effectOf}
+use Rattle.visit.specs.Visit.{Held}
 
 -- the image ps, cs, the statement, and room for the visit: order o, marks s
 pub record RunReady (op u w x : ℕ) (ps cs o s : List ℕ) : Type 0 where
@@ -21,15 +22,17 @@ pub record RunReady (op u w x : ℕ) (ps cs o s : List ℕ) : Type 0 where
   pub marks : length cs ≤ length s
   pub clear : (c : ℕ) → c < length cs → getD s c 0 ≡ 0
 
--- the fault f and the image qs, ds afterwards are what the machine's run gives; without a fault o holds the n cells in visit order
-pub record IsRun (op u w x : ℕ) (ps cs qs ds o : List ℕ) (f n : ℕ) : Type 0 where
+-- the fault f and the image qs, ds afterwards are what the machine's run gives; without a fault o holds the n cells in visit order, and the
+-- marks s tell the core cells
+pub record IsRun (op u w x : ℕ) (ps cs qs ds o s : List ℕ) (f n : ℕ) : Type 0 where
   pub outcome : effectOf f (heapOf qs ds) ≡ run (opOf op u w) x (heapOf ps cs)
   pub isHeap : f ≡ 0 → IsHeap (heapOf qs ds)
   pub visited : f ≡ 0 → take n o ≡ order (heapOf qs ds)
   pub few : f ≡ 0 → n ≤ length ds
+  pub held : f ≡ 0 → Held qs ds s
   pub known : f ≤ 3
 
--- a heap image with its visit order, and room for its shape: holders h, nodes m, last cells l, sizes z, pointers p, successors q
+-- a heap image with its visit order and the counts of holders h, and room for its shape: nodes m, last cells l, sizes z, pointers p, successors q
 pub record ShapeReady (ps cs o : List ℕ) (n : ℕ) (h m l z p q : List ℕ) : Type 0 where
   pub isHeap : IsHeap (heapOf ps cs)
   pub six : length ps ≡ 6
@@ -37,7 +40,7 @@ pub record ShapeReady (ps cs o : List ℕ) (n : ℕ) (h m l z p q : List ℕ) : 
   pub visited : take n o ≡ order (heapOf ps cs)
   pub long : n ≤ length o
   pub holders : length cs ≤ length h
-  pub clear : (c : ℕ) → c < length cs → getD h c 0 ≡ 0
+  pub held : Held ps cs h
   pub nodes : length cs ≤ length m
   pub lasts : 12 ≤ length l
   pub sizes : 12 ≤ length z

@@ -39,7 +39,7 @@ pub fn run(
     seen: &mut [u8],
 ) -> Ran
     requires { ⌜ RunReady op (u .0) (w .0) x (now pointers) (now cells) (now order) (now seen) ⌝ }
-    ensures { λ r. ⌜ IsRun op (u .0) (w .0) x (now (pointers .entry)) (now (cells .entry)) (now (pointers .exit)) (now (cells .exit)) (now (order .exit)) (r .fault) (r .visited) ⌝ }
+    ensures { λ r. ⌜ IsRun op (u .0) (w .0) x (now (pointers .entry)) (now (cells .entry)) (now (pointers .exit)) (now (cells .exit)) (now (order .exit)) (now (seen .exit)) (r .fault) (r .visited) ⌝ }
 {
     let fault = effect::run_effect(op, u, w, x, pointers, cells);
     if fault != 0 {
@@ -62,13 +62,13 @@ pub fn run(
     }
 }
 
-// Folds a heap image whose visit order is given: the bytes of its shape, its counters, and the node of each cell.
+// Folds a heap image whose visit order and counts of holders are given: the bytes of its shape, its counters, and the node of each cell.
 pub fn shape_of(
     pointers: &[u8],
     cells: &[u8],
     order: &[u8],
     n: usize,
-    held: &mut [u8],
+    held: &[u8],
     node: &mut [u8],
     last: &mut [u8],
     size: &mut [u32],
@@ -78,8 +78,7 @@ pub fn shape_of(
     requires { ⌜ ShapeReady (now pointers) (now cells) (now order) n (now held) (now node) (now last) (now size) (now folded) (now successors) ⌝ }
     ensures { λ r. ⌜ IsShape (now (pointers .entry)) (now (cells .entry)) (now (node .exit)) (now (size .exit)) (now (folded .exit)) (now (successors .exit)) r ⌝ }
 {
-    visit::count_holders(pointers, cells, held);
-    let k = segment::cut(order, n, &held[..], node, last, size);
+    let k = segment::cut(order, n, held, node, last, size);
     segment::fold_values(pointers, &node[..], folded);
     segment::fold_successors(cells, &last[..], k, &node[..], successors);
     k

@@ -1,4 +1,4 @@
+pub mod Counting
 pub mod Walking
 pub mod Losing
-pub mod Holding
 pub mod Numbering

@@ -1,4 +1,4 @@
--- The test `canonical` from a visit and the counts of holders.
+-- The test `canonical` from a visit, whose marks count holders.
 use Prim.Native.Nat.{ℕ, _<_, _≤_}
 use native.Mathlib.Nat.{zero-add}
 use native.Mathlib.Omega.{arith}
@@ -15,7 +15,7 @@ use Rattle.model.specs.Shape.{allCore, canonical, core, numbered}
 use Rattle.visit.specs.Laws.{visited-length}
 use Rattle.visit.specs.ListLaws.{all-both, numbered-by, numbered-length, numbers-same}
 use Rattle.visit.specs.Steps.{placed}
-use Rattle.visit.specs.Visit.{Held, Visited}
+use Rattle.visit.specs.Visit.{Visited}
 
 -- the order leaves a cell out
 pub not-numbered : {ps cs o s : List ℕ} {r : ℕ} → Visited ps cs o s r → length cs ≤ length o → (r ≡ length cs → ⊥) → canonical (heapOf ps cs) ≡ false
@@ -31,10 +31,10 @@ module _ {ps cs o s : List ℕ} {r : ℕ} (x : Visited ps cs o s r) (k : length 
   count-is : length (map cellSlot cs) ≡ r
   count-is = length-map cs cellSlot ∙ sym e
 
-  core-held : (h : List ℕ) → Held ps cs h → allCore (heapOf ps cs) ≡ all (λ c. leb 2 (getD h c 0)) (numbers 0 r)
-  core-held h d =
+  core-held : kept (heapOf ps cs) ≡ true → allCore (heapOf ps cs) ≡ all (λ c. leb 2 (getD s c 0)) (numbers 0 r)
+  core-held t =
       ap (λ n. all (core (heapOf ps cs)) (numbers 0 n)) count-is
-      ∙ numbers-same (core (heapOf ps cs)) (λ c. leb 2 (getD h c 0)) 0 r (λ c lo hi. sym (d c (omega arith)))
+      ∙ numbers-same (core (heapOf ps cs)) (λ c. leb 2 (getD s c 0)) 0 r (λ c lo hi. sym (x .held t c (omega arith)))
 
   numbered-placed : numbered (heapOf ps cs) ≡ all (λ c. eqb (getD o c 0) c) (numbers 0 r)
   numbered-placed =
@@ -43,7 +43,7 @@ module _ {ps cs o s : List ℕ} {r : ℕ} (x : Visited ps cs o s r) (k : length 
       ∙ numbered-by (λ c. getD o c 0) (take r o) 0 (λ j q. let i : j < r = omega arith in rw (zero-add j) (getD-take r o j 0 i))
       ∙ ap (λ n. all (λ c. eqb (getD o c 0) c) (numbers 0 n)) l
 
-  pub canonical-placed : (h : List ℕ) → Held ps cs h → kept (heapOf ps cs) ≡ true → canonical (heapOf ps cs) ≡ all (placed o h) (numbers 0 r)
-  canonical-placed h d t =
-      ap (λ b. (b && allCore (heapOf ps cs)) && numbered (heapOf ps cs)) t ∙ ap₂ _&&_ (core-held h d) numbered-placed
-      ∙ sym (all-both (λ c. leb 2 (getD h c 0)) (λ c. eqb (getD o c 0) c) (numbers 0 r))
+  pub canonical-placed : kept (heapOf ps cs) ≡ true → canonical (heapOf ps cs) ≡ all (placed o s) (numbers 0 r)
+  canonical-placed t =
+      ap (λ b. (b && allCore (heapOf ps cs)) && numbered (heapOf ps cs)) t ∙ ap₂ _&&_ (core-held t) numbered-placed
+      ∙ sym (all-both (λ c. leb 2 (getD s c 0)) (λ c. eqb (getD o c 0) c) (numbers 0 r))

@@ -8,20 +8,21 @@ use mathlib.Core.List.{List, [], _∷_, _++_, map}
 use lib.Dec.{eqb}
 use lib.ListN.{length, getD, set, take, drop, length-append, length-set}
 use lib.Seq.{getD-set-same, getD-set-other, length-take-le, take-suc-set}
-use borrow.Author.Tests.{eq-eqb, eqb-false, eqb-true}
+use borrow.Author.Tests.{eq-eqb, eqb-false, eqb-true, ne-eqb}
 use Rattle.model.specs.Base.{mem}
 use Rattle.model.specs.Heap.{Val, cell, null, undef, Slot, holds, closed, order}
 use Rattle.model.specs.Image.{heapOf}
 use Rattle.model.specs.Records.{valOf}
 use Rattle.model.proofs.Bytes.{val-cell}
-use Rattle.model.proofs.Facts.{test-closed}
+use Rattle.model.proofs.Facts.{test-closed, test-kept}
 use Rattle.model.proofs.Logic.{bool-case, clash, eq-case, mem-append, mem-append-r, mem-here, not-true}
 use Rattle.model.proofs.Order.{nodup-snoc, pigeon, tours-same, toured, used-snoc}
 use Rattle.model.proofs.Slices.{map-end, map-step}
 use Rattle.model.proofs.Walks.{Closed, Tours, Used, Walks, at-null, at-seen, at-undef, go, tour-done, tour-more}
 use Rattle.visit.specs.ByteLaws.{cell-val, slot-val, used-few}
-use Rattle.visit.specs.Steps.{Visiting, Walked, slotAt}
+use Rattle.visit.specs.Steps.{Alike, Visiting, Walked, heldBy, slotAt}
 use Rattle.visit.specs.Visit.{VisitReady, Visited}
+use Rattle.visit.proofs.Counting.{held-core, pointing}
 
 -- ---- where a walk ends
 
@@ -84,24 +85,41 @@ module _ {cs o s : List ℕ} {n : ℕ} (x : Visiting cs o s n) (v : ℕ) (k : Cl
   pub walk-go : getD s v 0 ≡ 0 → (t : List ℕ) → Walks (slotAt cs) (take (n + 1) (set o n v)) (valOf (getD cs v 0)) t → Walks (slotAt cs) (take n o) (valOf v) t
   walk-go e t w = rw is-cell (go (marked-new e) (in-use .1 ∙ ap holds next-val) (rw (put-behind e) at w))
 
-  marks-more : (c : ℕ) → c < length cs → eqb (getD (set s v 1) c 0) 0 ≡ not (mem c (take n o ++ v ∷ []))
-  marks-more c i =
-      let q = x .marks in
-      eq-case c v
-      (λ e. let b : v < length s = omega arith in rw (e, getD-set-same s v 1 0 b, mem-append-r v (take n o) (v ∷ []) (mem-here v [])))
-      (λ f. rw (getD-set-other s v c 1 0 (eqb-false c v f), mem-append c (take n o) (v ∷ []), f, or-false (mem c (take n o))) (x .marked c i))
+  module _ (m : ℕ) (p : 1 ≤ m) where
+    marks-more : (c : ℕ) → c < length cs → eqb (getD (set s v m) c 0) 0 ≡ not (mem c (take n o ++ v ∷ []))
+    marks-more c i =
+        let q = x .marks in
+        eq-case c v
+        (λ e. let b : v < length s = omega arith in
+        rw (e, getD-set-same s v m 0 b, mem-append-r v (take n o) (v ∷ []) (mem-here v [])) (ne-eqb m 0 (λ z. omega arith)))
+        (λ f. rw (getD-set-other s v c m 0 (eqb-false c v f), mem-append c (take n o) (v ∷ []), f, or-false (mem c (take n o))) (x .marked c i))
 
-  pub visiting-more : getD s v 0 ≡ 0 → Visiting cs (set o n v) (set s v 1) (n + 1)
-  visiting-more e = let p = place-left e in let b = put-behind e in record {
-    few = x .few;
-    room = rw (length-set o n v) (x .room);
-    marks = rw (length-set s v 1) (x .marks);
-    counted = omega arith;
-    nexts = x .nexts;
-    nodup = rw b (nodup-snoc (take n o) v (x .nodup) (marked-new e));
-    used = rw b (used-snoc (slotAt cs) (take n o) v (x .used) in-use);
-    marked = λ c i. rw b (marks-more c i);
-  }
+    pub visiting-more : getD s v 0 ≡ 0 → Visiting cs (set o n v) (set s v m) (n + 1)
+    visiting-more e = let q = place-left e in let b = put-behind e in record {
+      few = x .few;
+      room = rw (length-set o n v) (x .room);
+      marks = rw (length-set s v m) (x .marks);
+      counted = omega arith;
+      nexts = x .nexts;
+      nodup = rw b (nodup-snoc (take n o) v (x .nodup) (marked-new e));
+      used = rw b (used-snoc (slotAt cs) (take n o) v (x .used) in-use);
+      marked = λ c i. rw b (marks-more c i);
+    }
+
+    -- another mark for a cell that has one
+    pub visiting-again : (getD s v 0 ≡ 0 → ⊥) → Visiting cs o (set s v m) n
+    visiting-again e = record {
+      few = x .few;
+      room = x .room;
+      marks = rw (length-set s v m) (x .marks);
+      counted = x .counted;
+      nexts = x .nexts;
+      nodup = x .nodup;
+      used = x .used;
+      marked = λ c i. let q = x .marks in eq-case c v
+          (λ y. let b : v < length s = omega arith in rw (y, getD-set-same s v m 0 b, marked-seen e) (ne-eqb m 0 (λ z. omega arith)))
+          (λ f. rw (getD-set-other s v c m 0 (eqb-false c v f)) (x .marked c i));
+    }
 
 -- ---- the whole tour
 
@@ -118,14 +136,21 @@ visiting-none {ps = ps} {cs = cs} r = record {
 }
 
 -- one pointer more
-pub tour-step : (ps cs l : List ℕ) (i : ℕ) (o s : List ℕ) (n : ℕ) → i < length ps → Walked cs l (getD ps i 0) o s n
+pub tour-step : (ps cs l m : List ℕ) (i : ℕ) (o s : List ℕ) (n : ℕ) → i < length ps → Walked cs l m (getD ps i 0) o s n
     → (t : List ℕ) → Tours (slotAt cs) (take n o) (map valOf (drop (i + 1) ps)) t → Tours (slotAt cs) l (map valOf (drop i ps)) t
-tour-step ps cs l i o s n h w t ts = rw (map-step valOf ps i h) (tour-more (w .walks) ts)
+tour-step ps cs l m i o s n h w t ts = rw (map-step valOf ps i h) (tour-more (w .walks) ts)
 
 pub tour-end : (ps cs l : List ℕ) (i : ℕ) → length ps ≤ i → Tours (slotAt cs) l (map valOf (drop i ps)) l
 tour-end ps cs l i h = rw (map-end valOf ps i h) tour-done
 
-pub visited-of : (ps cs o s : List ℕ) (n : ℕ) → closed (heapOf ps cs) ≡ true → Visiting cs o s n → Tours (slotAt cs) [] (map valOf ps) (take n o) → Visited ps cs o s n
-visited-of ps cs o s n cl x t =
+pub visited-of : (ps cs o s : List ℕ) (n : ℕ) → closed (heapOf ps cs) ≡ true → Visiting cs o s n → Tours (slotAt cs) [] (map valOf ps) (take n o)
+    → ((c : ℕ) → c < length cs → Alike (getD s c 0) (pointing c ps + heldBy cs c (take n o))) → Visited ps cs o s n
+visited-of ps cs o s n cl x t y =
     let e : take n o ≡ order (heapOf ps cs) = tours-same (slotAt cs) t (toured (heapOf ps cs) (test-closed (heapOf ps cs) cl) .tours) in
-    record { visited = e; few = x .counted; marked = λ c h. x .marked c h ∙ ap (λ l. not (mem c l)) e }
+    record {
+      visited = e;
+      few = x .counted;
+      marked = λ c h. x .marked c h ∙ ap (λ l. not (mem c l)) e;
+      held = λ k c h. let f = x .few in
+          held-core ps cs (take n o) (getD s c 0) c (omega arith) (x .nodup) (λ d u. rw e (test-kept (heapOf ps cs) k d u)) (y c h);
+    }

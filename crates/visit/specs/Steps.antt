@@ -1,15 +1,16 @@
--- What the inner functions ask and give: a value that names a cell in use, one walk, one holder, one cell of a canonical heap. Assumes nothing.
+-- What the inner functions ask and give: a value that names a cell in use, one walk, one cell of a canonical heap. Assumes nothing.
 use Prim.Native.Nat.{ℕ, _+_, _<_, _≤_}
 use mathlib.Core.Path.{_≡_}
-use mathlib.Core.Bool.{Bool, not, _&&_, _||_, cond}
+use mathlib.Core.Logic.{_⊎_}
+use mathlib.Core.Bool.{Bool, not, _&&_, cond}
 use mathlib.Core.List.{List, map}
-use lib.Dec.{eqb, leb, ltb}
-use lib.ListN.{length, getD, set, take}
-use Rattle.model.specs.Base.{any, count, mem}
+use lib.Dec.{eqb, leb}
+use lib.ListN.{length, getD, take}
+use Rattle.model.specs.Base.{count, mem}
 use Rattle.model.specs.Heap.{Val, Slot, unused, holds}
 use Rattle.model.specs.Image.{cellSlot}
 use Rattle.model.specs.Records.{valOf}
-use Rattle.model.specs.Shape.{holdsCell, isCell}
+use Rattle.model.specs.Shape.{holdsCell}
 use Rattle.model.proofs.Logic.{NoDup}
 use Rattle.model.proofs.Walks.{AllUsed, Closed, Walks}
 
@@ -34,29 +35,23 @@ pub record WalkReady (cs o s : List ℕ) (n v : ℕ) : Type 0 where
   pub visiting : Visiting cs o s n
   pub isNamed : Closed (slotAt cs) (valOf v)
 
--- the walk from the value v with the cells l seen before
-pub record Walked (cs l : List ℕ) (v : ℕ) (o s : List ℕ) (r : ℕ) : Type 0 where
+-- numbers that are the same, or both two or more
+abbrev pub Alike : ℕ → ℕ → Type 0
+Alike a b = (a ≡ b) ⊎ ((2 ≤ a) × (2 ≤ b))
+
+-- how many of the cells l hold the cell c
+abbrev pub heldBy : List ℕ → ℕ → List ℕ → ℕ
+heldBy cs c l = count (holdsCell c) (map (slotAt cs) l)
+
+-- the walk from the value v with the cells l seen before and the marks m; a mark counts holders: v, a pointer's value, counts twice, each next once
+pub record Walked (cs l m : List ℕ) (v : ℕ) (o s : List ℕ) (r : ℕ) : Type 0 where
   pub visiting : Visiting cs o s r
   pub walks : Walks (slotAt cs) l (valOf v) (take r o)
+  pub held : (c k b : ℕ) → c < length cs → Alike (getD m c 0 + (cond (eqb c v) 2 0 + k)) (b + heldBy cs c l) → Alike (getD s c 0 + k) (b + heldBy cs c (take r o))
 
 -- ---- one cell that may be lost: in use and without a mark
 abbrev pub lostAt : ℕ → ℕ → Bool
 lostAt b m = not (eqb b 0xfd) && eqb m 0
-
--- ---- one holder of the value v, of n cells: a first one makes the count 1, any other 2; a pointer counts twice
-abbrev pub heldOnce : ℕ → ℕ → List ℕ → List ℕ
-heldOnce n v h = cond (ltb v n) (set h v (cond (eqb (getD h v 0) 0) 1 2)) h
-
-abbrev pub heldTwice : ℕ → ℕ → List ℕ → List ℕ
-heldTwice n v h = cond (ltb v n) (set h v 2) h
-
--- the counts h after the cells cs were counted on the counts b
-abbrev pub CellsCounted : List ℕ → List ℕ → List ℕ → Type 0
-CellsCounted cs b h = (c : ℕ) → c < length cs → leb 2 (getD h c 0) ≡ leb 2 (getD b c 0 + count (holdsCell c) (map cellSlot cs))
-
--- the counts h after the pointers ps, of n cells, were counted on the counts b
-abbrev pub PointersCounted : ℕ → List ℕ → List ℕ → List ℕ → Type 0
-PointersCounted n ps b h = (c : ℕ) → c < n → leb 2 (getD h c 0) ≡ any (isCell c) (map valOf ps) || leb 2 (getD b c 0)
 
 -- ---- one cell of a canonical heap: core, and visited in its own place
 abbrev pub placed : List ℕ → List ℕ → ℕ → Bool

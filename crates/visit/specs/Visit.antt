@@ -1,4 +1,4 @@
--- What a visit of a heap image asks and gives, and what counting the holders asks and gives. Assumes nothing.
+-- What a visit of a heap image asks and gives. Assumes nothing.
 use Prim.Native.Nat.{ℕ, _<_, _≤_}
 use mathlib.Core.Path.{_≡_}
 use mathlib.Core.Bool.{true, not}
@@ -6,7 +6,7 @@ use mathlib.Core.List.{List}
 use lib.Dec.{eqb, leb}
 use lib.ListN.{length, getD, take}
 use Rattle.model.specs.Base.{mem}
-use Rattle.model.specs.Heap.{closed, order}
+use Rattle.model.specs.Heap.{closed, kept, order}
 use Rattle.model.specs.Image.{heapOf}
 use Rattle.model.specs.Shape.{core}
 
@@ -18,19 +18,13 @@ pub record VisitReady (ps cs o s : List ℕ) : Type 0 where
   pub marks : length cs ≤ length s
   pub clear : (c : ℕ) → c < length cs → getD s c 0 ≡ 0
 
--- the first r numbers of o are the cells in order of first visit, and s marks exactly these
+-- a count of two or more says that the cell is core
+abbrev pub Held : List ℕ → List ℕ → List ℕ → Type 0
+Held ps cs h = (c : ℕ) → c < length cs → leb 2 (getD h c 0) ≡ core (heapOf ps cs) c
+
+-- the first r numbers of o are the cells in order of first visit, and s marks exactly these; where no cell is lost, the marks tell the core cells
 pub record Visited (ps cs o s : List ℕ) (r : ℕ) : Type 0 where
   pub visited : take r o ≡ order (heapOf ps cs)
   pub few : r ≤ length cs
   pub marked : (c : ℕ) → c < length cs → eqb (getD s c 0) 0 ≡ not (mem c (order (heapOf ps cs)))
-
--- a clear count in h for each cell
-pub record HoldReady (ps cs h : List ℕ) : Type 0 where
-  pub isClosed : closed (heapOf ps cs) ≡ true
-  pub few : length cs ≤ 240
-  pub room : length cs ≤ length h
-  pub clear : (c : ℕ) → c < length cs → getD h c 0 ≡ 0
-
--- a count of two or more says that the cell is core
-abbrev pub Held : List ℕ → List ℕ → List ℕ → Type 0
-Held ps cs h = (c : ℕ) → c < length cs → leb 2 (getD h c 0) ≡ core (heapOf ps cs) c
+  pub held : kept (heapOf ps cs) ≡ true → Held ps cs s

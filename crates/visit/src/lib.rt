@@ -1,8 +1,8 @@
-// The visit of a heap image: the cells in order of first visit, the test for lost cells, and the core cells.
+// The visit of a heap image: the cells in order of first visit with the number of their holders, and the test for lost cells.
 // A heap image is pointer bytes and cell bytes: a cell number, 0xfe null, 0xff undefined, for a cell 0xfd not in use.
-// Each is linear in the number of cells: a cell is marked when seen, its holders are counted once.
+// Each is linear in the number of cells: the mark of a cell says that it was seen, and counts its holders.
 ghost use mathlib.Core.Path.{_≡_};
-ghost use mathlib.Core.Bool.{true, not, _&&_, cond};
+ghost use mathlib.Core.Bool.{true, not, _&&_};
 ghost use mathlib.Core.List.{map};
 ghost use Prim.Native.Nat.{_≤_, _<_};
 ghost use lib.Dec.{eqb};
@@ -12,8 +12,8 @@ ghost use Rattle.model.specs.Heap.{closed, eachUsed, named, slotNamed};
 ghost use Rattle.model.specs.Image.{cellSlot, heapOf};
 ghost use Rattle.model.specs.Records.{valOf};
 ghost use Rattle.model.specs.Shape.{canonical};
-ghost use Rattle.visit.specs.Visit.{VisitReady, Visited, HoldReady, Held};
-ghost use Rattle.visit.specs.Steps.{slotAt, WalkReady, Walked, lostAt, heldOnce, heldTwice, CellsCounted, PointersCounted, placed};
+ghost use Rattle.visit.specs.Visit.{VisitReady, Visited};
+ghost use Rattle.visit.specs.Steps.{slotAt, WalkReady, Walked, lostAt, placed};
 
 // ---- values name cells in use
 
@@ -85,20 +85,24 @@ pub fn is_closed(pointers: &[u8], cells: &[u8]) -> bool
 
 // ---- the order of first visit
 
-// Follows nexts from the value start until null, undefined or a cell seen before. A new cell is marked and put behind the
-// count cells of the order; the answer is how many there are then.
+// Follows nexts from the value start until null, undefined or a cell seen before. A new cell is put behind the count cells
+// of the order; the answer is how many there are then. The mark of a cell counts its holders, to 2 at most: start is what a
+// pointer holds, and a pointer counts twice.
 fn walk_from(cells: &[u8], order: &mut [u8], seen: &mut [u8], count: usize, start: u8) -> usize
     requires { ⌜ WalkReady (now cells) (now order) (now seen) count start ⌝ }
-    ensures { λ r. ⌜ Walked (now (cells .entry)) (take count (now (order .entry))) start (now (order .exit)) (now (seen .exit)) r ⌝ }
+    ensures { λ r. ⌜ Walked (now (cells .entry)) (take count (now (order .entry))) (now (seen .entry)) start (now (order .exit)) (now (seen .exit)) r ⌝ }
 {
     let mut n = count;
     let mut v = start as usize;
+    let mut holders: u8 = 2;
     // null and undefined are past the last cell
     while v < cells.len() {
         if seen[v] != 0 {
+            seen[v] = 2;
             return n;
         }
-        seen[v] = 1;
+        seen[v] = holders;
+        holders = 1;
         order[n] = v as u8;
         n += 1;
         v = cells[v] as usize;
@@ -106,7 +110,8 @@ fn walk_from(cells: &[u8], order: &mut [u8], seen: &mut [u8], count: usize, star
     n
 }
 
-// The cells in order of first visit, one walk for each pointer in turn; `seen` then marks exactly these.
+// The cells in order of first visit, one walk for each pointer in turn; `seen` then marks exactly these. Where no cell is
+// lost, the mark is 2 for a core cell and less for any other.
 pub fn visit(pointers: &[u8], cells: &[u8], order: &mut [u8], seen: &mut [u8]) -> usize
     requires { ⌜ VisitReady (now pointers) (now cells) (now order) (now seen) ⌝ }
     ensures { λ r. ⌜ Visited (now (pointers .entry)) (now (cells .entry)) (now (order .exit)) (now (seen .exit)) r ⌝ }
@@ -149,69 +154,6 @@ pub fn nothing_lost(cells: &[u8], seen: &[u8]) -> bool
     kept
 }
 
-// ---- core cells
-
-// The count after one holder more: a first one makes it 1, any other 2.
-fn one_more(count: u8) -> u8
-    ensures { λ r. ⌜ r ≡ cond (eqb count 0) 1 2 ⌝ }
-{
-    if count == 0 { 1 } else { 2 }
-}
-
-// A cell holds the value v: it has one holder more.
-fn hold_once(held: &mut [u8], n: usize, v: u8)
-    requires { ⌜ n ≤ length (now held) ⌝ }
-    ensures { λ _. ⌜ now (held .exit) ≡ heldOnce n v (now (held .entry)) ⌝ }
-{
-    let c = v as usize;
-    if c < n {
-        held[c] = one_more(held[c]);
-    }
-}
-
-// A pointer holds the value v: that alone makes a cell core.
-fn hold_twice(held: &mut [u8], n: usize, v: u8)
-    requires { ⌜ n ≤ length (now held) ⌝ }
-    ensures { λ _. ⌜ now (held .exit) ≡ heldTwice n v (now (held .entry)) ⌝ }
-{
-    let c = v as usize;
-    if c < n {
-        held[c] = 2;
-    }
-}
-
-fn count_cells(cells: &[u8], held: &mut [u8])
-    requires { ⌜ (length (now cells) ≤ 240) × (length (now cells) ≤ length (now held)) ⌝ }
-    ensures { λ _. ⌜ CellsCounted (now (cells .entry)) (now (held .entry)) (now (held .exit)) ⌝ }
-{
-    let n = cells.len();
-    let mut i = 0;
-    while i < n {
-        hold_once(held, n, cells[i]);
-        i += 1;
-    }
-}
-
-fn count_pointers(pointers: &[u8], n: usize, held: &mut [u8])
-    requires { ⌜ (n ≤ 240) × (n ≤ length (now held)) ⌝ }
-    ensures { λ _. ⌜ PointersCounted n (now (pointers .entry)) (now (held .entry)) (now (held .exit)) ⌝ }
-{
-    let mut i = 0;
-    while i < pointers.len() {
-        hold_twice(held, n, pointers[i]);
-        i += 1;
-    }
-}
-
-// Counts the holders of each cell, to 2 at most: 2 for a core cell, less for any other.
-pub fn count_holders(pointers: &[u8], cells: &[u8], held: &mut [u8])
-    requires { ⌜ HoldReady (now pointers) (now cells) (now held) ⌝ }
-    ensures { λ _. ⌜ Held (now (pointers .entry)) (now (cells .entry)) (now (held .exit)) ⌝ }
-{
-    count_cells(cells, held);
-    count_pointers(pointers, cells.len(), held);
-}
-
 // ---- canonical heaps
 
 // Whether each of n cells is core and stands in the order at its own place.
@@ -246,7 +188,5 @@ pub fn is_canonical(pointers: &[u8], cells: &[u8]) -> bool
     if !nothing_lost(cells, &seen) {
         return false;
     }
-    let mut held = [0u8; 16];
-    count_holders(pointers, cells, &mut held);
-    all_placed(&order, &held, n)
+    all_placed(&order, &seen, n)
 }

@@ -80,10 +80,8 @@ pub record CellsReady (l node : List ℕ) (k : ℕ) (sp : Bool) (at m : ℕ) : T
   pub hasTail : sp ≡ true → mem k l ≡ true
 
 -- what `sum_updates` asks: the first n cells of the order are different and ready, and there are m updates
-pub record SumReady (order : List ℕ) (n : ℕ) (node : List ℕ) (k : ℕ) (sp : Bool) (at m : ℕ) (updates : List ℕ) : Type 0 where
+pub record SumReady (order : List ℕ) (n : ℕ) (node : List ℕ) (k : ℕ) (sp : Bool) (at m : ℕ) : Type 0 where
   pub fewCells : n ≤ 13
   pub listed : n ≤ length order
-  pub fewNew : m ≤ 13
-  pub room : m ≤ length updates
   pub different : NoDup (take n order)
   pub ready : CellsReady (take n order) node k sp at m

@@ -151,7 +151,7 @@ fn sum_cells(cells: &[u8], node: &[u8], k: usize, split: bool, at: Node, updates
     add_cells(cells, node, k, split, at, updates);
 }
 
-// Writes the codes of the updates of m new nodes, given the n cells in order and the new node of each.
+// Writes the code of each node's update, given the n cells in order and the new node of each.
 pub fn sum_updates(
     order: &[u8],
     n: usize,
@@ -159,14 +159,12 @@ pub fn sum_updates(
     k: usize,
     split: bool,
     at: Node,
-    m: usize,
     updates: &mut [u16],
 )
-    requires { ⌜ SumReady (now order) n (now node) k split (at .0) m (now updates) ⌝ }
-    ensures codes { λ _. ⌜ ((j : ℕ) → j < m → getD (now (updates .exit)) j 0 ≡ codeAt (now (node .entry)) k split (at .0) (take n (now (order .entry))) j) ⌝ }
-    ensures others { λ _. ⌜ drop m (now (updates .exit)) ≡ drop m (now (updates .entry)) ⌝ }
+    requires { ⌜ SumReady (now order) n (now node) k split (at .0) (length (now updates)) ⌝ }
+    ensures { λ _. ⌜ ((j : ℕ) → j < length (now (updates .entry)) → getD (now (updates .exit)) j 0 ≡ codeAt (now (node .entry)) k split (at .0) (take n (now (order .entry))) j) ⌝ }
 {
-    sum_cells(&order[..n], node, k, split, at, &mut updates[..m]);
+    sum_cells(&order[..n], node, k, split, at, updates);
 }
 
 // The codes of the updates when the heap stays as it is: each of the 12 counters is its own old counter.

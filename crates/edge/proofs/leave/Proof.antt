@@ -9,22 +9,21 @@ shape-of-requires c κs = shape-ready (c .before .before .before .before .before
 
 sum-updates-requires : tie.Need-sum-updates-requires
 sum-updates-requires c κs =
-    let f = c .before .before .before .before .before .before .before .before .shape-of in
-    sum-ready (c .before .before .before .before .before .before .before .before .before .before .before .before .before .before .before .before .before .before .before .before .pre) (f .ensures) (f .kept .1 .1 .1 .1 .1 .0)
+    let f = c .before .before .before .before .before .before .before .shape-of in
+    sum-ready (c .before .before .before .before .before .before .before .before .before .before .before .before .before .before .before .before .before .before .before .pre) (f .ensures) (f .kept .1 .1 .1 .1 .1 .0)
 
 returns : tie.Need-returns
 returns c =
-    let s = c .before .before .before .before .before .before .before .before .before .before .before .before .before .before .before .before .before .before .before .before .before .before .before .before .before .before .before .before .before in
-    let f = c .before .before .before .before .before .before .before .before .before .before .before .before .before .before .before .before .before .shape-of in
+    let s = c .before .before .before .before .before .before .before .before .before .before .before .before .before .before .before .before .before .before .before .before .before .before .before .before .before .before .before .before in
+    let f = c .before .before .before .before .before .before .before .before .before .before .before .before .before .before .before .before .shape-of in
     let u = c .before .before .before .before .before .before .before .before .sum-updates in
     let w = c .before .before .write-location in
-    is-left (s .pre) (f .ensures) (s .args .to .0) (w .last .0) (u .last .1 .1 .1 .1 .1 .1 .1 .0) (w .ensures) (u .kept .1 .1 .1 .1 .1 .1 .1 .0) (u .ensures .0)
+    is-left (s .pre) (f .ensures) (s .args .to .0) (w .last .0) (u .last .1 .1 .1 .1 .1 .1 .0) (w .ensures) (u .kept .1 .1 .1 .1 .1 .1 .0) (u .ensures)
 
 pub leave-spec : {M : Type 1} → statement M
 leave-spec =
     tie.close
     (tie.spec
-    (λ c. search needs)
     (λ c. search needs)
     (λ c. search needs)
     (λ c. search needs)

@@ -9,7 +9,7 @@ shape-of-requires c κs = shape-ready (c .before .before .before .before .before
 
 returns : tie.Need-returns
 returns c =
-    let p = c .before .before .before .before .before .before .before .before .before .before .before .before .before .before in
+    let p = c .before .before .before .before .before .before .before .before .before .before .before .before .before in
     let s = p .shape-of in
     let t = s .last .1 .1 .1 .1 .1 in
     let w = c .before .before .before .before .write-shape in
@@ -20,6 +20,6 @@ returns c =
 pub fold-heap-spec : {M : Type 1} → statement M
 fold-heap-spec =
     tie.close
-    (tie.spec (λ c. search needs) (λ c. search needs) (λ c. search needs) (λ c. search needs) (λ c. search needs) (λ c. search needs)
+    (tie.spec (λ c. search needs) (λ c. search needs) (λ c. search needs) (λ c. search needs) (λ c. search needs)
     shape-of-requires (λ c. search needs) (λ c. search needs) (λ c. search needs) (λ c κs. search needs) (λ c. search needs)
     (λ c κs. search needs) returns)

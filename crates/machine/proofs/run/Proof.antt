@@ -10,7 +10,7 @@ returns : tie.Need-returns
 returns c =
     let s = c .before .before .before .before .before .before .before .before .before .before .before .before in
     let e = c .before .before .before .before .before .run-effect in
-    run-faults (s .pre) (e .last .1 .1 .1 .1 .0) (e .last .1 .1 .1 .1 .1 .0) (e .ensures .0) _ (c .if1 .taken)
+    run-faults (s .pre) (e .last .1 .1 .1 .1 .0) (e .last .1 .1 .1 .1 .1 .0) (e .ensures .0) _ _ (c .if1 .taken)
 
 visit-requires : tie.Need-visit-requires
 visit-requires c κs =

@@ -28,25 +28,18 @@ returns-2 c =
     let w = c .before .before .before .before .before .before .visit in
     sym (not-kept (a .pointers .now) (a .cells .now) (sym (kept-marked (w .ensures)) ∙ sym (c .before .nothing-lost .ensures) ∙ not-true _ (c .if2 .taken)))
 
-count-holders-requires : tie.Need-count-holders-requires
-count-holders-requires c κs =
-    let p = c .before .before .before .before .before .before .before .before .before .before .before .before .pre in
-    record { isClosed = p .0; few = omega (arith, p .1); room = omega (arith, p .1); clear = λ d q. getD-replicate 16 d 0 0 (omega (arith, p .1)) }
-
 returns-3 : tie.Need-returns-3
 returns-3 c =
-    let s = c .before .before .before .before .before .before .before .before .before .before .before .before .before .before .before .before .before in
-    let w = c .before .before .before .before .before .before .before .before .before .before .before .before .visit in
+    let s = c .before .before .before .before .before .before .before .before .before .before .before .before .before .before in
+    let w = c .before .before .before .before .before .before .before .before .before .visit in
     let cs = s .args .cells .now in
     let k : length cs ≤ length (w .last .1 .1 .0) = omega (arith, w .kept .1 .1 .0, s .pre .1) in
     let e : w .result ≡ length cs = search needs in
-    let h = c .before .before .before .before .count-holders in
-    let t = sym (kept-marked (w .ensures)) ∙ sym (c .before .before .before .before .before .before .before .nothing-lost .ensures)
-    ∙ not-false _ (c .before .before .before .before .before .before .if2 .left) in
-    c .all-placed .ensures ∙ sym (canonical-placed (w .ensures) k e (h .last .1 .1 .0) (h .ensures) t)
+    let t = sym (kept-marked (w .ensures)) ∙ sym (c .before .before .before .before .nothing-lost .ensures) ∙ not-false _ (c .before .before .before .if2 .left) in
+    c .all-placed .ensures ∙ sym (canonical-placed (w .ensures) k e t)
 
 pub is-canonical-spec : {M : Type 1} → statement M
 is-canonical-spec =
     tie.close
     (tie.spec (λ c. search needs) (λ c. search needs) visit-requires returns (λ c. search needs) (λ c κs. search needs) returns-2 (λ c. search needs)
-    count-holders-requires (λ c. search needs) (λ c. search needs) (λ c κs. search needs) returns-3)
+    (λ c. search needs) (λ c κs. search needs) returns-3)
