@@ -48,7 +48,7 @@ weight-way false g v p h = refl
 
 -- ---- the edge of an answer
 
-fault-edge : (s k : ℕ) (y : Way) (x : Fault) (a : Answer) (E : Edge) → a ≡ faulted x → edgeBy s k y a ≡ E ∷ []
+pub fault-edge : (s k : ℕ) (y : Way) (x : Fault) (a : Answer) (E : Edge) → a ≡ faulted x → edgeBy s k y a ≡ E ∷ []
     → record { branchNo = 0; guard = y .guard; to = failed s x; updates = [] } ≡ E
 fault-edge s k y x a E e q = head-eq-of-cons-eq (sym (ap (edgeBy s k y) e) ∙ q)
 

@@ -39,18 +39,18 @@ unused-closed h k =
 
 -- ---- a split
 
-abbrev splitNext : (ℕ → Slot) → ℕ → ℕ → ℕ → Slot
+abbrev pub splitNext : (ℕ → Slot) → ℕ → ℕ → ℕ → Slot
 splitNext nx n k = upd (upd nx k (nx n)) n (holds (cell k))
 
-next-split : (n k : ℕ) (h : Heap) → next (splitHeap n k h) ≡ splitNext (next h) n k
+pub next-split : (n k : ℕ) (h : Heap) → next (splitHeap n k h) ≡ splitNext (next h) n k
 next-split n k h = next-put (putSlot k (next h n) h) n (holds (cell k)) ∙ ap (λ f. upd f n (holds (cell k))) (next-put h k (next h n))
 
 module _ (nx : ℕ → Slot) (n k : ℕ) (u : Used nx n) where
-  tail-in : Used (splitNext nx n k) k
+  pub tail-in : Used (splitNext nx n k) k
   tail-in = eq-case k n (λ e. (cell k, upd-at (upd nx k (nx n)) n (holds (cell k)) k e))
       (λ e. (u .0, upd-off (upd nx k (nx n)) n (holds (cell k)) k e ∙ upd-at nx k (nx n) k refl ∙ u .1))
 
-  still-used : (i : ℕ) → Used nx i → Used (splitNext nx n k) i
+  pub still-used : (i : ℕ) → Used nx i → Used (splitNext nx n k) i
   still-used i w = eq-case i n (λ e. (cell k, upd-at (upd nx k (nx n)) n (holds (cell k)) i e))
       (λ e. eq-case i k (λ f. subst (Used (splitNext nx n k)) (sym f) tail-in)
       (λ f. (w .0, upd-off (upd nx k (nx n)) n (holds (cell k)) i e ∙ upd-off nx k (nx n) i f ∙ w .1)))
@@ -104,7 +104,7 @@ abbrev InUse : ℕ → Effect → Type 0
 InUse k (done g) = Used (next g) k
 InUse k (fault f) = Unit {0}
 
-put-used : (h : Heap) (n k : ℕ) (v : Val) → Used (next h) k → Used (next (putSlot n (holds v) h)) k
+pub put-used : (h : Heap) (n k : ℕ) (v : Val) → Used (next h) k → Used (next (putSlot n (holds v) h)) k
 put-used h n k v u = subst (λ nx. Used nx k) (sym (next-put h n (holds v)))
     (eq-case k n (λ e. (v, upd-at (next h) n (holds v) k e)) (λ e. (u .0, upd-off (next h) n (holds v) k e ∙ u .1)))
 

@@ -4,3 +4,5 @@ pub mod Running
 pub mod Leaving
 pub mod Edges
 pub mod Keeping
+pub mod Unheld
+pub mod Leaking

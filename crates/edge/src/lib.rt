@@ -1,14 +1,18 @@
 // One edge of a location: the statement is run on the location's shape, opened for the way, and the result is folded. A statement that keeps the heap needs no run.
+mod loss;
+
+use loss::surely_lost;
 use model::Node;
 use model::Pointer;
 use model::Statement;
-ghost use Prim.Native.Nat.{ℕ, _≤_};
-ghost use mathlib.Core.Bool.{Bool, false};
+ghost use Prim.Native.Nat.{ℕ, _≤_, _<_};
+ghost use mathlib.Core.Bool.{Bool, true, false};
 ghost use mathlib.Core.Path.{_≡_};
 ghost use lib.ListN.{length, set};
 ghost use Rattle.model.specs.Machine.{target};
 ghost use Rattle.model.specs.Records.{byte, stmtOf};
 ghost use Rattle.edge.specs.Edge.{EdgeReady, LeavesBy};
+ghost use Rattle.record.specs.Written.{faultBytes};
 ghost use Rattle.edge.specs.Parts.{IsLeft, LeaveReady, RunsReady, WayRan};
 
 // What leaving gives beside the target's record and the updates: the branch, and how many new nodes there are.
@@ -134,16 +138,14 @@ fn run_edge(
         &mut order,
         &mut seen,
     );
-    let fault = gone.fault;
-    if fault != 0 {
-        record::write_fault(target, Statement(location[1]), fault);
+    if gone.fault != 0 {
+        record::write_fault(target, Statement(location[1]), gone.fault);
         return Left {
             branch: 0,
             nodes: 0,
         };
     }
     let n = gone.cells;
-    let to = target_of(statement, gone.branch);
     Left {
         branch: gone.branch,
         nodes: leave(
@@ -155,7 +157,7 @@ fn run_edge(
             location[3] as usize,
             split,
             node,
-            to,
+            target_of(statement, gone.branch),
             target,
             updates,
         ),
@@ -195,6 +197,18 @@ fn keep_edge(
     }
 }
 
+// The edge to a leak.
+fn leak_edge(location: &[u8], target: &mut [u8]) -> Left
+    requires { ⌜ (length (now location) ≡ 32) × (length (now target) ≡ 32) ⌝ }
+    ensures { λ r. ⌜ (r .branch ≡ 0) × (r .nodes ≡ 0) × (now (target .exit) ≡ faultBytes (byte (now (location .entry)) 1) 3) ⌝ }
+{
+    record::write_fault(target, Statement(location[1]), 3);
+    Left {
+        branch: 0,
+        nodes: 0,
+    }
+}
+
 // The edge by one way out of a location: its target's record, its updates, its branch, and how many new nodes there are.
 pub fn one_edge(
     location: &[u8],
@@ -210,6 +224,8 @@ pub fn one_edge(
 {
     if 8 <= statement[1] {
         keep_edge(location, statement, pick, target, updates)
+    } else if surely_lost(location, statement, split) {
+        leak_edge(location, target)
     } else {
         run_edge(location, statement, split, node, pick, target, updates)
     }

@@ -24,14 +24,14 @@ run-way-requires c κs =
       clear = zeros 16;
     }
 
-shared-slice-read-t29 : tie.Need-shared-slice-read-t29
-shared-slice-read-t29 c = omega (arith, location-wide (c .before .before .before .before .before .before .before .before .before .before .before .before .before .before .before .before .pre .ready))
+shared-slice-read-t27 : tie.Need-shared-slice-read-t27
+shared-slice-read-t27 c = omega (arith, location-wide (c .before .before .before .before .before .before .before .before .before .before .before .before .before .before .before .before .before .pre .ready))
 
 returns : tie.Need-returns
 returns c =
-    let s = c .before .before .before .before .before .before .before .before .before .before .before .before .before .before .before .before .before .before .before in
+    let s = c .before .before .before .before .before .before .before .before .before .before .before .before .before .before .before .before .before .before .before .before in
     let f = c .before .before .write-fault in
-    fault-leaves (c .before .before .before .before .before .before .before .before .before .before .run-way .ensures) (s .args .target .now) (f .last .0) (s .args .updates .now) (s .pre .wide) (c .before .before .before .before .before .if1 .taken) (f .ensures)
+    fault-leaves (c .before .before .before .before .before .before .before .before .before .before .before .run-way .ensures) (s .args .target .now) (f .last .0) (s .args .updates .now) (s .pre .wide) (c .before .before .before .before .before .if1 .taken) (f .ensures)
 
 array-share-prefix-cells : tie.Need-array-share-prefix-cells
 array-share-prefix-cells c =
@@ -52,16 +52,16 @@ cast-leave c = omega (arith, nodes-few (c .before .before .before .before .befor
 
 leave-requires : tie.Need-leave-requires
 leave-requires c κs =
-    let s = c .before .before .before .before .before .before .before .before .before .before .before .before .before .before .before .before .before .before .before .before .before .before in
-    let r = c .before .before .before .before .before .before .before .before .before .before .before .before .before .run-way in
+    let s = c .before .before .before .before .before .before .before .before .before .before .before .before .before .before .before .before .before .before .before .before .before .before .before in
+    let r = c .before .before .before .before .before .before .before .before .before .before .before .before .before .before .run-way in
     let z : r .result .fault ≡ 0 = search needs in
     leave-ready (r .ensures) (s .args .target .now) (s .args .updates .now) (s .pre) (r .kept .1 .1 .1 .1 .1 .0) (r .kept .1 .1 .1 .1 .1 .1 .0)
     (r .kept .1 .1 .1 .1 .1 .1 .1 .0) (r .kept .1 .1 .1 .1 .1 .1 .1 .1 .0) z
 
 returns-2 : tie.Need-returns-2
 returns-2 c =
-    let r = c .before .before .before .before .before .before .before .before .before .before .before .before .before .before .before .before .before .before .run-way in
-    let t = c .before .before .before .before .before .before .before .before .before .before .before .before .target-of in
+    let r = c .before .before .before .before .before .before .before .before .before .before .before .before .before .before .before .before .before .before .before .run-way in
+    let t = c .before .before .before .before .before .before .before .target-of in
     let l = c .before .before .before .before .leave in
     let z : r .result .fault ≡ 0 = c .before .before .before .before .before .before .before .before .before .before .before .before .before .if1 .left in
     done-leaves (r .ensures) (l .last .1 .1 .1 .1 .1 .1 .1 .1 .1 .0) (l .last .1 .1 .1 .1 .1 .1 .1 .1 .1 .1 .0) (t .result .0) (l .result) z (t .ensures) (l .ensures)
@@ -75,11 +75,10 @@ run-edge-spec =
     (λ c. search needs)
     (λ c. search needs)
     run-way-requires
-    shared-slice-read-t29
+    shared-slice-read-t27
     (λ c κs. search needs)
     (λ c. search needs)
     returns
-    (λ c κs. search needs)
     (λ c. search needs)
     array-share-prefix-cells
     slice-aggregate-leave-2
@@ -87,6 +86,7 @@ run-edge-spec =
     (λ c. search needs)
     shared-slice-read-leave
     cast-leave
+    (λ c κs. search needs)
     leave-requires
     (λ c. search needs)
     (λ c. search needs)

@@ -1,0 +1,72 @@
+// Leaks that are seen in a location's record, before the statement is run: a third of the edges of large listings are such.
+ghost use Prim.Native.Nat.{_≤_, _<_};
+ghost use mathlib.Core.Bool.{true};
+ghost use mathlib.Core.Path.{_≡_};
+ghost use lib.ListN.{length};
+ghost use Rattle.model.specs.Records.{byte};
+ghost use Rattle.edge.specs.Loss.{AloneHolds, Leaks, LossReady, Overwrites, StandsOnce, cutsNext};
+
+// Whether the op takes the next of the cell that it goes through away: u.next := null, u.next := w, free u.
+fn cuts_next(op: u8) -> bool
+    ensures { λ r. ⌜ r ≡ cutsNext op ⌝ }
+{
+    op == 4 || (op == 5 || op == 7)
+}
+
+// Whether the byte at a pointer's place stands at no other place of the six pointers and the nodes' successors.
+fn stands_once(location: &[u8], at: usize) -> bool
+    requires { ⌜ (length (now location) ≡ 32) × (at < 10) × (byte (now location) 3 ≤ 12) ⌝ }
+    ensures { λ r. ⌜ (r ≡ true → StandsOnce (now (location .entry)) at) ⌝ }
+{
+    let end = location[3] as usize + 10;
+    let held = location[at];
+    let mut i = 4;
+    while i < end {
+        if location[i] == held {
+            if i != at {
+                return false;
+            }
+        }
+        i += 1;
+    }
+    true
+}
+
+// Whether the op puts another value into pointer u: not so where it copies u to itself, or reads through a pointer that holds no node.
+fn overwrites(location: &[u8], op: u8, u: u8, w: u8) -> bool
+    requires { ⌜ (length (now location) ≡ 32) × (w < 6) ⌝ }
+    ensures { λ r. ⌜ (r ≡ true → Overwrites (now (location .entry)) op u w) ⌝ }
+{
+    if op == 2 {
+        u != w
+    } else if op == 3 {
+        location[w as usize + 4] < location[3]
+    } else {
+        true
+    }
+}
+
+// Whether pointer u alone holds a node.
+fn alone_holds(location: &[u8], u: u8) -> bool
+    requires { ⌜ (length (now location) ≡ 32) × (u < 6) × (byte (now location) 3 ≤ 12) ⌝ }
+    ensures { λ r. ⌜ (r ≡ true → AloneHolds (now (location .entry)) u) ⌝ }
+{
+    let at = u as usize + 4;
+    location[at] < location[3] && stands_once(location, at)
+}
+
+// Whether the run is seen to be a leak before it is made: the tail of a split goes with its head's next, or a node goes with the only pointer that holds it.
+pub fn surely_lost(location: &[u8], statement: &[u8], split: bool) -> bool
+    requires { ⌜ LossReady (now location) (now statement) split ⌝ }
+    ensures { λ r. ⌜ (r ≡ true → Leaks (now (location .entry)) (now (statement .entry)) split) ⌝ }
+{
+    let op = statement[1];
+    let u = statement[2];
+    if cuts_next(op) {
+        split
+    } else if overwrites(location, op, u, statement[3]) {
+        alone_holds(location, u)
+    } else {
+        false
+    }
+}
