@@ -39,7 +39,7 @@ unused-closed h k =
 
 -- ---- a split
 
-abbrev pub splitNext : (ℕ → Slot) → ℕ → ℕ → ℕ → Slot
+abbrev splitNext : (ℕ → Slot) → ℕ → ℕ → ℕ → Slot
 splitNext nx n k = upd (upd nx k (nx n)) n (holds (cell k))
 
 pub next-split : (n k : ℕ) (h : Heap) → next (splitHeap n k h) ≡ splitNext (next h) n k

@@ -7,7 +7,7 @@ use mathlib.Core.List.{List, [], _∷_, _++_}
 use native.Mathlib.Omega.{arith}
 use lib.Dec.{eqb}
 use lib.ListN.{getD, length, set}
-use borrow.Author.Tests.{ne-eqb}
+use borrow.Author.Tests.{eqb-false, ne-eqb}
 use Rattle.model.specs.Base.{mem}
 use Rattle.model.specs.Heap.{Heap, Slot, Val, cell, holds, kept, next, null, order, ptr, tour, undef, unused, walk}
 use Rattle.model.specs.Machine.{done, fault, freeCell, held, keep, leak, putSlot, setPtr, wipe, wipeSlot}
@@ -21,7 +21,7 @@ use Rattle.model.proofs.Notions.{upd}
 use Rattle.model.proofs.Order.{used-below}
 use Rattle.model.proofs.Walks.{Closed, ClosedHeap, Used, closed-in}
 use Rattle.model.proofs.Writes.{holds-inj, slot-clash, upd-at, upd-off}
-use Rattle.edge.proofs.Heaps.{next-split, put-used, splitNext, still-used, tail-in}
+use Rattle.edge.proofs.Heaps.{next-split, put-used, still-used, tail-in}
 
 -- ---- the walks
 
@@ -68,6 +68,16 @@ wipe-slot-back : (n c : ℕ) (s : Slot) → wipeSlot n s ≡ holds (cell c) → 
 wipe-slot-back n c unused e = e
 wipe-slot-back n c (holds x) e = ap holds (sym (wipe-back n c x (sym (holds-inj e))))
 
+-- what a cell of a split heap holds: the head the tail, any other what some cell held before
+split-cases : {C : Type 0} (h : Heap) (n b : ℕ) (x : Val) → next (splitHeap n (length (h .slots)) h) b ≡ holds x
+    → (b ≡ n → x ≡ cell (length (h .slots)) → C) → ((d : ℕ) → next h d ≡ holds x → C) → C
+split-cases h n b x e f g =
+    let k = length (h .slots) in
+    let q = subst (λ nx. nx b ≡ holds x) (next-split n k h) e in
+    eq-case b n (λ d. f d (holds-inj (sym q ∙ upd-at (upd (next h) k (next h n)) n (holds (cell k)) b d)))
+    (λ d. let a = sym (upd-off (upd (next h) k (next h n)) n (holds (cell k)) b d) ∙ q in
+    eq-case b k (λ i. g n (sym (upd-at (next h) k (next h n) b i) ∙ a)) (λ i. g b (sym (upd-off (next h) k (next h n) b i) ∙ a)))
+
 module _ (h : Heap) (cl : ClosedHeap h) (n : ℕ) (u : Used (next h) n) where
   abbrev k : ℕ
   k = length (h .slots)
@@ -85,13 +95,8 @@ module _ (h : Heap) (cl : ClosedHeap h) (n : ℕ) (u : Used (next h) n) where
   no-next b e = not-used (cl .1 b (cell k) e)
 
   -- the head's next alone holds it
-  off-head : (b : ℕ) → eqb b n ≡ false → splitNext (next h) n k b ≡ holds (cell k) → ⊥
-  off-head b d e =
-      let a = sym (upd-off (upd (next h) k (next h n)) n (holds (cell k)) b d) ∙ e in
-      eq-case b k (λ q. no-next n (sym (upd-at (next h) k (next h n) b q) ∙ a)) (λ q. no-next b (sym (upd-off (next h) k (next h n) b q) ∙ a))
-
   split-off : (b : ℕ) → eqb b n ≡ false → next (splitHeap n k h) b ≡ holds (cell k) → ⊥
-  split-off b d e = off-head b d (subst (λ nx. nx b ≡ holds (cell k)) (next-split n k h) e)
+  split-off b d e = split-cases h n b (cell k) e (λ q i. eqb-false b n d q) no-next
 
   tail-in-use : Used (next (splitHeap n k h)) k
   tail-in-use = subst (λ nx. Used nx k) (sym (next-split n k h)) (tail-in (next h) n k u)
@@ -152,13 +157,8 @@ module _ (H : Heap) (u c : ℕ) (w : Used (next H) c) (alone : (i : ℕ) → i <
 
 -- splitting a node makes no other cell be held
 pub split-none : (h : Heap) (n c : ℕ) → c < length (h .slots) → NoNext (next h) c → NoNext (next (splitHeap n (length (h .slots)) h)) c
-split-none h n c lt none =
-    let k = length (h .slots) in
-    subst (λ nx. NoNext nx c) (sym (next-split n k h))
-    (λ b e. eq-case b n
-    (λ d. let q = holds-inj (sym (upd-at (upd (next h) k (next h n)) n (holds (cell k)) b d) ∙ e) in let z : k ≡ c = cc in omega arith)
-    (λ d. let a = sym (upd-off (upd (next h) k (next h n)) n (holds (cell k)) b d) ∙ e in
-    eq-case b k (λ q. none n (sym (upd-at (next h) k (next h n) b q) ∙ a)) (λ q. none b (sym (upd-off (next h) k (next h n) b q) ∙ a))))
+split-none h n c lt none b e =
+    split-cases h n b (cell c) e (λ i q. let z : c ≡ length (h .slots) = cc in omega arith) none
 
 pub split-used : (h : Heap) (n c : ℕ) → Used (next h) n → Used (next h) c → Used (next (splitHeap n (length (h .slots)) h)) c
 split-used h n c u w = subst (λ nx. Used nx c) (sym (next-split n (length (h .slots)) h)) (still-used (next h) n (length (h .slots)) u c w)

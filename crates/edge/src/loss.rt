@@ -14,22 +14,22 @@ fn cuts_next(op: u8) -> bool
 }
 
 // Whether the byte at a pointer's place stands at no other place of the six pointers and the nodes' successors.
+// All places are looked at: a count has no branch to guess.
 fn stands_once(location: &[u8], at: usize) -> bool
-    requires { ⌜ (length (now location) ≡ 32) × (at < 10) × (byte (now location) 3 ≤ 12) ⌝ }
+    requires { ⌜ (length (now location) ≡ 32) × (4 ≤ at) × (at < 10) × (byte (now location) 3 ≤ 12) ⌝ }
     ensures { λ r. ⌜ (r ≡ true → StandsOnce (now (location .entry)) at) ⌝ }
 {
     let end = location[3] as usize + 10;
     let held = location[at];
+    let mut count: u8 = 0;
     let mut i = 4;
     while i < end {
         if location[i] == held {
-            if i != at {
-                return false;
-            }
+            count += 1;
         }
         i += 1;
     }
-    true
+    count == 1
 }
 
 // Whether the op puts another value into pointer u: not so where it copies u to itself, or reads through a pointer that holds no node.
