@@ -4,17 +4,18 @@
 use std::hint::black_box;
 use std::time::Instant;
 
-/// The best of several rounds, in nanoseconds for one call.
+/// Nanoseconds for one call.
+fn round<T>(calls: usize, mut f: impl FnMut() -> T) -> f64 {
+    let began = Instant::now();
+    for _ in 0..calls {
+        black_box(f());
+    }
+    began.elapsed().as_nanos() as f64 / calls as f64
+}
+
+/// The best of several rounds.
 fn best<T>(calls: usize, mut f: impl FnMut() -> T) -> f64 {
-    (0..7)
-        .map(|_| {
-            let began = Instant::now();
-            for _ in 0..calls {
-                black_box(f());
-            }
-            began.elapsed().as_nanos() as f64 / calls as f64
-        })
-        .fold(f64::INFINITY, f64::min)
+    (0..7).map(|_| round(calls, &mut f)).fold(f64::INFINITY, f64::min)
 }
 
 fn row(what: &str, ours: f64, theirs: f64) {
@@ -113,22 +114,38 @@ fn growth(input: &[u8]) {
     }
 }
 
+/// Nanoseconds for one call, proved and C, in tables of several sizes. The sizes take turns many times, and the least time of each
+/// counts, so that a disturbance of the machine does not fall on one size alone.
+fn least_times(input: &[u8], sizes: &[usize]) -> Vec<[f64; 2]> {
+    let mut least = vec![[f64::INFINITY; 2]; sizes.len()];
+    for _ in 0..60 {
+        for (times, &places) in least.iter_mut().zip(sizes) {
+            let mut t = (vec![0u8; 32 * places], vec![0u8; 64 * places]);
+            let ours = round(5, || native::translate(black_box(input), &mut t.0, &mut t.1));
+            let c = if peer(input, &mut t) { round(50, || peer(black_box(input), &mut t)) } else { f64::NAN };
+            *times = [times[0].min(ours), times[1].min(c)];
+        }
+    }
+    least
+}
+
 /// The time of an edge without the search, of one record that the search looks at, and of an edge in C. The number of records looked at
 /// is known from the listing, so two unknowns are fitted to the times in tables of several sizes; the time in tables without a place,
-/// which is that of the checks, is taken off.
+/// which is that of the checks, is taken off. What a search takes besides, at its start and its end, counts as the edge's.
 fn parts(input: &[u8]) -> [f64; 3] {
-    let [checks, _, c_checks] = times(input, 0);
+    let sizes = [0, 64, 128, 256, 512, 1000];
+    let least = least_times(input, &sizes);
     let [mut ee, mut es, mut ss, mut et, mut st] = [0.0; 5];
-    for places in [64, 128, 256, 512, 1000] {
+    for (&places, times) in sizes.iter().zip(&least).skip(1) {
         let edges = reached(input, places);
-        let (e, s, t) = (edges as f64, looked_at(input, edges) as f64, times(input, places)[0] - checks);
+        let (e, s, t) = (edges as f64, looked_at(input, edges) as f64, times[0] - least[0][0]);
         // each point weighs as its relative error, so that the small tables count too
         let w = 1.0 / (t * t);
         (ee, es, ss, et, st) = (ee + w * e * e, es + w * e * s, ss + w * s * s, et + w * e * t, st + w * s * t);
     }
     let d = ee * ss - es * es;
-    let full = times(input, 1024)[2] - c_checks;
-    [(et * ss - st * es) / d, (st * ee - et * es) / d, full / reached(input, 1024) as f64]
+    let c = (least[5][1] - least[0][1]) / reached(input, sizes[5]) as f64;
+    [(et * ss - st * es) / d, (st * ee - et * es) / d, c]
 }
 
 /// How many records a search from the first on looks at for the first so many edges of the listing.
