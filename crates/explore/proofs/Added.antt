@@ -50,20 +50,7 @@ module _ (t : Listing) (i : ℕ) (e : Edge) (rest : List Edge) (ls es : List ℕ
       let a : ltb (placeOf (sameLoc (e .to)) (t .locs)) cl ≡ false = G .0 ∙ ap (ltb 11) z in
       rw (a, addEdges) (ap (λ k. full (refusal k i)) (sym z)))
 
--- the last of the edges
-pub last-added : (n : ℕ) (t : Listing) (i : ℕ) (e : Edge) (ls es : List ℕ) (x : Grown) → LocsOk n t → LocOk n (e .to) → GrownTo t i e ls es x
-    → AddedTo n i (addEdges (places 1024 (length ls)) (places 2048 (length es)) i (e ∷ []) t) ls es x
-last-added n t i e ls es (Added nl ne) F k G = rw (add-step t i e [] ls es nl ne G) (G .2, more-fine n i e t F k)
-last-added n t i e ls es (Full m) F k G = rw (add-full t i e [] ls es m G) refl
-
 -- no place for the first of the edges
 pub none-added : (n : ℕ) (t : Listing) (i : ℕ) (e : Edge) (rest : List Edge) (ls es : List ℕ) (m : ℕ) → GrownTo t i e ls es (Full m)
     → AddedTo n i (addEdges (places 1024 (length ls)) (places 2048 (length es)) i (e ∷ rest) t) ls es (Full m)
 none-added n t i e rest ls es m G = rw (add-full t i e rest ls es m G) refl
-
--- the first of the edges, then the others
-pub next-added : (n : ℕ) (t : Listing) (i : ℕ) (e : Edge) (rest : List Edge) (ls es ls′ es′ : List ℕ) (nl ne : ℕ) (x : Grown) → length ls′ ≡ length ls
-    → length es′ ≡ length es → GrownTo t i e ls es (Added nl ne)
-    → AddedTo n i (addEdges (places 1024 (length ls′)) (places 2048 (length es′)) i rest (more i e t)) ls′ es′ x
-    → AddedTo n i (addEdges (places 1024 (length ls)) (places 2048 (length es)) i (e ∷ rest) t) ls′ es′ x
-next-added n t i e rest ls es ls′ es′ nl ne x p q G A = rw (add-step t i e rest ls es nl ne G) (rw (p, q) at A)

@@ -1,19 +1,21 @@
 -- A location with a shape as bytes: its statement's fields, and its edges, each by its way.
-use Prim.Native.Nat.{ℕ, _≤_, _<_}
+use Prim.Native.Nat.{ℕ, zero, suc, _≤_, _<_}
 use mathlib.Core.Path.{_≡_, refl, ap, subst, sym, _∙_}
 use mathlib.Core.Logic.{inl, inr}
 use mathlib.Core.Bool.{Bool, true, false}
 use mathlib.Core.List.{List, [], _∷_}
 use native.Mathlib.Omega.{arith}
-use lib.Dec.{eqb}
+use lib.Dec.{eqb, ltb}
 use lib.ListN.{drop, length, length-drop, take}
 use lib.Seq.{length-take-le}
+use borrow.Author.Tests.{eqb-false, eqb-true, le-ltb, lt-ltb, ltb-false, ltb-true}
 use Rattle.model.specs.Heap.{Heap, cell, next, undef}
-use Rattle.model.specs.Machine.{branch, kind, picks, target}
-use Rattle.model.specs.Edges.{Edge, Guard, Loc, access, always, at, edgesAt, failed, isMore, isOne}
+use Rattle.model.specs.Machine.{branch, kind, leak, picks, target}
+use Rattle.model.specs.Edges.{Edge, Guard, Loc, access, always, at, edgesAt, failed, isMore, isOne, whole}
 use Rattle.model.specs.Image.{heapOf}
 use Rattle.model.specs.Records.{byte, guardBytes, opOf, shapeOf, stmtOf, valOf}
 use Rattle.model.specs.Runs.{isStop}
+use Rattle.model.proofs.Bytes.{val-cell}
 use Rattle.model.proofs.Listings.{Writable, WritableLoc}
 use Rattle.model.proofs.Lists.{In}
 use Rattle.model.proofs.Logic.{bool-case, clash}
@@ -26,7 +28,7 @@ use Rattle.model.proofs.Walks.{Closed}
 use Rattle.model.proofs.Ways.{access-closed, access-facts, no-access}
 use Rattle.edge.specs.Edge.{WayReady, wayOf}
 use Rattle.explore.specs.Explore.{LocOk}
-use Rattle.explore.specs.Parts.{AtShape, TwoWays, WayEdge, way}
+use Rattle.explore.specs.Parts.{AtShape, WayEdge, Ways, way, wayAt, wayCount}
 use Rattle.explore.proofs.Ops.{access-pointers, op-chooses, target-below}
 use Rattle.explore.proofs.Made.{Below, Makes, choice-edges, node-edges, only-edge, split-makes, whole-makes}
 
@@ -39,12 +41,10 @@ loc-writable : (n : ℕ) (l : Loc) → LocOk n l → WritableLoc l
 loc-writable n (at s h) g = canon-writable h (g .0 .0) (g .0 .1)
 loc-writable n (failed s f) g = tt
 
--- one way makes its edge
-pub record OneWay (l r : List ℕ) (n s : ℕ) (h : Heap) : Type 0 where
-  pub one : Edge
-  pub first : WayEdge l r n s h (way false 0 0 0) always one
-  pub list : edgesAt s (stmtOf r) h ≡ one ∷ []
-  pub fine : LocOk n (one .to)
+-- the first of two for 0, else the second
+abbrev two : {X : Type 0} → X → X → ℕ → X
+two a b zero = a
+two a b (suc j) = b
 
 module _ {l r : List ℕ} {n s : ℕ} {h : Heap} (A : AtShape l r n s h) where
   writable : Writable h
@@ -89,9 +89,28 @@ module _ {l r : List ℕ} {n s : ℕ} {h : Heap} (A : AtShape l r n s h) where
     good = loc-writable n (E .to) F;
   }
 
+  -- by a pick, where the statement goes through no node
+  pick-edge : (v p : ℕ) → 0xfd ≤ v → (E : Edge) → isStop (kind (stmtOf r .op)) ≡ false → p ≤ 1
+      → Makes s (stmtOf r) (length (h .slots)) n (whole always p h) E → LocOk n (E .to) → WayEdge l r n s h (wayAt v p) always E
+  pick-edge v p lo E goes few M F =
+      rw (wayAt, le-ltb v 0xfd lo) (way-edge false 0 p 0 always E (way-ready false 0 p goes few (λ t. clash t refl)) M refl F)
+
+  two-ways : (v : ℕ) (G G′ : Guard) (D E : Edge) → WayEdge l r n s h (wayAt v 0) G D → WayEdge l r n s h (wayAt v 1) G′ E → LocOk n (D .to) → LocOk n (E .to)
+      → edgesAt s (stmtOf r) h ≡ D ∷ E ∷ [] → Ways l r n s h v 2
+  two-ways v G G′ D E a b f g e = record { guard = two G G′; edge = two D E; makes = makes; fine = fine; list = e }
+    where
+      makes : (j : ℕ) → j < 2 → WayEdge l r n s h (wayAt v j) (two G G′ j) (two D E j)
+      makes zero lt = a
+      makes (suc zero) lt = b
+      makes (suc (suc j)) lt = absurd (omega arith)
+
+      fine : (j : ℕ) → j < 2 → LocOk n (two D E j .to)
+      fine zero lt = f
+      fine (suc j) lt = g
+
   -- a statement that reads, writes or frees through node v
-  pub node-ways : (v : ℕ) → access (stmtOf r .op) (shapeOf l) ≡ cell v → TwoWays l r n s h (way false v 0 1) (way true v 0 2)
-  node-ways v x =
+  pub node-ways : (v : ℕ) → v < 0xfd → access (stmtOf r .op) (shapeOf l) ≡ cell v → Ways l r n s h v 2
+  node-ways v hi x =
       let a : access (stmtOf r .op) h ≡ cell v = ap (access (stmtOf r .op)) (sym shape-is) ∙ x in
       let goes : isStop (kind (stmtOf r .op)) ≡ false = ap isStop (access-facts (stmtOf r .op) h v a .0) in
       let M = whole-makes s (stmtOf r) n h goes (A .low) (leads goes) (isOne v) 0 (omega arith) in
@@ -99,24 +118,16 @@ module _ {l r : List ℕ} {n s : ℕ} {h : Heap} (A : AtShape l r n s h) where
       let e : edgesAt s (stmtOf r) h ≡ M .0 ∷ N .0 ∷ [] = node-edges s (stmtOf r) n h v (M .0) (N .0) a (M .1) (N .1) in
       let f : LocOk n (M .0 .to) = edge-fine (M .0) (subst (In (M .0)) (sym e) (inl refl)) (M .1 .leads) in
       let g : LocOk n (N .0 .to) = edge-fine (N .0) (subst (In (N .0)) (sym e) (inr (inl refl))) (N .1 .leads) in
-      record {
-        guards = isOne v;
-        guards′ = isMore v;
-        one = M .0;
-        two = N .0;
-        first = way-edge false v 0 1 (isOne v) (M .0) (way-ready false v 0 goes (omega arith) (λ t. a)) (M .1) refl f;
-        second = way-edge true v 0 2 (isMore v) (N .0) (way-ready true v 0 goes (omega arith) (λ t. a)) (N .1) refl g;
-        list = e;
-        fine = f;
-        fine′ = g;
-      }
+      two-ways v (isOne v) (isMore v) (M .0) (N .0)
+      (rw (wayAt, lt-ltb v 0xfd hi) (way-edge false v 0 1 (isOne v) (M .0) (way-ready false v 0 goes (omega arith) (λ t. a)) (M .1) refl f))
+      (rw (wayAt, lt-ltb v 0xfd hi) (way-edge true v 0 2 (isMore v) (N .0) (way-ready true v 0 goes (omega arith) (λ t. a)) (N .1) refl g)) f g e
 
   op-is : (k : ℕ) → byte r 1 ≡ k → stmtOf r .op ≡ opOf k (byte r 2) (byte r 3)
   op-is k e = ap (λ m. opOf m (byte r 2) (byte r 3)) e
 
   -- a choice
-  pub choice-ways : byte r 1 ≡ 10 → TwoWays l r n s h (way false 0 0 0) (way false 0 1 0)
-  choice-ways x =
+  pub choice-ways : (v : ℕ) → 0xfd ≤ v → byte r 1 ≡ 10 → Ways l r n s h v 2
+  choice-ways v lo x =
       let o = op-is 10 x in
       let q : kind (stmtOf r .op) ≡ picks = ap kind o in
       let goes : isStop (kind (stmtOf r .op)) ≡ false = ap isStop q in
@@ -126,35 +137,33 @@ module _ {l r : List ℕ} {n s : ℕ} {h : Heap} (A : AtShape l r n s h) where
       let e : edgesAt s (stmtOf r) h ≡ M .0 ∷ N .0 ∷ [] = choice-edges s (stmtOf r) n h (M .0) (N .0) q non (M .1) (N .1) in
       let f : LocOk n (M .0 .to) = edge-fine (M .0) (subst (In (M .0)) (sym e) (inl refl)) (M .1 .leads) in
       let g : LocOk n (N .0 .to) = edge-fine (N .0) (subst (In (N .0)) (sym e) (inr (inl refl))) (N .1 .leads) in
-      record {
-        guards = always;
-        guards′ = always;
-        one = M .0;
-        two = N .0;
-        first = way-edge false 0 0 0 always (M .0) (way-ready false 0 0 goes (omega arith) (λ t. clash t refl)) (M .1) refl f;
-        second = way-edge false 0 1 0 always (N .0) (way-ready false 0 1 goes (omega arith) (λ t. clash t refl)) (N .1) refl g;
-        list = e;
-        fine = f;
-        fine′ = g;
-      }
+      two-ways v always always (M .0) (N .0) (pick-edge v 0 lo (M .0) goes (omega arith) (M .1) f) (pick-edge v 1 lo (N .0) goes (omega arith) (N .1) g) f g e
 
   -- any other statement: one edge
-  pub plain-way : (byte r 1 ≡ 0 → ⊥) → (byte r 1 ≡ 10 → ⊥) → ((m : ℕ) → access (stmtOf r .op) h ≡ cell m → ⊥) → OneWay l r n s h
-  plain-way nz nt non =
+  pub plain-way : (v : ℕ) → 0xfd ≤ v → (byte r 1 ≡ 0 → ⊥) → (byte r 1 ≡ 10 → ⊥) → ((m : ℕ) → access (stmtOf r .op) h ≡ cell m → ⊥) → Ways l r n s h v 1
+  plain-way v lo nz nt non =
       let goes = op-goes (byte r 1) (byte r 2) (byte r 3) (fields .0) nz in
       let M = whole-makes s (stmtOf r) n h goes (A .low) (leads goes) always 0 (omega arith) in
       let e = only-edge s (stmtOf r) n h (kind (stmtOf r .op)) (M .0) refl (λ q. nt (op-chooses (byte r 1) (byte r 2) (byte r 3) (fields .0) q)) non (M .1) in
       let f : LocOk n (M .0 .to) = edge-fine (M .0) (subst (In (M .0)) (sym e) (inl refl)) (M .1 .leads) in
+      let w = pick-edge v 0 lo (M .0) goes (omega arith) (M .1) f in
       record {
-        one = M .0;
-        first = way-edge false 0 0 0 always (M .0) (way-ready false 0 0 goes (omega arith) (λ t. clash t refl)) (M .1) refl f;
+        guard = λ j. always;
+        edge = λ j. M .0;
+        makes = λ j lt. subst (λ k. WayEdge l r n s h (wayAt v k) always (M .0)) (let z : 0 ≡ j = omega arith in z) w;
+        fine = λ j lt. f;
         list = e;
-        fine = f;
       }
 
   -- a stop has no edges
-  pub stop-edges : byte r 1 ≡ 0 → edgesAt s (stmtOf r) h ≡ []
-  stop-edges e = rw (op-is 0 e)
+  pub stop-ways : (v : ℕ) → byte r 1 ≡ 0 → Ways l r n s h v 0
+  stop-ways v e = record {
+    guard = λ j. always;
+    edge = λ j. record { branchNo = 0; guard = always; to = failed 0 leak; updates = [] };
+    makes = λ j lt. absurd (omega arith);
+    fine = λ j lt. absurd (omega arith);
+    list = rw (op-is 0 e);
+  }
 
   -- a byte that is read through: below 0xfd it is a node, and else none
   pub no-node : (v : ℕ) → access (stmtOf r .op) (shapeOf l) ≡ valOf v → 0xfd ≤ v → (m : ℕ) → access (stmtOf r .op) h ≡ cell m → ⊥
@@ -170,6 +179,16 @@ module _ {l r : List ℕ} {n s : ℕ} {h : Heap} (A : AtShape l r n s h) where
         where
           no-undef : undef ≡ cell m → ⊥
           no-undef w = let z : _≡_ {A = ℕ} 0 1 = cc in omega arith
+
+  -- the ways that the op and the byte tell
+  pub ways-are : (v : ℕ) → access (stmtOf r .op) (shapeOf l) ≡ valOf v → Ways l r n s h v (wayCount (byte r 1) v)
+  ways-are v e =
+      bool-case (eqb (byte r 1) 0) (λ z. rw (wayCount, z) (stop-ways v (eqb-true (byte r 1) 0 z)))
+      (λ z. bool-case (ltb v 0xfd)
+      (λ y. let hi = ltb-true v 0xfd y in rw (wayCount, z, y) (node-ways v hi (e ∙ val-cell v (λ q. omega arith) (λ q. omega arith))))
+      (λ y. let lo = ltb-false v 0xfd y in
+      bool-case (eqb (byte r 1) 10) (λ x. rw (wayCount, z, y, x) (choice-ways v lo (eqb-true (byte r 1) 10 x)))
+      (λ x. rw (wayCount, z, y, x) (plain-way v lo (eqb-false (byte r 1) 0 z) (eqb-false (byte r 1) 10 x) (no-node v e lo)))))
 
 -- the value that the location's six pointer bytes give
 pub access-is : (l r : List ℕ) (v : ℕ) → ((cs : List ℕ) → valOf v ≡ access (stmtOf r .op) (heapOf (take 6 (drop 4 l)) cs))

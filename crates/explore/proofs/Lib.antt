@@ -2,6 +2,6 @@ pub mod Ops
 pub mod Made
 pub mod Added
 pub mod Here
-pub mod Both
+pub mod Ways
 pub mod Located
 pub mod Turns

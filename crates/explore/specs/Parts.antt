@@ -1,9 +1,11 @@
 -- The parts of exploring a location: the location and its statement as bytes, the edge by one way, and all edges. Assumes nothing.
-use Prim.Native.Nat.{ℕ, _<_}
+use Prim.Native.Nat.{ℕ, _+_, _<_}
 use mathlib.Core.Path.{_≡_}
-use mathlib.Core.Bool.{Bool}
-use mathlib.Core.List.{List, [], _∷_}
+use mathlib.Core.Bool.{Bool, true, false}
+use mathlib.Core.List.{List, [], _∷_, map}
+use lib.Dec.{eqb, ltb}
 use lib.ListN.{length}
+use Rattle.model.specs.Base.{numbers}
 use Rattle.model.specs.Heap.{Heap}
 use Rattle.model.specs.Edges.{Guard, Edge, at, edgeBy, stepBy, edgesAt}
 use Rattle.model.specs.Records.{stmtOf, locRecord, guardBytes}
@@ -27,6 +29,26 @@ pub record AtShape (l r : List ℕ) (n s : ℕ) (h : Heap) : Type 0 where
 -- split at node v or not, with pick p, and g the byte of a guard on v
 abbrev pub way : Bool → ℕ → ℕ → ℕ → Way
 way sp v p g = record { split = sp; node = record { 0 = v }; pick = p; guard = g }
+
+-- how many ways lead out of a location whose statement has the op and goes through the value v
+abbrev pub wayCount : ℕ → ℕ → ℕ
+wayCount op v = elim (eqb op 0) [
+  | true ↦ 0
+  | false ↦ elim (ltb v 0xfd) [
+    | true ↦ 2
+    | false ↦ elim (eqb op 10) [
+      | true ↦ 2
+      | false ↦ 1
+    ]
+  ]
+]
+
+-- way j of these: through a node v, whole and then split, with the guards 1 and 2; else by pick j
+abbrev pub wayAt : ℕ → ℕ → Way
+wayAt v j = elim (ltb v 0xfd) [
+  | true ↦ way (eqb j 1) v 0 (1 + j)
+  | false ↦ way false 0 j 0
+]
 
 -- the way w, with the guard G, makes the edge E
 pub record WayEdge (l r : List ℕ) (n s : ℕ) (h : Heap) (w : Way) (G : Guard) (E : Edge) : Type 0 where
@@ -54,20 +76,16 @@ abbrev pub WayAdded : List ℕ → List ℕ → Way → List ℕ → List ℕ �
 WayAdded l r w ls es nl ne i ls′ es′ x =
     (n s : ℕ) (h : Heap) (G : Guard) (E : Edge) (t : Listing) → WayEdge l r n s h w G E → Holds t ls es nl ne → GrownTo t i E ls′ es′ x
 
--- the edges of a location are those that the ways w and y make
-pub record TwoWays (l r : List ℕ) (n s : ℕ) (h : Heap) (w y : Way) : Type 0 where
-  pub guards : Guard
-  pub guards′ : Guard
-  pub one : Edge
-  pub two : Edge
-  pub first : WayEdge l r n s h w guards one
-  pub second : WayEdge l r n s h y guards′ two
-  pub list : edgesAt s (stmtOf r) h ≡ one ∷ two ∷ []
-  pub fine : LocOk n (one .to)
-  pub fine′ : LocOk n (two .to)
+-- the edges of a location are those that its ways make, by number
+pub record Ways (l r : List ℕ) (n s : ℕ) (h : Heap) (v count : ℕ) : Type 0 where
+  pub guard : ℕ → Guard
+  pub edge : ℕ → Edge
+  pub makes : (j : ℕ) → j < count → WayEdge l r n s h (wayAt v j) (guard j) (edge j)
+  pub fine : (j : ℕ) → j < count → LocOk n (edge j .to)
+  pub list : edgesAt s (stmtOf r) h ≡ map edge (numbers 0 count)
 
-abbrev pub AreTwo : List ℕ → List ℕ → Way → Way → Type 0
-AreTwo l r w y = (n s : ℕ) (h : Heap) → AtShape l r n s h → TwoWays l r n s h w y
+abbrev pub AreWays : List ℕ → List ℕ → ℕ → ℕ → Type 0
+AreWays l r v count = (n s : ℕ) (h : Heap) → AtShape l r n s h → Ways l r n s h v count
 
 -- some location is given, and some listing is held
 pub record ShapeGiven (l r ls es : List ℕ) (nl ne i : ℕ) : Type 0 where

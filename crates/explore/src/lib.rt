@@ -12,7 +12,7 @@ ghost use Rattle.model.specs.Translate.{Listing, places, addEdges, explore};
 ghost use Rattle.model.proofs.Listings.{locAt};
 ghost use Rattle.grow.specs.Grow.{Holds};
 ghost use Rattle.explore.specs.Explore.{StatementsOk, LocsOk, AddedTo, ExploredTo, ExploreReady};
-ghost use Rattle.explore.specs.Parts.{way, WayGiven, WayAdded, AreTwo, ShapeGiven, EdgesAdded};
+ghost use Rattle.explore.specs.Parts.{wayCount, wayAt, WayGiven, WayAdded, AreWays, ShapeGiven, EdgesAdded};
 
 // The counts of a full listing, or the refusal: 11 or 12, and the number of the location being explored.
 pub enum Explored {
@@ -36,15 +36,38 @@ struct Way {
     guard: u8,
 }
 
-// A way, by its parts.
-fn make_way(split: bool, node: Node, pick: u8, guard: u8) -> Way
-    ensures { λ r. ⌜ r ≡ way split (node .0) pick guard ⌝ }
+// How many ways lead out of a location whose statement has the op and goes through the value v: counter = 1 and counter at
+// least 2 for a node, two picks for a choice, none for a stop, else one.
+fn way_count(op: u8, v: u8) -> u8
+    ensures { λ r. ⌜ r ≡ wayCount op v ⌝ }
 {
+    if op == 0 {
+        return 0;
+    }
+    if v < 0xfd {
+        return 2;
+    }
+    if op == 10 { 2 } else { 1 }
+}
+
+// Way j of these.
+fn way_at(v: u8, j: u8) -> Way
+    requires { ⌜ j < 255 ⌝ }
+    ensures { λ r. ⌜ r ≡ wayAt v j ⌝ }
+{
+    if v < 0xfd {
+        return Way {
+            split: j == 1,
+            node: Node(v),
+            pick: 0,
+            guard: 1 + j,
+        };
+    }
     Way {
-        split,
-        node,
-        pick,
-        guard,
+        split: false,
+        node: Node(0),
+        pick: j,
+        guard: 0,
     }
 }
 
@@ -94,31 +117,45 @@ fn add_way(
     )
 }
 
-// Adds the edges by two ways, in order.
-fn add_two(
+// Adds the edges by the ways, in order. One call for all of them, which the compiler then inlines.
+fn add_ways(
     statement: &[u8],
     location: &[u8],
-    first: Way,
-    second: Way,
+    v: u8,
+    count: u8,
     locations: &mut [u8],
     edges: &mut [u8],
     nl: usize,
     ne: usize,
     i: usize,
 ) -> Grown
-    requires { ⌜ ShapeGiven (now location) (now statement) (now locations) (now edges) nl ne i × AreTwo (now location) (now statement) first second ⌝ }
+    requires { ⌜ ShapeGiven (now location) (now statement) (now locations) (now edges) nl ne i × AreWays (now location) (now statement) v count ⌝ }
     ensures { λ r. ⌜ EdgesAdded (now (location .entry)) (now (statement .entry)) (now (locations .entry)) (now (edges .entry)) nl ne i (now (locations .exit)) (now (edges .exit)) r ⌝ }
 {
-    match add_way(statement, location, first, locations, edges, nl, ne, i) {
-        Grown::Added {
-            locations: a,
-            edges: b,
-        } => add_way(statement, location, second, locations, edges, a, b, i),
-        Grown::Full { number } => Grown::Full { number },
+    let mut listed = nl;
+    let mut added = ne;
+    let mut j = 0;
+    while j < count {
+        let way = way_at(v, j);
+        match add_way(statement, location, way, locations, edges, listed, added, i) {
+            Grown::Added {
+                locations: a,
+                edges: b,
+            } => {
+                listed = a;
+                added = b;
+            }
+            Grown::Full { number } => return Grown::Full { number },
+        }
+        j += 1;
+    }
+    Grown::Added {
+        locations: listed,
+        edges: added,
     }
 }
 
-// Adds the edges of a location with a shape: two by a node that is read through, counter = 1 and counter at least 2, two by a choice, else one.
+// Adds the edges of a location with a shape.
 fn add_edges(
     statement: &[u8],
     location: &[u8],
@@ -132,36 +169,11 @@ fn add_edges(
     ensures { λ r. ⌜ EdgesAdded (now (location .entry)) (now (statement .entry)) (now (locations .entry)) (now (edges .entry)) nl ne i (now (locations .exit)) (now (edges .exit)) r ⌝ }
 {
     let op = statement[1];
-    if op == 0 {
-        return Grown::Added {
-            locations: nl,
-            edges: ne,
-        };
-    }
     let u = Pointer(statement[2]);
     let w = Pointer(statement[3]);
     let v = way::access(op, u, w, &location[4..10]);
-    if v < 0xfd {
-        let one = make_way(false, Node(v), 0, 1);
-        let more = make_way(true, Node(v), 0, 2);
-        return add_two(statement, location, one, more, locations, edges, nl, ne, i);
-    }
-    let first = make_way(false, Node(0), 0, 0);
-    if op == 10 {
-        let second = make_way(false, Node(0), 1, 0);
-        return add_two(
-            statement,
-            location,
-            first,
-            second,
-            locations,
-            edges,
-            nl,
-            ne,
-            i,
-        );
-    }
-    add_way(statement, location, first, locations, edges, nl, ne, i)
+    let count = way_count(op, v);
+    add_ways(statement, location, v, count, locations, edges, nl, ne, i)
 }
 
 // Adds the edges of location i; a fault has none.

@@ -1,7 +1,7 @@
 -- `add_way` meets its contract: what the way leaves is its edge, as bytes.
 use native.Mathlib.Omega.{arith}
 use borrow.Author.Needs.{needs}
-use Rattle.explore.proofs.Both.{edge-bytes}
+use Rattle.explore.proofs.Ways.{edge-bytes}
 use Rattle.explore.proofs.add_way.Statement.{statement}
 use Rattle.explore.proofs.add_way.Tie as tie
 
