@@ -85,23 +85,17 @@ fn add_way(
     requires { ⌜ WayGiven (now location) (now statement) way (now locations) (now edges) nl ne i ⌝ }
     ensures { λ r. ⌜ WayAdded (now (location .entry)) (now (statement .entry)) way (now (locations .entry)) (now (edges .entry)) nl ne i (now (locations .exit)) (now (edges .exit)) r ⌝ }
 {
-    let split = way.split;
-    let node = way.node;
-    let pick = way.pick;
-    let guard = way.guard;
     let mut target = [0u8; 32];
     let mut updates = [0u16; 16];
     let left = edge::one_edge(
         location,
         statement,
-        split,
-        node,
-        pick,
+        way.split,
+        way.node,
+        way.pick,
         &mut target,
         &mut updates,
     );
-    let b = left.branch;
-    let k = left.nodes;
     grow::add_edge(
         locations,
         edges,
@@ -110,10 +104,10 @@ fn add_way(
         i,
         &target,
         &updates,
-        b,
-        guard,
-        node,
-        k,
+        left.branch,
+        way.guard,
+        way.node,
+        left.nodes,
     )
 }
 

@@ -7,7 +7,7 @@ use Rattle.explore.proofs.add_way.Tie as tie
 
 add-edge-requires : tie.Need-add-edge-requires
 add-edge-requires c κs =
-    let s = c .before .before .before .before .before .before .before .before .before .before .before .before .before .before in
+    let s = c .before .before .before .before .before .before .before .before .before .before .before .before .before in
     let o = c .before .before .before .before .before .before .one-edge in
     let B = edge-bytes (s .pre .isEdge) (o .last .1 .1 .1 .1 .1 .0) (o .last .1 .1 .1 .1 .1 .1 .0) (o .result .branch) (o .result .nodes) (o .ensures) in
     record {
