@@ -6,7 +6,7 @@ use mathlib.Core.Logic.{_↔_, _⊎_}
 use mathlib.Core.Bool.{false, true}
 use mathlib.Core.List.{List, map}
 use lib.ListN.{length, length-map}
-use Rattle.model.specs.Base.{mem, numbers}
+use Rattle.model.specs.Base.{mem, numbers, sum}
 use Rattle.model.specs.Heap.{Heap, IsHeap, cell, closed, inUse, kept, next, order}
 use Rattle.model.specs.Image.{foldImage, heapOf, unfoldHeap, unfoldImage}
 use Rattle.model.specs.Shape.{Seg, canonical, cells, core, counters, nodeVal, segments, shape}
@@ -21,7 +21,7 @@ use Rattle.model.proofs.Merge.{merge-ends, merge-exists, merge-heap, me
 use Rattle.model.proofs.Notions.{EveryCore, IsSegment, Merges, MergesTo, Positive, Reaches, Renames, Two, counted, flat, heads, segAt}
 use Rattle.model.proofs.Order.{order-once}
 use Rattle.model.proofs.Reach.{cell-lost, kept-reaches, lost-cell, order-reaches, reaches-order}
-use Rattle.model.proofs.RoundTrips.{fold-unfold-bytes, unfold-fold-bytes}
+use Rattle.model.proofs.RoundTrips.{fold-room, fold-unfold-bytes, unfold-fold-bytes}
 use Rattle.model.proofs.SameShape.{fold-unfold, same-renamed}
 use Rattle.model.proofs.Segments.{each-cell-once, itself-again, segment-listed, segment-unique, segments-are, twelve}
 use Rattle.model.proofs.Unfold.{counters-unfold, shape-unfold, unfold-is-heap}
@@ -203,11 +203,15 @@ UnfoldThenFoldBytes = (r vs ps cs : List ℕ) → length vs ≡ 12 → unfoldIma
 pub unfold-then-fold-bytes : UnfoldThenFoldBytes
 unfold-then-fold-bytes = unfold-fold-bytes
 
--- and what an accepted fold gives unfolds, into as many cells or more, to the heap with its cells renamed
+-- and what an accepted fold gives unfolds, into as many cells as its counters add up to, or more, to the heap with its cells renamed; the cells
+-- of the image are room enough
 abbrev pub FoldThenUnfoldBytes : Type 0
-FoldThenUnfoldBytes = (ps cs qs ds : List ℕ) → foldImage ps cs .refusal ≡ 0 → length qs ≡ 6 → length cs ≤ length ds → length ds ≤ 240
-    → let F = foldImage ps cs in let U = unfoldImage (F .shapeBytes) (F .counts) qs ds in
-    (U .refusal ≡ 0) × ((f : ℕ → ℕ) × Renames f (heapOf ps cs) (heapOf (U .ptrBytes) (U .cellBytes)))
+FoldThenUnfoldBytes = (ps cs : List ℕ) → foldImage ps cs .refusal ≡ 0
+    → let F = foldImage ps cs in
+    (sum (λ v. v) (F .counts) ≤ length cs)
+    × ((qs ds : List ℕ) → length qs ≡ 6 → sum (λ v. v) (F .counts) ≤ length ds → length ds ≤ 240
+    → let U = unfoldImage (F .shapeBytes) (F .counts) qs ds in
+    (U .refusal ≡ 0) × ((f : ℕ → ℕ) × Renames f (heapOf ps cs) (heapOf (U .ptrBytes) (U .cellBytes))))
 
 pub fold-then-unfold-bytes : FoldThenUnfoldBytes
-fold-then-unfold-bytes = fold-unfold-bytes
+fold-then-unfold-bytes ps cs e = (fold-room ps cs e, λ qs ds. fold-unfold-bytes ps cs qs ds e)

@@ -157,8 +157,17 @@ layout-written h W =
     (ap (all isZero) (drop-at (ps ++ ss) z (6 + k) l) ∙ zeros-pass (28 - length (ps ++ ss))) in
     rw (le-leb k 12 (W .few), values-pass h W, o)
 
--- unfolding what an accepted fold gives is accepted where there is room for the cells, and leaves the heap with its cells renamed
-pub fold-unfold-bytes : (ps cs qs ds : List ℕ) → foldImage ps cs .refusal ≡ 0 → length qs ≡ 6 → length cs ≤ length ds → length ds ≤ 240
+-- the counters that an accepted fold gives add up to no more than the cells of the image
+pub fold-room : (ps cs : List ℕ) → foldImage ps cs .refusal ≡ 0 → sum (λ v. v) (foldImage ps cs .counts) ≤ length cs
+fold-room ps cs e =
+    let A = image-accepted ps cs .0 (sym (fold-number ps cs) ∙ e) in
+    let h = heapOf ps cs in
+    let ws = counters h in
+    rw (fold-gives ps cs e .1) (omega (arith, sum-filled ws (12 - length ws), counters-room h (A .2), length-map cs cellSlot))
+
+-- unfolding what an accepted fold gives is accepted where there is room for as many cells as its counters add up to, and leaves the heap with its cells renamed
+pub fold-unfold-bytes : (ps cs qs ds : List ℕ) → foldImage ps cs .refusal ≡ 0 → length qs ≡ 6 → sum (λ v. v) (foldImage ps cs .counts) ≤ length ds
+    → length ds ≤ 240
     → let F = foldImage ps cs in let U = unfoldImage (F .shapeBytes) (F .counts) qs ds in
     (U .refusal ≡ 0) × ((f : ℕ → ℕ) × Renames f (heapOf ps cs) (heapOf (U .ptrBytes) (U .cellBytes)))
 fold-unfold-bytes ps cs qs ds e q6 room most =
@@ -175,7 +184,7 @@ fold-unfold-bytes ps cs qs ds e q6 room most =
     let p : all (leb 1) (take k (ws ++ z)) ≡ true =
     ap (all (leb 1)) t ∙ all-of (leb 1) ws (λ n q. le-leb 1 n (omega (arith, in-map size n (segments h) q .2))) in
     let o : all isZero (drop k (ws ++ z)) ≡ true = ap (all isZero) (drop-at ws z k l) ∙ zeros-pass (12 - length ws) in
-    let s : sum (λ v. v) (ws ++ z) ≤ length ds = omega (arith, sum-filled ws (12 - length ws), counters-room h (A .2), length-map cs cellSlot) in
+    let s : sum (λ v. v) (ws ++ z) ≤ length ds = rw (G .1) at room in
     let n : unfoldImage r (ws ++ z) qs ds .refusal ≡ 0 = unfold-number r (ws ++ z) qs ds ∙ unfold-accepted r (ws ++ z) (length qs) (length ds) .1
     (q6, most, shape-length (shape h) W, layout-written (shape h) W, c, rw (p, o, le-leb (sum (λ v. v) (ws ++ z)) (length ds) s)) in
     let X = unfolded-heap r (ws ++ z) qs ds (filled-length 12 ws (G .3)) n in
