@@ -1,14 +1,16 @@
 -- What a run left is folded and written: from what each callee ensures to what the next asks, and to what the whole ensures.
-use Prim.Native.Nat.{ℕ, _≤_, _<_}
-use mathlib.Core.Path.{_≡_, refl, sym, ap, subst, _∙_}
+use Prim.Native.Nat.{ℕ, _-_, _≤_, _<_}
+use mathlib.Core.Path.{_≡_, sym, ap, subst, _∙_}
 use mathlib.Core.Bool.{Bool, true}
-use mathlib.Core.List.{List, _++_, append-nil}
+use mathlib.Core.List.{List, _∷_, _++_}
 use native.Mathlib.Omega.{arith}
 use lib.ListN.{drop, drop-of-length-le, getD, length, length-map, replicate, take}
+use borrow.Rule.Slice.PartMut.{midOf, putMid}
 use Rattle.model.specs.Base.{mem}
 use Rattle.model.specs.Heap.{next}
 use Rattle.model.specs.Image.{cellSlot, heapOf}
-use Rattle.model.specs.Shape.{Seg, last, nodeSlot, segments, shape}
+use Rattle.model.specs.Records.{valOf}
+use Rattle.model.specs.Shape.{segments}
 use Rattle.model.proofs.Facts.{heap-closed, heap-kept}
 use Rattle.model.proofs.Logic.{NoDup}
 use Rattle.model.proofs.Order.{Toured, toured, used-below}
@@ -16,32 +18,12 @@ use Rattle.model.proofs.Segments.{each-cell-once}
 use Rattle.model.proofs.Start.{where-is}
 use Rattle.model.proofs.Walks.{Used}
 use Rattle.machine.specs.Run.{IsShape, ShapeReady}
-use Rattle.record.specs.Written.{locationBytes}
-use Rattle.record.proofs.Bytes.{location-record}
+use Rattle.record.proofs.Bytes.{headed-is}
 use Rattle.way.specs.Way.{SumReady, codeAt}
 use Rattle.way.proofs.Updates.{Segmented, update-codes}
 use Rattle.edge.specs.Parts.{IsLeft, LeaveReady}
 
 module _ {ps cs o : List ℕ} {n : ℕ} {h : List ℕ} {k : ℕ} {sp : Bool} {v : ℕ} {t us : List ℕ} (L : LeaveReady ps cs o n h k sp v t us) where
-  pub shape-ready : ShapeReady ps cs o n h (replicate 16 0) (replicate 16 0) (replicate 16 0) (replicate 6 0) (replicate 16 0)
-  shape-ready =
-      let few = L .few in
-      let old = L .fewOld in
-      record {
-        isHeap = L .isHeap;
-        six = L .six;
-        few = omega arith;
-        visited = L .visited;
-        long = L .long;
-        holders = L .holders;
-        held = L .held;
-        nodes = omega arith;
-        lasts = omega arith;
-        sizes = omega arith;
-        pointers = refl;
-        successors = omega arith;
-      }
-
   tour-facts : Toured (heapOf ps cs)
   tour-facts = toured (heapOf ps cs) (heap-closed (heapOf ps cs) (L .isHeap))
 
@@ -95,22 +77,42 @@ module _ {ps cs o : List ℕ} {n : ℕ} {h : List ℕ} {k : ℕ} {sp : Bool} {v 
       hasTail = tail-visited;
     }
 
-    -- the record t′ and the updates us′
-    pub is-left : (s : ℕ) (t′ us′ : List ℕ) → t′ ≡ locationBytes s p q m ++ drop 32 t → length us′ ≡ length us
+  -- the blank target b, whose part from byte 4 on is lent
+  module _ (b : List ℕ) (e : b ≡ replicate 32 0 ++ drop 32 t) where
+    blank : b ≡ replicate 32 0
+    blank = let short : length t ≤ 32 = omega (arith, L .wide) in e ∙ ap (λ d. replicate 32 0 ++ d) (drop-of-length-le t short)
+
+    pub shape-ready : ShapeReady ps cs o n h (replicate 16 0) (replicate 16 0) (replicate 16 0) (midOf 4 (length b - 4) b)
+    shape-ready =
+        let few = L .few in
+        let old = L .fewOld in
+        record {
+          isHeap = L .isHeap;
+          six = L .six;
+          few = omega arith;
+          visited = L .visited;
+          long = L .long;
+          holders = L .holders;
+          held = L .held;
+          nodes = omega arith;
+          lasts = omega arith;
+          sizes = omega arith;
+          room = rw blank (omega arith);
+        }
+
+    -- folded into and headed it is t′; the updates are us′
+    pub is-left : {nd z q : List ℕ} {m : ℕ} → IsShape ps cs nd z (midOf 4 (length b - 4) b) q m → (s : ℕ) (t′ us′ : List ℕ)
+        → t′ ≡ 0x4c ∷ s ∷ 0 ∷ m ∷ drop 4 (putMid 4 (length b - 4) b q) → length us′ ≡ length us
         → ((j : ℕ) → j < length us → getD us′ j 0 ≡ codeAt nd k sp v (take n o) j) → IsLeft ps cs k sp v s t′ us′ m
-    is-left s t′ us′ te len codes =
+    is-left {nd} {z} {q} {m} S s t′ us′ te len codes =
         let g = heapOf ps cs in
-        let ss = segments g in
         let number = S .number in
         let twelve = S .twelve in
         let room = L .room in
-        let short : length t ≤ 32 = omega (arith, L .wide) in
-        let count : m ≡ length (shape g .slots) = number ∙ sym (length-map ss (λ (x : Seg). nodeSlot ss (next g (last x)))) in
         record {
-          target = te ∙ ap (λ l. locationBytes s p q m ++ l) (drop-of-length-le t short) ∙ append-nil (locationBytes s p q m)
-              ∙ location-record (shape g) p q m count (S .pointers) (S .successors) s;
+          target = te ∙ headed-is 0x4c s m g b q blank (length-map ps valOf ∙ L .six) number twelve (S .bytes);
           number = number;
           few = twelve;
           updates = ap (λ i. take i us′) number
-              ∙ update-codes (take n o) nd k sp v ss segmented us′ (omega arith) (λ j i. codes j (omega arith));
+              ∙ update-codes (take n o) nd k sp v (segments g) (segmented S) us′ (omega arith) (λ j i. codes j (omega arith));
         }

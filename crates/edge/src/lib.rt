@@ -91,8 +91,7 @@ fn leave(
     let mut node = [0u8; 16];
     let mut last = [0u8; 16];
     let mut size = [0u32; 16];
-    let mut folded = [0u8; 6];
-    let mut successors = [0u8; 16];
+    record::blank(target);
     let m = machine::shape_of(
         pointers,
         cells,
@@ -102,11 +101,11 @@ fn leave(
         &mut node,
         &mut last,
         &mut size,
-        &mut folded,
-        &mut successors,
+        &mut target[4..],
     );
+    record::write_head(target, 0x4c, to, m);
+    // the updates come last: what was written byte by byte is read in words soon after
     way::sum_updates(order, visited, &node, k, split, at, updates);
-    record::write_location(target, to, &folded, &successors, m);
     m
 }
 

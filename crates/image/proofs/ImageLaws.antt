@@ -3,22 +3,21 @@ use Prim.Native.Nat.{ℕ, suc, _-_, _≤_}
 use native.Mathlib.Omega.{arith}
 use mathlib.Core.Path.{_≡_, refl, sym, ap₂, _∙_}
 use mathlib.Core.Bool.{Bool, true, false, _&&_, cond, not}
-use mathlib.Core.List.{List, _++_, append-nil, map}
+use mathlib.Core.List.{List, _∷_, _++_, map}
 use lib.Dec.{eqb, leb}
 use lib.ListN.{length, getD, take, drop, replicate, getD-replicate, length-map}
 use borrow.Author.Tests.{leb-true}
+use borrow.Rule.Slice.PartMut.{putMid}
 use Rattle.model.specs.Heap.{closed, eachUsed, kept}
 use Rattle.model.specs.Image.{cellSlot, foldImage, heapOf, lengths, refusalImage}
-use Rattle.model.specs.Records.{filled, shapeRecord}
-use Rattle.model.specs.Shape.{Seg, counters, last, nodeSlot, segments, shape, size}
-use Rattle.model.specs.Heap.{next}
+use Rattle.model.specs.Records.{filled, shapeRecord, valOf}
+use Rattle.model.specs.Shape.{counters, segments, shape, size}
 use Rattle.model.proofs.Images.{fold-suc, fold-zero, image-accepted, number-case}
 use Rattle.model.proofs.Logic.{and-r}
 use Rattle.visit.specs.Laws.{kept-marked}
 use Rattle.visit.specs.Visit.{VisitReady, Visited}
-use Rattle.record.specs.Written.{shapeBytesOf}
-use Rattle.record.proofs.Bytes.{shape-record}
-use Rattle.machine.specs.Run.{IsShape, ShapeReady}
+use Rattle.record.proofs.Bytes.{headed-is}
+use Rattle.machine.specs.Run.{IsShape}
 use Rattle.image.specs.Checks.{ImageChecked}
 use Rattle.image.specs.Parts.{FoldReady, foldedHeap}
 
@@ -102,36 +101,15 @@ fold-ready {ps} {cs} {o} {m} {r} {n} d z l w =
     record { isHeap = A .2; six = A .0; few = f; visited = d .visited z; long = omega arith; holders = omega arith; held = d .held z }
 
 module _ {ps cs o : List ℕ} {n : ℕ} {h : List ℕ} (x : FoldReady ps cs o n h) where
-  -- and of the work lists, which begin with zeros
-  pub shape-ready : ShapeReady ps cs o n h (replicate 240 0) (replicate 12 0) (replicate 12 0) (replicate 6 0) (replicate 12 0)
-  shape-ready =
-      let f = x .few in
-      record {
-        isHeap = x .isHeap;
-        six = x .six;
-        few = f;
-        visited = x .visited;
-        long = x .long;
-        holders = x .holders;
-        held = x .held;
-        nodes = omega arith;
-        lasts = omega arith;
-        sizes = omega arith;
-        pointers = refl;
-        successors = omega arith;
-      }
-
   -- the record of k nodes in t, and the counters v cleared past them
-  pub fold-is : (m z p q : List ℕ) (k : ℕ) → IsShape ps cs m z p q k → (t v : List ℕ) → length z ≡ 12
-      → t ≡ shapeBytesOf p q k ++ drop 32 (replicate 32 0) → v ≡ take k z ++ replicate (length z - k) 0
+  pub fold-is : (m z q : List ℕ) (k : ℕ) → IsShape ps cs m z (replicate 28 0) q k → (t v : List ℕ) → length z ≡ 12
+      → t ≡ 0x48 ∷ 0 ∷ 0 ∷ k ∷ drop 4 (putMid 4 28 (replicate 32 0) q) → v ≡ take k z ++ replicate (length z - k) 0
       → record { refusal = 0; shapeBytes = t; counts = v } ≡ foldedHeap (heapOf ps cs)
   unfolding foldedHeap
-  fold-is m z p q k d t v l a b =
+  fold-is m z q k d t v l a b =
       let h = heapOf ps cs in
-      let ss = segments h in
       let s : t ≡ shapeRecord (shape h) =
-      a ∙ append-nil (shapeBytesOf p q k)
-      ∙ shape-record (shape h) p q k (d .number ∙ sym (length-map ss (λ (t : Seg). nodeSlot ss (next h (last t))))) (d .pointers) (d .successors) in
-      let n : length z - k ≡ 12 - length (counters h) = ap₂ _-_ l (d .number ∙ sym (length-map ss size)) in
+      a ∙ headed-is 0x48 0 k h (replicate 32 0) q refl (length-map ps valOf ∙ x .six) (d .number) (d .twelve) (d .bytes) in
+      let n : length z - k ≡ 12 - length (counters h) = ap₂ _-_ l (d .number ∙ sym (length-map (segments h) size)) in
       let c : v ≡ filled 12 (counters h) = b ∙ ap₂ (λ y i. y ++ replicate i 0) (d .sizes) n in
       λ i. record { refusal = 0; shapeBytes = s i; counts = c i }

@@ -7,6 +7,7 @@ use checks::check_image;
 use checks::step_refusal;
 use checks::unfold_refusal;
 use model::Folded;
+use model::Statement;
 use model::Stepped;
 use model::Unfolded;
 use steps::take_step;
@@ -38,8 +39,7 @@ fn fold_heap(pointers: &[u8], cells: &[u8], order: &[u8], n: usize, held: &[u8])
     let mut node = [0u8; 240];
     let mut last = [0u8; 12];
     let mut size = [0u32; 12];
-    let mut folded = [0u8; 6];
-    let mut successors = [0u8; 12];
+    let mut shape = [0u8; 32];
     let k = machine::shape_of(
         pointers,
         cells,
@@ -49,11 +49,9 @@ fn fold_heap(pointers: &[u8], cells: &[u8], order: &[u8], n: usize, held: &[u8])
         &mut node,
         &mut last,
         &mut size,
-        &mut folded,
-        &mut successors,
+        &mut shape[4..],
     );
-    let mut shape = [0u8; 32];
-    record::write_shape(&mut shape, &folded, &successors, k);
+    record::write_head(&mut shape, 0x48, Statement(0), k);
     clear_past(&mut size, k);
     Folded {
         refusal: 0,

@@ -1,23 +1,25 @@
 -- A run and a fold by their parts: from what each callee ensures to what the next asks, and to what the whole ensures.
-use Prim.Native.Nat.{ℕ, _≤_, _<_}
+use Prim.Native.Nat.{ℕ, _+_, _-_, _≤_, _<_}
 use native.Mathlib.Omega.{arith}
-use mathlib.Core.Path.{_≡_, _∙_, ap, subst, sym}
+use mathlib.Core.Path.{_≡_, _∙_, ap, ap₂, subst, sym}
 use mathlib.Core.Bool.{true, false, not, _||_}
-use mathlib.Core.List.{List, [], _∷_, _++_, append-nil, map}
+use mathlib.Core.List.{List, _∷_, _++_, append-assoc, map}
 use lib.Dec.{eqb}
-use lib.ListN.{length, getD, take, drop, drop-of-length-le, length-map}
-use lib.Seq.{take-append-seam}
+use lib.ListN.{length, getD, take, drop, length-drop, length-map}
+use lib.Seq.{drop-append-add, drop-drop, take-at}
 use borrow.Author.Tests.{eq-eqb, eqb-true}
+use borrow.Rule.Slice.PartMut.{midOf, putMid}
 use Rattle.model.specs.Base.{mem}
 use Rattle.model.specs.Heap.{closed, eachUsed, kept, next, order}
 use Rattle.model.specs.Image.{cellSlot, heapOf}
 use Rattle.model.specs.Machine.{Fault, atNull, atUndef, effect, faultNumber, leak}
 use Rattle.model.specs.Records.{opOf, slotByte}
-use Rattle.model.specs.Shape.{Seg, core, last, nodeSlot, segments, shape}
+use Rattle.model.specs.Shape.{core, segments, shape}
 use Rattle.model.proofs.Facts.{heap-closed, kept-test, test-closed, unused-of}
 use Rattle.model.proofs.Logic.{bool-case, eq-case, or-cases}
 use Rattle.model.proofs.Order.{pigeon, toured, used-below}
 use Rattle.model.proofs.Segments.{twelve}
+use Rattle.model.proofs.Slices.{part-from, put-back}
 use Rattle.model.proofs.Walks.{Used}
 use Rattle.effect.specs.Effect.{effectOf}
 use Rattle.effect.specs.Laws.{answer-done, answer-fault, effect-closed, image-slots}
@@ -117,7 +119,7 @@ module _ {op u w x : ℕ} {ps cs o s : List ℕ} (p : RunReady op u w x ps cs o 
       }
 
 -- ---- a fold
-module _ {ps cs o : List ℕ} {n : ℕ} {h m l z p q : List ℕ} (x : ShapeReady ps cs o n h m l z p q) where
+module _ {ps cs o : List ℕ} {n : ℕ} {h m l z q : List ℕ} (x : ShapeReady ps cs o n h m l z q) where
   few-segments : length (segments (heapOf ps cs)) ≤ 12
   few-segments = twelve (heapOf ps cs) (x .isHeap) (length-map ps _ ∙ x .six)
 
@@ -141,39 +143,41 @@ module _ {ps cs o : List ℕ} {n : ℕ} {h m l z p q : List ℕ} (x : ShapeReady
     few-nodes : r ≤ 12
     few-nodes = rw (cut-heap .number) few-segments
 
-    pub values-ready : length m′ ≡ length m → (length ps ≤ length p) × AllIn m′ ps
+    pub values-ready : length m′ ≡ length m → (length ps ≤ length q) × AllIn m′ ps
     values-ready k =
-        let i = x .pointers in
+        let i = x .room in
         let j = x .six in
         (omega arith, pointers-in ps cs (x .isHeap) (x .few) m′ (rw k (x .nodes)))
 
-    pub successors-ready : length m′ ≡ length m → length l′ ≡ length l → (r ≤ length l′) × (r ≤ length q) × LastsIn m′ cs l′ r
-    successors-ready k a =
-        let f = few-nodes in
-        let b = x .lasts in
-        let i = x .successors in
-        (omega arith, omega arith, lasts-in ps cs (x .isHeap) (x .few) m′ l′ r (rw k (x .nodes)) (omega arith) (cut-heap .lasts))
+    -- the pointers are folded into v: the part from byte 6 on is lent
+    module _ (v : List ℕ) (a : v ≡ map (foldByte m′) ps ++ drop (length ps) q) where
+      pub successors-ready : length v ≡ length q → length m′ ≡ length m → length l′ ≡ length l
+          → (r ≤ length l′) × (r ≤ length (midOf 6 (length v - 6) v)) × LastsIn m′ cs l′ r
+      successors-ready u k b =
+          let f = few-nodes in
+          let d = x .lasts in
+          let i = x .room in
+          (omega arith, rw (part-from v 6) (omega (arith, length-drop 6 v)), lasts-in ps cs (x .isHeap) (x .few) m′ l′ r (rw k (x .nodes)) (omega arith) (cut-heap .lasts))
 
-    pub shape-is : (p′ q′ : List ℕ) → p′ ≡ map (foldByte m′) ps ++ drop (length ps) p
-        → q′ ≡ map (λ c. foldByte m′ (getD cs c 0)) (take r l′) ++ drop r q → IsShape ps cs m′ z′ p′ q′ r
-    shape-is p′ q′ a b =
-        let g = heapOf ps cs in
-        let ss = segments g in
-        let k = cut-heap in
-        let i = x .pointers in
-        let j = x .six in
-        let short : length p ≤ length ps = omega arith in
-        let nil : drop (length ps) p ≡ [] = drop-of-length-le p short in
-        let s : map (λ c. foldByte m′ (getD cs c 0)) (take r l′) ≡ map slotByte (shape g .slots) =
-        ap (map (λ c. foldByte m′ (getD cs c 0))) (k .lasts) ∙ shape-successors ps cs (x .isHeap) (x .few) m′ (k .nodes) in
-        let n : r ≡ length (map slotByte (shape g .slots)) =
-        k .number ∙ sym (length-map (shape g .slots) slotByte ∙ length-map ss (λ (t : Seg). nodeSlot ss (next g (last t)))) in
-        record {
-          number = k .number;
-          twelve = few-nodes;
-          pointers = a ∙ ap (λ y. map (foldByte m′) ps ++ y) nil ∙ append-nil (map (foldByte m′) ps) ∙ shape-pointers ps cs (x .isHeap) (x .few) m′ (k .nodes);
-          successors = ap (take r) (b ∙ ap (λ y. y ++ drop r q) s)
-              ∙ ap (λ i. take i (map slotByte (shape g .slots) ++ drop r q)) n ∙ take-append-seam (map slotByte (shape g .slots)) (drop r q);
-          sizes = k .sizes;
-          nodes = λ j c i. k .nodes j c (rw (k .number) at i);
-        }
+      pub shape-is : (y : List ℕ) → y ≡ map (λ c. foldByte m′ (getD cs c 0)) (take r l′) ++ drop r (midOf 6 (length v - 6) v)
+          → IsShape ps cs m′ z′ q (putMid 6 (length v - 6) v y) r
+      shape-is y b =
+          let g = heapOf ps cs in
+          let k = cut-heap in
+          let A = map (foldByte m′) ps in
+          let B = map (λ c. foldByte m′ (getD cs c 0)) (take r l′) in
+          let six : length A ≡ 6 = length-map ps (foldByte m′) ∙ x .six in
+          let s : B ≡ map slotByte (shape g .slots) =
+          ap (map (λ c. foldByte m′ (getD cs c 0))) (k .lasts) ∙ shape-successors ps cs (x .isHeap) (x .few) m′ (k .nodes) in
+          let D = drop (length ps) q in
+          let t : take 6 v ≡ A = ap (take 6) a ∙ take-at A D 6 six in
+          let rest : drop (6 + r) v ≡ drop (6 + r) q =
+          ap₂ (λ n w. drop (n + r) w) (sym six) a ∙ drop-append-add A D r ∙ drop-drop r (length ps) q ∙ ap (λ n. drop (n + r) q) (x .six) in
+          record {
+            number = k .number;
+            twelve = few-nodes;
+            bytes = put-back v B y 6 r b ∙ ap₂ (λ w u. w ++ (B ++ u)) t rest ∙ sym (append-assoc A B (drop (6 + r) q))
+                ∙ ap₂ (λ w u. (w ++ u) ++ drop (6 + r) q) (shape-pointers ps cs (x .isHeap) (x .few) m′ (k .nodes)) s;
+            sizes = k .sizes;
+            nodes = λ j c i. k .nodes j c (rw (k .number) at i);
+          }

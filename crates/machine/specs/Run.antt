@@ -1,9 +1,9 @@
 -- What a run of a statement on a lent heap image asks and gives, and what folding it asks and gives. Assumes nothing.
-use Prim.Native.Nat.{ℕ, _<_, _≤_}
+use Prim.Native.Nat.{ℕ, _+_, _<_, _≤_}
 use mathlib.Core.Path.{_≡_}
 use mathlib.Core.Bool.{true, false}
-use mathlib.Core.List.{List, map}
-use lib.ListN.{length, getD, take}
+use mathlib.Core.List.{List, _++_, map}
+use lib.ListN.{length, getD, take, drop}
 use Rattle.model.specs.Base.{mem}
 use Rattle.model.specs.Heap.{IsHeap, inUse, next, order}
 use Rattle.model.specs.Image.{heapOf}
@@ -32,8 +32,8 @@ pub record IsRun (op u w x : ℕ) (ps cs qs ds o s : List ℕ) (f n : ℕ) : Typ
   pub held : f ≡ 0 → Held qs ds s
   pub known : f ≤ 3
 
--- a heap image with its visit order and the counts of holders h, and room for its shape: nodes m, last cells l, sizes z, pointers p, successors q
-pub record ShapeReady (ps cs o : List ℕ) (n : ℕ) (h m l z p q : List ℕ) : Type 0 where
+-- a heap image with its visit order and the counts of holders h, and room for its shape: nodes m, last cells l, sizes z, bytes q
+pub record ShapeReady (ps cs o : List ℕ) (n : ℕ) (h m l z q : List ℕ) : Type 0 where
   pub isHeap : IsHeap (heapOf ps cs)
   pub six : length ps ≡ 6
   pub few : length cs ≤ 240
@@ -44,14 +44,12 @@ pub record ShapeReady (ps cs o : List ℕ) (n : ℕ) (h m l z p q : List ℕ) : 
   pub nodes : length cs ≤ length m
   pub lasts : 12 ≤ length l
   pub sizes : 12 ≤ length z
-  pub pointers : length p ≡ 6
-  pub successors : 12 ≤ length q
+  pub room : 18 ≤ length q
 
--- the bytes of the shape, the counters, and of each cell its node
-pub record IsShape (ps cs : List ℕ) (m z p q : List ℕ) (k : ℕ) : Type 0 where
+-- q with the bytes of the shape over its front is q′; the counters, and of each cell its node
+pub record IsShape (ps cs : List ℕ) (m z q q′ : List ℕ) (k : ℕ) : Type 0 where
   pub number : k ≡ length (segments (heapOf ps cs))
   pub twelve : k ≤ 12
-  pub pointers : p ≡ map valByte (shape (heapOf ps cs) .ptrs)
-  pub successors : take k q ≡ map slotByte (shape (heapOf ps cs) .slots)
+  pub bytes : q′ ≡ (map valByte (shape (heapOf ps cs) .ptrs) ++ map slotByte (shape (heapOf ps cs) .slots)) ++ drop (6 + k) q
   pub sizes : take k z ≡ counters (heapOf ps cs)
   pub nodes : (j c : ℕ) → j < k → mem c (cells (segAt (segments (heapOf ps cs)) j)) ≡ true → getD m c 0 ≡ j

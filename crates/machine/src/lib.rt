@@ -62,7 +62,7 @@ pub fn run(
     }
 }
 
-// Folds a heap image whose visit order and counts of holders are given: the bytes of its shape, its counters, and the node of each cell.
+// Folds a heap image whose visit order and counts of holders are given: the bytes of its shape (six pointers, then the successors), its counters, and the node of each cell.
 pub fn shape_of(
     pointers: &[u8],
     cells: &[u8],
@@ -72,14 +72,13 @@ pub fn shape_of(
     node: &mut [u8],
     last: &mut [u8],
     size: &mut [u32],
-    folded: &mut [u8],
-    successors: &mut [u8],
+    shape: &mut [u8],
 ) -> usize
-    requires { ⌜ ShapeReady (now pointers) (now cells) (now order) n (now held) (now node) (now last) (now size) (now folded) (now successors) ⌝ }
-    ensures { λ r. ⌜ IsShape (now (pointers .entry)) (now (cells .entry)) (now (node .exit)) (now (size .exit)) (now (folded .exit)) (now (successors .exit)) r ⌝ }
+    requires { ⌜ ShapeReady (now pointers) (now cells) (now order) n (now held) (now node) (now last) (now size) (now shape) ⌝ }
+    ensures { λ r. ⌜ IsShape (now (pointers .entry)) (now (cells .entry)) (now (node .exit)) (now (size .exit)) (now (shape .entry)) (now (shape .exit)) r ⌝ }
 {
     let k = segment::cut(order, n, held, node, last, size);
-    segment::fold_values(pointers, &node[..], folded);
-    segment::fold_successors(cells, &last[..], k, &node[..], successors);
+    segment::fold_values(pointers, &node[..], shape);
+    segment::fold_successors(cells, &last[..], k, &node[..], &mut shape[6..]);
     k
 }

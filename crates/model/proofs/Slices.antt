@@ -1,12 +1,13 @@
--- Parts of lists: what is left from a place on and what stands before it, with tests, maps and sums of these, for a loop at that place.
+-- Parts of lists: what is left from a place on and what stands before it, with tests, maps and sums of these, for a loop at that place; a part that is lent.
 use Prim.Native.Nat.{_+_, _-_, _<_, _≤_, suc, zero, ℕ}
 use mathlib.Core.Path.{_∙_, _≡_, ap, sym}
 use mathlib.Core.Bool.{Bool, _&&_, true}
-use mathlib.Core.List.{List, [], _++_, _∷_, append-assoc, map, map-append}
+use mathlib.Core.List.{List, [], _++_, _∷_, append-assoc, append-nil, map, map-append}
 use native.Mathlib.Numerals.{add-one}
 use native.Mathlib.Omega.{arith}
 use lib.ListN.{drop, drop-of-length-le, getD, length, length-drop, length-map, set, take}
-use lib.Seq.{drop-cons, length-take-le, paste-suc, set-at, take-all, take-suc}
+use lib.Seq.{drop-cons, drop-drop, length-take-le, paste-suc, set-at, take-all, take-suc}
+use borrow.Rule.Slice.PartMut.{midOf, putMid}
 use Rattle.model.specs.Base.{all, sum}
 
 -- what is left from i on
@@ -20,6 +21,14 @@ take-next l i h = ap (λ n. take n l) (add-one i) ∙ take-suc l i 0 h
 -- the part from a on, as a lent part has it
 pub part-from : (l : List ℕ) (a : ℕ) → take (length l - a) (drop a l) ≡ drop a l
 part-from l a = take-all (length l - a) (drop a l) (omega (arith, length-drop a l))
+
+-- what a slice xs holds once the part from a on, whose first n elements were written with r, is back
+pub put-back : (xs r ys : List ℕ) (a n : ℕ) → ys ≡ r ++ drop n (midOf a (length xs - a) xs)
+    → putMid a (length xs - a) xs ys ≡ take a xs ++ (r ++ drop (a + n) xs)
+put-back xs r ys a n e =
+    let l : length (drop a xs) ≤ length xs - a = omega (arith, length-drop a xs) in
+    let p : drop (length xs - a) (drop a xs) ≡ [] = drop-of-length-le (drop a xs) l in
+    rw (e, part-from xs a, p, append-nil, drop-drop)
 
 -- one turn of a loop that tests each element, and its end
 pub all-step : (p : ℕ → Bool) (l : List ℕ) (i : ℕ) → i < length l → all p (drop i l) ≡ p (getD l i 0) && all p (drop (i + 1) l)

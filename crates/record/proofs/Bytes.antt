@@ -1,47 +1,40 @@
 -- The bytes that the writers leave are those of the definitions, and those are the records of the model.
 use Prim.Native.Nat.{ℕ, suc, _+_, _-_, _*_, _/_, _%_, _≤_, _<_}
 use mathlib.Core.Path.{_≡_, refl, sym, ap, ap₂, _∙_}
-use mathlib.Core.List.{List, [], _∷_, _++_, append-assoc, map, map-map, map-append}
+use mathlib.Core.List.{List, [], _∷_, _++_, append-assoc, append-nil, map, map-map, map-append}
 use native.Mathlib.Numerals.{add-one}
 use native.Mathlib.Omega.{arith}
-use lib.ListN.{length, getD, set, take, drop, replicate, length-append, length-drop}
-use lib.Seq.{drop-append-add, drop-drop, length-take-le, paste, sets-eq, take-all, take-at, take-suc}
+use lib.ListN.{length, getD, set, take, drop, replicate, length-append, length-drop, length-map}
+use lib.Seq.{drop-append-add, drop-drop, length-take-le, sets-eq, take-at, take-suc}
+use borrow.Rule.Slice.PartMut.{midOf, putMid}
 use Rattle.model.specs.Base.{joined}
 use Rattle.model.specs.Heap.{Heap}
-use Rattle.model.specs.Edges.{Edge, at}
-use Rattle.model.specs.Records.{edgeRecord, filled, guardBytes, locRecord, shapeRecord, slotByte, twoBytes, updateCode, valByte}
+use Rattle.model.specs.Edges.{Edge}
+use Rattle.model.specs.Records.{edgeRecord, filled, guardBytes, shapeBytes, slotByte, twoBytes, updateCode, valByte}
+use Rattle.model.specs.Shape.{segments, shape}
 use Rattle.model.proofs.Lists.{joined-snoc}
-use Rattle.record.specs.Written.{edgeBytes, locationBytes, shapeBytesOf, taggedBytes, updateBytes}
-use Rattle.record.proofs.ListLaws.{drop-zeros, paste-seam}
-
-regrouped : (a b c d : List ℕ) → a ++ (b ++ (c ++ d)) ≡ ((a ++ b) ++ c) ++ d
-regrouped a b c d = simp append-assoc
+use Rattle.model.proofs.Slices.{put-back}
+use Rattle.record.specs.Written.{edgeBytes, updateBytes}
+use Rattle.record.proofs.ListLaws.{drop-zeros}
 
 -- ---- shapes
 
--- a record of zeros but for its first four bytes, after the pointers and the successors were copied into it
-pub tagged-is : (tag s k : ℕ) (ps ss d : List ℕ) → length ps ≡ 6 → k ≤ 12 → k ≤ length ss
-    → paste (paste (tag ∷ s ∷ 0 ∷ k ∷ (replicate 28 0 ++ d)) 4 ps 6) 10 ss k ≡ taggedBytes tag s ps ss k ++ d
-tagged-is tag s k ps ss d p h q =
-    let a : List ℕ = tag ∷ s ∷ 0 ∷ k ∷ [] in
-    let z : List ℕ = replicate 22 0 ++ d in
-    let t = take k ss in
-    let all : take 6 ps ≡ ps = take-all 6 ps (omega arith) in
-    let one : paste (a ++ (replicate 28 0 ++ d)) 4 ps 6 ≡ (a ++ ps) ++ z =
-    paste-seam a (replicate 28 0 ++ d) ps 4 6 refl ∙ rw all (sym (append-assoc a ps z)) in
-    let ten : length (a ++ ps) ≡ 10 = length-append a ps ∙ rw p in
-    let m : 28 - length (ps ++ t) ≡ 22 - k = omega (arith, length-append ps t, length-take-le k ss q) in
-    let r : ℕ → List ℕ = λ n. replicate n 0 in
-    ap (λ l. paste l 10 ss k) one ∙ paste-seam (a ++ ps) z ss 10 k ten ∙ ap (λ l. (a ++ ps) ++ (t ++ l)) (drop-zeros k 22 d (omega arith))
-    ∙ ap (λ l. tag ∷ s ∷ 0 ∷ k ∷ l) (regrouped ps t (r (22 - k)) d) ∙ ap (λ n. (a ++ ((ps ++ t) ++ r n)) ++ d) (sym m)
-
--- what is written for a shape of the model; the first k of ss are its nodes
-module _ (h : Heap) (ps ss : List ℕ) (k : ℕ) (e : k ≡ length (h .slots)) (p : ps ≡ map valByte (h .ptrs)) (q : take k ss ≡ map slotByte (h .slots)) where
-  pub location-record : (s : ℕ) → locationBytes s ps ss k ≡ locRecord (at s h)
-  location-record s = λ i. 0x4c ∷ s ∷ 0 ∷ e i ∷ filled 28 (p i ++ q i)
-
-  pub shape-record : shapeBytesOf ps ss k ≡ shapeRecord h
-  shape-record = λ i. 0x48 ∷ 0 ∷ 0 ∷ e i ∷ filled 28 (p i ++ q i)
+-- a blank record b of whose part from byte 4 on the front was written with the shape of g, once its head is written too
+pub headed-is : (tag s k : ℕ) (g : Heap) (b q : List ℕ) → b ≡ replicate 32 0 → length (g .ptrs) ≡ 6 → k ≡ length (segments g) → k ≤ 12
+    → q ≡ (map valByte (shape g .ptrs) ++ map slotByte (shape g .slots)) ++ drop (6 + k) (midOf 4 (length b - 4) b)
+    → tag ∷ s ∷ 0 ∷ k ∷ drop 4 (putMid 4 (length b - 4) b q) ≡ tag ∷ s ∷ 0 ∷ shapeBytes (shape g)
+headed-is tag s k g b q e p n f w =
+    let x = map valByte (shape g .ptrs) in
+    let y = map slotByte (shape g .slots) in
+    let six : length x ≡ 6 = simp length-map p in
+    let nodes : k ≡ length (shape g .slots) = simp length-map n in
+    let few : length y ≡ k = simp length-map (sym n) in
+    let at = 4 + (6 + k) in
+    let m : 32 - at ≡ 28 - length (x ++ y) = omega (arith, length-append x y) in
+    let z : drop {A = ℕ} at (replicate 32 0) ≡ replicate (28 - length (x ++ y)) 0 =
+    drop-zeros at 32 [] (omega arith) ∙ append-nil _ ∙ ap (λ i. replicate i 0) m in
+    ap (λ (l : List ℕ). tag ∷ s ∷ 0 ∷ k ∷ drop 4 l) (put-back b (x ++ y) q 4 (6 + k) w ∙ ap (λ l. take 4 l ++ ((x ++ y) ++ drop at l)) e)
+    ∙ (λ i. tag ∷ s ∷ 0 ∷ nodes i ∷ ((x ++ y) ++ z i))
 
 -- ---- edges
 

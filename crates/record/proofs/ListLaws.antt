@@ -1,13 +1,13 @@
--- Generic laws of lists: a comparison taken one element at a time, a copy at a seam, zeros dropped.
+-- Generic laws of lists: a comparison taken one element at a time, zeros dropped.
 use Prim.Native.Nat.{ℕ, zero, suc, _+_, _-_, _≤_, _<_}
 use mathlib.Core.Path.{_≡_, ap₂}
 use mathlib.Core.Bool.{true, _&&_}
-use mathlib.Core.List.{List, _++_, append-assoc}
+use mathlib.Core.List.{List, _++_}
 use native.Mathlib.Numerals.{add-one}
 use native.Mathlib.Omega.{arith}
 use lib.Dec.{eqb}
-use lib.ListN.{length, getD, take, drop, replicate, drop-of-length-le}
-use lib.Seq.{drop-append-add, drop-cons, paste, take-at}
+use lib.ListN.{length, getD, drop, replicate, drop-of-length-le}
+use lib.Seq.{drop-cons}
 use Rattle.model.specs.Base.{sameList}
 
 -- one turn of a loop that compares two lists, and its end
@@ -17,12 +17,6 @@ same-step l m i h k = rw add-one (ap₂ (sameList eqb) (drop-cons l i 0 h) (drop
 
 pub same-end : (l m : List ℕ) (i : ℕ) → length l ≤ i → length m ≤ i → sameList eqb (drop i l) (drop i m) ≡ true
 same-end l m i h k = ap₂ (sameList eqb) (drop-of-length-le l h) (drop-of-length-le m k)
-
--- a copy that begins where one list ends and the next begins
-pub paste-seam : (a z s : List ℕ) (n m : ℕ) → length a ≡ n → paste (a ++ z) n s m ≡ a ++ (take m s ++ drop m z)
-paste-seam a z s n m e =
-    let d : drop (n + m) (a ++ z) ≡ drop m z = rw (← e) (drop-append-add a z m) in
-    rw (take-at a z n e, d) (append-assoc a (take m s) (drop m z))
 
 -- fewer zeros
 pub drop-zeros : (m n : ℕ) (d : List ℕ) → m ≤ n → drop m (replicate n 0 ++ d) ≡ replicate (n - m) 0 ++ d

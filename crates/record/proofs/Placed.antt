@@ -1,26 +1,16 @@
--- A part lent from some place on, put back after its front was written; a record put behind those of a table.
+-- A record put behind those of a table.
 use Prim.Native.Nat.{ℕ, _+_, _-_, _*_, _≤_}
 use mathlib.Core.Path.{_≡_, sym, ap, _∙_}
 use mathlib.Core.List.{List, [], _∷_, _++_, append-assoc, append-nil}
 use native.Mathlib.Omega.{arith}
-use lib.ListN.{length, take, drop, replicate, drop-of-length-le, length-append, length-drop}
-use lib.Seq.{drop-append-add, drop-drop, take-at}
-use borrow.Rule.Slice.PartMut.{midOf, putMid}
+use lib.ListN.{length, take, drop, replicate, length-append}
+use lib.Seq.{drop-append-add, take-at}
 use Rattle.model.specs.Base.{joined}
 use Rattle.model.specs.Translate.{tableOf}
 use Rattle.model.proofs.Bytes.{joined-length}
 use Rattle.model.proofs.Lists.{In, joined-snoc}
-use Rattle.model.proofs.Slices.{part-from}
 use Rattle.record.specs.Written.{placed}
 use Rattle.record.proofs.ListLaws.{drop-zeros}
-
--- What a slice xs holds once the part from a on, whose first n elements were written with r, is back.
-pub put-back : (xs r ys : List ℕ) (a n : ℕ) → a + n ≤ length xs → ys ≡ r ++ drop n (midOf a (length xs - a) xs)
-    → putMid a (length xs - a) xs ys ≡ take a xs ++ (r ++ drop (a + n) xs)
-put-back xs r ys a n h e =
-    let l : length (drop a xs) ≤ length xs - a = omega (arith, length-drop a xs) in
-    let p : drop (length xs - a) (drop a xs) ≡ [] = drop-of-length-le (drop a xs) l in
-    rw (e, part-from xs a, p, append-nil, drop-drop)
 
 -- The table of n bytes with records rs, with one more behind them.
 pub placed-next : (n : ℕ) (rs : List (List ℕ)) (r : List ℕ) → ((x : List ℕ) → In x rs → length x ≡ 32) → 32 * length rs + 32 ≤ n

@@ -9,14 +9,13 @@ use fields::targets_ok;
 use model::Node;
 use model::Statement;
 ghost use mathlib.Core.Path.{_≡_};
-ghost use mathlib.Core.List.{_++_};
+ghost use mathlib.Core.List.{_∷_, _++_};
 ghost use Prim.Native.Nat.{_+_, _*_, _≤_, _<_};
 ghost use lib.Dec.{eqb};
 ghost use lib.ListN.{length, take, drop, replicate};
-ghost use lib.Seq.{paste};
 ghost use Rattle.model.specs.Base.{sameList};
 ghost use Rattle.model.specs.Records.{refusalS, layoutH};
-ghost use Rattle.record.specs.Written.{taggedBytes, locationBytes, shapeBytesOf, faultBytes, edgeBytes, updateBytes, placed};
+ghost use Rattle.record.specs.Written.{faultBytes, edgeBytes, updateBytes, placed};
 
 // The refusal of an S record among n statements, 0 for none.
 pub fn statement_refusal(rec: &[u8], n: usize) -> u8
@@ -66,7 +65,7 @@ pub fn same_record(a: &[u8], b: &[u8]) -> bool
 // ---- writing: each writer is lent the part of a table that starts at its record
 
 // Makes the first 32 bytes zero.
-fn blank(part: &mut [u8])
+pub fn blank(part: &mut [u8])
     requires { ⌜ 32 ≤ length (now part) ⌝ }
     ensures { λ _. ⌜ now (part .exit) ≡ replicate 32 0 ++ drop 32 (now (part .entry)) ⌝ }
 {
@@ -77,58 +76,15 @@ fn blank(part: &mut [u8])
     }
 }
 
-// Copies the first n bytes of `bytes` to place `at` and on.
-fn copy_at(part: &mut [u8], at: usize, bytes: &[u8], n: usize)
-    requires { ⌜ (at + n ≤ length (now part)) × (n ≤ length (now bytes)) ⌝ }
-    ensures { λ _. ⌜ now (part .exit) ≡ paste (now (part .entry)) at (now (bytes .entry)) n ⌝ }
+// The first four bytes of an L or H record without fault: its tag, the statement, no fault, the number of nodes.
+pub fn write_head(part: &mut [u8], tag: u8, statement: Statement, k: usize)
+    requires { ⌜ (4 ≤ length (now part)) × (k ≤ 12) ⌝ }
+    ensures { λ _. ⌜ now (part .exit) ≡ tag ∷ statement .0 ∷ 0 ∷ k ∷ drop 4 (now (part .entry)) ⌝ }
 {
-    let mut i = 0;
-    while i < n {
-        part[at + i] = bytes[i];
-        i += 1;
-    }
-}
-
-// An L or H record without fault, by its tag: the statement, the node count, the six pointers and k successors.
-fn write_tagged(
-    part: &mut [u8],
-    tag: u8,
-    statement: Statement,
-    pointers: &[u8],
-    successors: &[u8],
-    k: usize,
-)
-    requires { ⌜ (32 ≤ length (now part)) × (length (now pointers) ≡ 6) × (k ≤ 12) × (k ≤ length (now successors)) ⌝ }
-    ensures { λ _. ⌜ now (part .exit) ≡ taggedBytes tag (statement .0) (now (pointers .entry)) (now (successors .entry)) k ++ drop 32 (now (part .entry)) ⌝ }
-{
-    blank(part);
     part[0] = tag;
     part[1] = statement.0;
+    part[2] = 0;
     part[3] = k as u8;
-    copy_at(part, 4, pointers, 6);
-    copy_at(part, 10, successors, k);
-}
-
-// An L record without fault: the statement and the shape of k nodes.
-pub fn write_location(
-    part: &mut [u8],
-    statement: Statement,
-    pointers: &[u8],
-    successors: &[u8],
-    k: usize,
-)
-    requires { ⌜ (32 ≤ length (now part)) × (length (now pointers) ≡ 6) × (k ≤ 12) × (k ≤ length (now successors)) ⌝ }
-    ensures { λ _. ⌜ now (part .exit) ≡ locationBytes (statement .0) (now (pointers .entry)) (now (successors .entry)) k ++ drop 32 (now (part .entry)) ⌝ }
-{
-    write_tagged(part, 0x4c, statement, pointers, successors, k);
-}
-
-// An H record: the shape of k nodes.
-pub fn write_shape(part: &mut [u8], pointers: &[u8], successors: &[u8], k: usize)
-    requires { ⌜ (32 ≤ length (now part)) × (length (now pointers) ≡ 6) × (k ≤ 12) × (k ≤ length (now successors)) ⌝ }
-    ensures { λ _. ⌜ now (part .exit) ≡ shapeBytesOf (now (pointers .entry)) (now (successors .entry)) k ++ drop 32 (now (part .entry)) ⌝ }
-{
-    write_tagged(part, 0x48, Statement(0), pointers, successors, k);
 }
 
 // An L record with a fault: the statement that faulted.
@@ -182,31 +138,7 @@ pub fn write_edge(
     write_updates(part, updates, k);
 }
 
-// ---- records in their place: the part of the table from 32 times the record number on is lent to the writer
-
-pub fn put_location(
-    table: &mut [u8],
-    n: usize,
-    statement: Statement,
-    pointers: &[u8],
-    successors: &[u8],
-    k: usize,
-)
-    requires { ⌜ (32 * n + 32 ≤ length (now table)) × (length (now pointers) ≡ 6) × (k ≤ 12) × (k ≤ length (now successors)) ⌝ }
-    ensures { λ _. ⌜ now (table .exit) ≡ placed (now (table .entry)) n (locationBytes (statement .0) (now (pointers .entry)) (now (successors .entry)) k) ⌝ }
-{
-    let at = 32 * n;
-    write_location(&mut table[at..], statement, pointers, successors, k);
-}
-
-pub fn put_fault(table: &mut [u8], n: usize, statement: Statement, fault: u8)
-    requires { ⌜ 32 * n + 32 ≤ length (now table) ⌝ }
-    ensures { λ _. ⌜ now (table .exit) ≡ placed (now (table .entry)) n (faultBytes (statement .0) fault) ⌝ }
-{
-    let at = 32 * n;
-    write_fault(&mut table[at..], statement, fault);
-}
-
+// An E record in its place: the part of the table from 32 times the record number on is lent to the writer.
 pub fn put_edge(
     table: &mut [u8],
     n: usize,
