@@ -2,9 +2,9 @@
 use Prim.Native.Nat.{ℕ, zero, suc, _≤_}
 use mathlib.Core.Path.{_≡_, refl, sym, ap, ap₂, _∙_}
 use mathlib.Core.Bool.{Bool, true, false}
-use mathlib.Core.List.{List, [], _∷_, _++_, append-nil, head-eq-of-cons-eq, map, map-map}
+use mathlib.Core.List.{List, [], _∷_, head-eq-of-cons-eq, map, map-map}
 use native.Mathlib.Omega.{arith}
-use lib.ListN.{List·getD-eq-default, drop, drop-of-length-le, length, length-map, take}
+use lib.ListN.{List·getD-eq-default, length, length-map, take}
 use lib.Seq.{length-take-le}
 use borrow.Author.Tests.{ne-eqb}
 use Rattle.model.specs.Heap.{Heap, cell, next, unused}
@@ -21,8 +21,8 @@ use Rattle.model.proofs.Ways.{access-facts, access-same, room-of}
 use Rattle.effect.specs.Effect.{effectOf}
 use Rattle.record.specs.Written.{faultBytes}
 use Rattle.way.specs.Way.{weightAt}
-use Rattle.edge.specs.Edge.{EdgeReady, LeavesBy, WayReady, wayOf}
-use Rattle.edge.specs.Parts.{IsLeft, LeaveReady, WayRan}
+use Rattle.edge.specs.Edge.{LeavesBy, WayReady, wayOf}
+use Rattle.edge.specs.Parts.{GoneReady, IsLeft, LeaveReady, WayRan}
 use Rattle.edge.proofs.Heaps.{tail-used}
 use Rattle.edge.proofs.Ready.{node-below, node-used, nodes-few, nodes-is, shape-is, statement-is}
 
@@ -48,7 +48,7 @@ weight-way false g v p h = refl
 
 -- ---- the edge of an answer
 
-pub fault-edge : (s k : ℕ) (y : Way) (x : Fault) (a : Answer) (E : Edge) → a ≡ faulted x → edgeBy s k y a ≡ E ∷ []
+fault-edge : (s k : ℕ) (y : Way) (x : Fault) (a : Answer) (E : Edge) → a ≡ faulted x → edgeBy s k y a ≡ E ∷ []
     → record { branchNo = 0; guard = y .guard; to = failed s x; updates = [] } ≡ E
 fault-edge s k y x a E e q = head-eq-of-cons-eq (sym (ap (edgeBy s k y) e) ∙ q)
 
@@ -63,6 +63,31 @@ fault-of (suc zero) n le = (atNull, refl, λ g. refl)
 fault-of (suc (suc zero)) n le = (atUndef, refl, λ g. refl)
 fault-of (suc (suc (suc zero))) n le = (leak, refl, λ g. refl)
 fault-of (suc (suc (suc (suc f)))) n le = absurd (omega arith)
+
+-- whatever is known of the location and the way, the run is the fault with the number f
+abbrev pub Faults : List ℕ → List ℕ → Bool → ℕ → ℕ → ℕ → Type 0
+Faults l r sp v p f =
+    (n s : ℕ) (h : Heap) → WayReady l r n s h sp v p
+    → (x : Fault) × (faultNumber x ≡ f) × (run (stmtOf r .op) (length (h .slots)) (wayOf sp always v p h .heap) ≡ fault x)
+
+-- the edge of a fault
+pub fault-leaves : (l r : List ℕ) (sp : Bool) (v p : ℕ) (t us : List ℕ) (f b m : ℕ) → Faults l r sp v p f
+    → (b ≡ 0) × (m ≡ 0) × (t ≡ faultBytes (byte l 1) f) → LeavesBy l r sp v p t us b m
+fault-leaves l r sp v p t us f b m F d n s h R g E e =
+    let st = stmtOf r in
+    let k = length (h .slots) in
+    let y = wayOf sp g v p h in
+    let x = F n s h R in
+    let step : stepBy st k y ≡ answerOf st (branch (st .op) p h) (fault (x .0)) =
+    step-way sp g v p st h (R .goes) (R .pick) (R .isNode) ∙ ap (answerOf st (branch (st .op) p h)) (x .2) in
+    let q = fault-edge s k y (x .0) (stepBy st k y) E step e in
+    record {
+      branch = d .0 ∙ ap (λ (z : Edge). z .branchNo) q;
+      target = d .2 ∙ ap₂ faultBytes (statement-is R) (sym (x .1)) ∙ ap (λ (z : Edge). locRecord (z .to)) q;
+      number = d .1 ∙ ap (λ (z : Edge). length (z .updates)) q;
+      few = omega (arith, d .1);
+      updates = ap (λ i. take i us) (d .1) ∙ ap (λ (z : Edge). map updateCode (z .updates)) q;
+    }
 
 -- ---- a run by a ready way
 
@@ -89,52 +114,10 @@ module _ {l r : List ℕ} {sp : Bool} {v p : ℕ} {ps cs o x : List ℕ} {f b c 
         (ne-eqb k v (λ q. omega arith)) (node-used R e)
         (ap (λ d. run (stmtOf r .op) k (wayOf d always v p h .heap)) (sym e) ∙ outcome-is ∙ ap (λ i. effectOf i (heapOf ps (take c cs))) z))
 
-  -- the edge of a fault
-  pub fault-leaves : (t t′ us : List ℕ) → length t ≡ 32 → (f ≡ 0 → ⊥) → t′ ≡ faultBytes (byte l 1) f ++ drop 32 t
-      → LeavesBy l r sp v p t′ us 0 0
-  fault-leaves t t′ us wide bad te n s h R g E e =
+  pub run-faults : (f ≡ 0 → ⊥) → Faults l r sp v p f
+  run-faults bad n s h R =
       let x = fault-of f bad (W .known) in
-      let y = wayOf sp g v p h in
-      let q = fault-edge s (length (h .slots)) y (x .0) (stepBy (stmtOf r) (length (h .slots)) y) E
-      (answer-is R g ∙ ap (answerOf (stmtOf r) b) (x .2 (heapOf ps (take c cs)))) e in
-      let short : length t ≤ 32 = omega arith in
-      let bytes : t′ ≡ locRecord (failed s (x .0)) =
-      te ∙ ap (λ d. faultBytes (byte l 1) f ++ d) (drop-of-length-le t short) ∙ append-nil (faultBytes (byte l 1) f)
-      ∙ ap₂ faultBytes (statement-is R) (sym (x .1)) in
-      record {
-        branch = ap (λ (z : Edge). z .branchNo) q;
-        target = bytes ∙ ap (λ (z : Edge). locRecord (z .to)) q;
-        number = ap (λ (z : Edge). length (z .updates)) q;
-        few = omega arith;
-        updates = ap (λ (z : Edge). map updateCode (z .updates)) q;
-      }
-
-  -- the image of a run that is done can be folded
-  pub leave-ready : (t us : List ℕ) → EdgeReady l r sp v p t us → length ps ≡ 6 → length cs ≡ 16 → length o ≡ 16 → length x ≡ 16 → f ≡ 0
-      → LeaveReady ps (take c cs) o m x (byte l 3) sp v t us
-  leave-ready t us E six cells places marks z =
-      let n = E .statements in
-      let s = E .number in
-      let h = E .shape in
-      let few = nodes-few (E .ready) in
-      let count = W .count in
-      let len = length-take-le c cs (omega arith) in
-      let most = W .few z in
-      record {
-        isHeap = W .isHeap z;
-        six = six;
-        fewOld = few;
-        few = omega arith;
-        visited = W .visited z;
-        long = omega arith;
-        short = omega arith;
-        holders = omega arith;
-        held = W .held z;
-        isNode = node-below (E .ready);
-        hasTail = tail-kept (E .ready) z;
-        wide = E .wide;
-        room = E .room;
-      }
+      (x .0, x .1, outcome-is R ∙ x .2 (heapOf ps (take c cs)))
 
   -- the edge of a run that is done
   pub done-leaves : (t us : List ℕ) (a d : ℕ) → f ≡ 0 → a ≡ target (stmtOf r) b → IsLeft ps (take c cs) (byte l 3) sp v a t us d
@@ -156,3 +139,29 @@ module _ {l r : List ℕ} {sp : Bool} {v p : ℕ} {ps cs o x : List ℕ} {f b c 
         updates = L .updates ∙ weights ∙ sym (map-map updateCode (updateOf k (y .weight)) (segments x))
             ∙ ap (λ (i : Edge). map updateCode (i .updates)) q;
       }
+
+-- the image of a run that is done can be folded
+pub leave-ready : {l r : List ℕ} {sp : Bool} {v p : ℕ} {ps cs o x : List ℕ} {f b c m : ℕ} {t us : List ℕ} → GoneReady l r sp v p ps cs o x f b c m t us → f ≡ 0
+    → LeaveReady ps (take c cs) o m x (byte l 3) sp v t us
+leave-ready {cs = cs} {c = c} G z =
+    let W = G .ran in
+    let E = G .ready in
+    let few = nodes-few (E .ready) in
+    let count = W .count in
+    let len = length-take-le c cs (omega arith) in
+    let most = W .few z in
+    record {
+      isHeap = W .isHeap z;
+      six = G .six;
+      fewOld = few;
+      few = omega arith;
+      visited = W .visited z;
+      long = omega arith;
+      short = omega arith;
+      holders = omega arith;
+      held = W .held z;
+      isNode = node-below (E .ready);
+      hasTail = tail-kept W (E .ready) z;
+      wide = E .wide;
+      room = E .room;
+    }

@@ -1,17 +1,17 @@
--- A leak that is seen before the statement is run: the tail of a split, or a node that one pointer alone holds. And the edge to it.
+-- A leak that is seen before the statement is run: the tail of a split, or a node that one pointer alone holds.
 use Prim.Native.Nat.{ℕ, _+_, _≤_, _<_}
 use mathlib.Core.Path.{_≡_, refl, sym, ap, subst, _∙_}
 use mathlib.Core.Bool.{Bool, true, false, _||_}
-use mathlib.Core.List.{List, map}
+use mathlib.Core.List.{List}
 use native.Mathlib.Omega.{arith}
 use lib.Dec.{eqb}
 use lib.ListN.{drop, getD, length, length-drop, take}
 use lib.Seq.{getD-drop, getD-take, length-take-le}
 use borrow.Author.Tests.{eqb-true}
 use Rattle.model.specs.Heap.{Heap, Val, cell, holds, next, null, ptr, undef, unused}
-use Rattle.model.specs.Machine.{answerOf, branch, copy, done, fault, held, keep, kind, leak, load, putSlot, run}
-use Rattle.model.specs.Edges.{Edge, access, stepBy, splitHeap}
-use Rattle.model.specs.Records.{byte, locRecord, opOf, shapeOf, stmtOf, updateCode, valByte, valOf}
+use Rattle.model.specs.Machine.{copy, done, fault, held, keep, kind, leak, load, putSlot, run}
+use Rattle.model.specs.Edges.{access, splitHeap}
+use Rattle.model.specs.Records.{byte, opOf, shapeOf, stmtOf, valByte, valOf}
 use Rattle.model.specs.Runs.{isStop}
 use Rattle.model.proofs.Bytes.{byte-back, val-cell}
 use Rattle.model.proofs.Effects.{closed-ptr}
@@ -23,11 +23,9 @@ use Rattle.model.proofs.Statements.{statement-fields}
 use Rattle.model.proofs.Walks.{Closed, Used}
 use Rattle.model.proofs.Ways.{no-access}
 use Rattle.model.proofs.Writes.{holds-inj}
-use Rattle.record.specs.Written.{faultBytes}
-use Rattle.edge.specs.Edge.{LeavesBy, WayReady, wayOf}
+use Rattle.edge.specs.Edge.{WayReady}
 use Rattle.edge.specs.Loss.{AloneHolds, Leaks, Overwrites, cutsNext}
-use Rattle.edge.proofs.Edges.{fault-edge, step-way}
-use Rattle.edge.proofs.Ready.{location-wide, node-used, nodes-few, nodes-is, shape-is, statement-is}
+use Rattle.edge.proofs.Ready.{location-wide, node-used, nodes-few, nodes-is, shape-is}
 use Rattle.edge.proofs.Unheld.{NoNext, free-leaks, held-other, new-leaks, set-leaks, split-none, split-used, write-leaks}
 
 -- ---- the tail of a split
@@ -143,22 +141,3 @@ alone-leaks l r true lt c o A n s h v p R =
     let below : a < length (h .slots) = omega (arith, A .0, nodes-is R) in
     over-run R A (splitHeap v (length (h .slots)) h) refl (split-used h v a (node-used R refl) (in-use R A)) (split-none h v a below (none R A)) lt c o
 alone-leaks l r false lt c o A n s h v p R = over-run R A h refl (in-use R A) (none R A) lt c o
-
--- ---- the edge
-
-pub leak-leaves : (l r : List ℕ) (sp : Bool) (v p : ℕ) (t us : List ℕ) (b m : ℕ) → Leaks l r sp → b ≡ 0 → m ≡ 0 → t ≡ faultBytes (byte l 1) 3
-    → LeavesBy l r sp v p t us b m
-leak-leaves l r sp v p t us b m lost be me te n s h R g E e =
-    let st = stmtOf r in
-    let k = length (h .slots) in
-    let y = wayOf sp g v p h in
-    let step : stepBy st k y ≡ answerOf st (branch (st .op) p h) (fault leak) =
-    step-way sp g v p st h (R .goes) (R .pick) (R .isNode) ∙ ap (answerOf st (branch (st .op) p h)) (lost n s h v p R) in
-    let q = fault-edge s k y leak (stepBy st k y) E step e in
-    record {
-      branch = be ∙ ap (λ (z : Edge). z .branchNo) q;
-      target = te ∙ ap (λ i. faultBytes i 3) (statement-is R) ∙ ap (λ (z : Edge). locRecord (z .to)) q;
-      number = me ∙ ap (λ (z : Edge). length (z .updates)) q;
-      few = omega arith;
-      updates = ap (λ i. take i us) me ∙ ap (λ (z : Edge). map updateCode (z .updates)) q;
-    }

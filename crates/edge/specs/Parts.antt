@@ -14,7 +14,7 @@ use Rattle.model.proofs.Walks.{Used}
 use Rattle.effect.specs.Effect.{effectOf}
 use Rattle.visit.specs.Visit.{Held}
 use Rattle.way.specs.Way.{weightAt}
-use Rattle.edge.specs.Edge.{WayReady, wayOf}
+use Rattle.edge.specs.Edge.{EdgeReady, WayReady, wayOf}
 
 -- some location and way are ready, and there is room for the heap image and the visit
 pub record RunsReady (l r : List ℕ) (sp : Bool) (v p : ℕ) (ps cs o s : List ℕ) : Type 0 where
@@ -39,6 +39,15 @@ pub record WayRan (l r : List ℕ) (sp : Bool) (v p : ℕ) (ps cs o s : List ℕ
   pub visited : f ≡ 0 → take n o ≡ order (heapOf ps (take c cs))
   pub few : f ≡ 0 → n ≤ c
   pub held : f ≡ 0 → Held ps (take c cs) s
+
+-- some location and way are ready, the run by the way gave this, and there is room for the target t and the updates us
+pub record GoneReady (l r : List ℕ) (sp : Bool) (v p : ℕ) (ps cs o s : List ℕ) (f b c n : ℕ) (t us : List ℕ) : Type 0 where
+  pub ready : EdgeReady l r sp v p t us
+  pub ran : WayRan l r sp v p ps cs o s f b c n
+  pub six : length ps ≡ 6
+  pub room : 13 ≤ length cs
+  pub places : 13 ≤ length o
+  pub marks : 13 ≤ length s
 
 -- a heap image in visit order with the counts of holders h, of at most k + 1 cells, and room for the target t and the updates us; at a split the tail, cell k, is in use
 pub record LeaveReady (ps cs o : List ℕ) (n : ℕ) (h : List ℕ) (k : ℕ) (sp : Bool) (v : ℕ) (t us : List ℕ) : Type 0 where

@@ -13,10 +13,10 @@ use Rattle.model.specs.Translate.{Listing, places, addEdges}
 use Rattle.model.proofs.Canon.{Canon}
 use Rattle.model.proofs.Listings.{WritableLoc}
 use Rattle.edge.specs.Edge.{StatementOk, WayReady, wayOf}
+use Rattle.edge.specs.declared.Way.{Way}
 use Rattle.grow.specs.Grow.{Holds, GrownTo}
 use Rattle.grow.specs.declared.Grown.{Grown}
 use Rattle.explore.specs.Explore.{LocOk, LocsOk, AddedTo}
-use Rattle.explore.specs.declared.Way.{Way}
 
 -- l is the record of statement s with shape h, and r that of the statement, among n
 pub record AtShape (l r : List ℕ) (n s : ℕ) (h : Heap) : Type 0 where

@@ -1,4 +1,5 @@
 // The exploration: the edges of each location, by number, into the two tables.
+use edge::Way;
 use grow::Grown;
 use model::Node;
 use model::Pointer;
@@ -26,14 +27,6 @@ fn copy_record(part: &[u8], rec: &mut [u8])
     ensures { λ _. ⌜ now (rec .exit) ≡ take 32 (now (part .entry)) ⌝ }
 {
     bytes::copy(&part[..32], rec);
-}
-
-// A way out of a location: split at a node, or whole with a pick; and the byte of its guard, which is on the node.
-struct Way {
-    split: bool,
-    node: Node,
-    pick: u8,
-    guard: u8,
 }
 
 // How many ways lead out of a location whose statement has the op and goes through the value v: counter = 1 and counter at
@@ -87,15 +80,7 @@ fn add_way(
 {
     let mut target = [0u8; 32];
     let mut updates = [0u16; 16];
-    let left = edge::one_edge(
-        location,
-        statement,
-        way.split,
-        way.node,
-        way.pick,
-        &mut target,
-        &mut updates,
-    );
+    let left = edge::one_edge(location, statement, way, &mut target, &mut updates);
     grow::add_edge(
         locations,
         edges,

@@ -1,8 +1,8 @@
--- `edge::leave` meets its contract: the image is folded into the blank target, which then gets its head; the updates are summed by the nodes of its cells.
+-- `edge::fold::leave` meets its contract: the image is folded into the blank target, which then gets its head; the updates are summed by the nodes of its cells.
 use borrow.Author.Needs.{needs}
 use Rattle.edge.proofs.Leaving.{is-left, shape-ready, sum-ready}
-use Rattle.edge.proofs.leave.Statement.{statement}
-use Rattle.edge.proofs.leave.Tie as tie
+use Rattle.edge.proofs.fold.leave.Statement.{statement}
+use Rattle.edge.proofs.fold.leave.Tie as tie
 
 shape-of-requires : tie.Need-shape-of-requires
 shape-of-requires c κs =
