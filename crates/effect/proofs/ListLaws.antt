@@ -2,7 +2,7 @@
 use Prim.Native.Nat.{ℕ, suc, _+_, _≤_, _<_}
 use native.Mathlib.Omega.{arith}
 use mathlib.Core.Path.{_∙_, _≡_, ap, refl}
-use mathlib.Core.List.{List, [], _++_, map, append-nil}
+use mathlib.Core.List.{List, _++_, map, append-nil}
 use lib.ListN.{drop, drop-of-length-le, getD, length, length-map, set, take}
 use lib.Seq.{drop-cons, getD-at, length-take-le, take-all}
 use Rattle.model.proofs.Slices.{map-fill}

@@ -13,7 +13,6 @@ use Rattle.model.specs.Translate.{Listing, addEdges, full, grown, places, refus
 use Rattle.model.proofs.Lists.{in-append-cases, in-single}
 use Rattle.model.proofs.Logic.{bool-case}
 use Rattle.grow.specs.Grow.{GrownTo}
-use Rattle.grow.specs.declared.Grown.{Grown}
 use Rattle.grow.specs.declared.Grown.the-variants.{Added, Full}
 use Rattle.explore.specs.Explore.{AddedTo, LocOk, LocsOk}
 

@@ -1,5 +1,4 @@
 // The calls for Rust and C: a slice passes as a pointer and a length. Answers are written over the start of the lent slices.
-use model::Folded;
 use model::Stepped;
 use model::Unfolded;
 ghost use mathlib.Core.Path.{_≡_};

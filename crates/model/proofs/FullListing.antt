@@ -10,7 +10,7 @@ use Rattle.model.specs.Edges.{Edge, Loc, Way, at, edgeBy, edgesOf, faile
 use Rattle.model.specs.Heap.{Heap, Slot, Val, cell, holds, null, undef, unused}
 use Rattle.model.specs.Machine.{Answer, Effect, Entry, Fault, Kind, Stmt, accepts, allocates, answerOf, atNull, atUndef, branch, done, fault, faultNumber, faulted, kind, leak, other, picks, refused, run, step, stop, stopped, stops, target, unlessStop, went}
 use Rattle.model.specs.Records.{locRecord, slotByte, valByte}
-use Rattle.model.specs.Translate.{Listing, Routine, check, good, listing}
+use Rattle.model.specs.Translate.{Listing, Routine, check, good}
 use Rattle.model.proofs.Checked.{GoodStarts, check-good}
 use Rattle.model.proofs.Digits.{Below, code-below, code-injective, codeOf}
 use Rattle.model.proofs.Exact.{edge-below}

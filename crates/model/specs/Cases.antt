@@ -4,10 +4,9 @@ use mathlib.Core.Path.{_≡_, refl}
 use mathlib.Core.Bool.{Bool, true, _&&_}
 use mathlib.Core.List.{List, [], _∷_, _++_, map}
 use lib.Dec.{eqb}
-use lib.ListN.{length}
 use Rattle.model.specs.Base.{all, sameList, numbers, joined}
 use Rattle.model.specs.Records.{recordAt}
-use Rattle.model.specs.Translate.{Refusal, Tables, Outcome, check, listing, translate}
+use Rattle.model.specs.Translate.{Tables, check, listing, translate}
 
 -- the n bytes of a number, high byte first
 abbrev bytesOf : ℕ → ℕ → List ℕ

@@ -7,7 +7,7 @@ use lib.ListN.{length, take, drop, replicate}
 use Rattle.model.specs.Base.{all, sum}
 use Rattle.model.specs.Heap.{Val, cell, null, undef, Slot, unused, holds, Heap, closed, kept}
 use Rattle.model.specs.Shape.{shape, counters, canonical}
-use Rattle.model.specs.Machine.{Stmt, faultNumber, Kind, stops, picks, allocates, other, kind, Entry, Answer, refused, stopped, faulted, went, step}
+use Rattle.model.specs.Machine.{faultNumber, Kind, stops, picks, allocates, other, kind, Answer, refused, stopped, faulted, went, step}
 use Rattle.model.specs.Records.{valByte, valOf, slotByte, byte, isZero, isS, filled, shapeRecord, layoutH, shapeOf, stmtOf, refusalS}
 
 -- "six pointer bytes and 0 to 240 cell bytes: a cell number, 0xfe, 0xff, or for a cell 0xfd (not in use)"

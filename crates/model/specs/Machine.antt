@@ -3,7 +3,7 @@ use Prim.Native.Nat.{ℕ, zero, suc}
 use mathlib.Core.Bool.{Bool, true, false, cond, not}
 use mathlib.Core.List.{List, [], _∷_, map}
 use lib.Dec.{eqb, leb}
-use lib.ListN.{getD, set}
+use lib.ListN.{set}
 use Rattle.model.specs.Heap.{Val, cell, null, undef, Slot, unused, holds, Heap, ptr, next, inUse, sameVal, kept}
 
 -- the ops of 01's table, with the pointers u and w

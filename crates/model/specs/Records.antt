@@ -1,6 +1,6 @@
 -- 01, "Records": 32 bytes each. How locations and edges are written, and how statements, shapes, locations and edges are read.
 -- Assumes nothing.
-use Prim.Native.Nat.{ℕ, zero, suc, _-_, _+_, _*_, _/_, _%_}
+use Prim.Native.Nat.{ℕ, suc, _-_, _+_, _*_, _/_, _%_}
 use mathlib.Core.Bool.{Bool, true, false, _&&_, _||_, cond, not}
 use mathlib.Core.List.{List, [], _∷_, _++_, map}
 use lib.Dec.{eqb, leb, ltb}

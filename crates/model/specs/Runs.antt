@@ -1,8 +1,8 @@
 -- 01, "Runs": the routine fed entries, the automaton fed edge numbers, the match between the two, and demand 3 as one type.
 -- The automaton is read from the bytes of the two tables with the counts reported. Assumes nothing.
-use Prim.Native.Nat.{ℕ, zero, suc, _-_, _+_, _*_, _/_, _%_, _<_}
+use Prim.Native.Nat.{ℕ, _-_, _+_, _*_, _/_, _%_, _<_}
 use mathlib.Core.Path.{_≡_}
-use mathlib.Core.Bool.{Bool, true, false, _&&_, _||_, cond, not}
+use mathlib.Core.Bool.{Bool, true, false, _&&_, cond, not}
 use mathlib.Core.Option.{Option, none, some}
 use mathlib.Core.List.{List, [], _∷_, map}
 use lib.Dec.{eqb, leb, ltb}
@@ -13,7 +13,7 @@ use Rattle.model.specs.Shape.{shape, counters}
 use Rattle.model.specs.Machine.{Stmt, Fault, faultNumber, Kind, stops, picks, allocates, other, kind, Entry, Answer, refused, stopped, faulted, went, step}
 use Rattle.model.specs.Edges.{stmtAt}
 use Rattle.model.specs.Records.{byte, word, recordAt, shapeOf}
-use Rattle.model.specs.Translate.{Checked, good, check, Routine, Tables, Outcome, translate}
+use Rattle.model.specs.Translate.{good, check, Routine, Tables, translate}
 
 -- a step made or an edge taken: its branch, and what it leaves
 pub record Step (A : Type 0) : Type 0 where

@@ -1,6 +1,6 @@
 -- 01, "Shapes": core cells, segments, and the shape and counters of a heap. A shape is a heap whose cells are the nodes.
 -- Assumes nothing.
-use Prim.Native.Nat.{ℕ, zero, suc}
+use Prim.Native.Nat.{ℕ, suc}
 use mathlib.Core.Bool.{Bool, true, false, _&&_, _||_}
 use mathlib.Core.List.{List, [], _∷_, _++_, map}
 use lib.Dec.{eqb, leb}

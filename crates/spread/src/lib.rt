@@ -4,7 +4,7 @@ ghost use mathlib.Core.Bool.{true};
 ghost use mathlib.Core.List.{_++_, map};
 ghost use Prim.Native.Nat.{_+_, _-_, _≤_};
 ghost use lib.Dec.{leb};
-ghost use lib.ListN.{length, take, drop, replicate};
+ghost use lib.ListN.{length, take, replicate};
 ghost use Rattle.model.specs.Base.{all, sum};
 ghost use Rattle.model.specs.Image.{countersFit, unfoldHeap, cellBytesOf};
 ghost use Rattle.model.specs.Records.{byte, isZero, shapeOf, valByte};

@@ -9,7 +9,7 @@ use lib.ListN.{getD, length, length-map, take}
 use lib.Seq.{ext-getD, getD-take, length-take-le}
 use borrow.Author.Tests.{eq-eqb, eqb-true, ne-eqb}
 use Rattle.model.specs.Base.{mem, sum}
-use Rattle.model.specs.Edges.{updateOf, split}
+use Rattle.model.specs.Edges.{updateOf}
 use Rattle.model.specs.Records.{updateCode}
 use Rattle.model.specs.Shape.{Seg, cells}
 use Rattle.model.proofs.Cuts.{flat-mem, flat-nodup, mem-flat}
