@@ -70,9 +70,6 @@ module _ (s : List ℕ) (n : ℕ) (ls es : List ℕ) (nl ne : ℕ) (ls′ es′ 
       let num = H .locNumber in
       omega arith
 
-  outcome : (sts : List Stmt) (t : Listing) → Explored
-  outcome sts t = addEdges (places 1024 (length ls)) (places 2048 (length es)) i (edgesOf sts (locAt (t .locs) i)) t
-
   module _ (lt : i < nl′) (ls″ es″ : List ℕ) (x : Grown) (T : Turn s n ls′ es′ nl′ ne′ i ls″ es″ x) where
     -- the next location
     pub explores-next : (a b : ℕ) → x ≡ Added a b → Explores s n ls es nl ne ls″ es″ a b (i + 1)

@@ -68,7 +68,7 @@ no-refusal false true true e = (refl, refl, refl)
 no-refusal false true false e = absurd (omega arith)
 no-refusal false false c e = absurd (omega arith)
 
-pub fields-hold : (r : List ℕ) → fieldsS r ≡ true
+fields-hold : (r : List ℕ) → fieldsS r ≡ true
     → (pointerField (usesU (byte r 1)) (byte r 2) ≡ true) × (pointerField (usesW (byte r 1)) (byte r 3) ≡ true)
     × (targetField (usesFirst (byte r 1)) (byte r 4) ≡ true) × (targetField (usesSecond (byte r 1)) (byte r 5) ≡ true) × (all isZero (drop 6 r) ≡ true)
 fields-hold r h =
@@ -87,7 +87,7 @@ fields-hold r h =
       and-r t4 (all isZero (drop 6 r)) h,
     )
 
-pub pointer-low : (used : Bool) (b : ℕ) → pointerField used b ≡ true → b < 6
+pointer-low : (used : Bool) (b : ℕ) → pointerField used b ≡ true → b < 6
 pointer-low true b h = ltb-true b 6 h
 pointer-low false b h = omega (arith, eqb-true b 0 h)
 

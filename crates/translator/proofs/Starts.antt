@@ -93,9 +93,6 @@ module _ (s : List ℕ) (n m : ℕ) (g : check s ≡ good (routineOf n s)) (A : 
   enter-none ls e = e ∙ sym (table-empty (length ls))
 
   -- the listing of the starting shapes, before the first edge
-  starting : Listing
-  starting = record { locs = startLocs n s; links = [] }
-
   pub starts-held : (ls es : List ℕ) → ls ≡ tableOf (length ls) (map locRecord (startLocs n s)) → es ≡ replicate (length es) 0 → m ≤ places 1024 (length ls)
       → Holds (record { locs = startLocs n s; links = [] }) ls es m 0
   starts-held ls es p q room = record {
