@@ -10,7 +10,7 @@ use lib.Seq.{length-take-le, take-all, take-suc}
 use Rattle.model.specs.Heap.{Heap}
 use Rattle.model.specs.Edges.{Loc, at}
 use Rattle.model.specs.Records.{locRecord, recordAt, shapeOf}
-use Rattle.model.specs.Translate.{Listing, check, good, places, tableOf}
+use Rattle.model.specs.Translate.{check, good, places, tableOf}
 use Rattle.model.proofs.Bytes.{records-wide, table-empty}
 use Rattle.model.proofs.Canon.{Canon}
 use Rattle.model.proofs.Checked.{check-good}
