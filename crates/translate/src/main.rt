@@ -3,8 +3,10 @@ use libc::STDIN_FILENO;
 use libc::STDOUT_FILENO;
 use model::Translated;
 ghost use mathlib.Core.Path.{_≡_};
-ghost use Prim.Native.Nat.{_*_, _≤_, _<_};
-ghost use lib.ListN.{length};
+ghost use mathlib.Core.List.{_++_};
+ghost use Prim.Native.Nat.{_+_, _*_, _≤_, _<_};
+ghost use lib.ListN.{length, take, drop};
+ghost use Rattle.translate.specs.Text.{digitOf, byteOf, lineOf, linesOf};
 
 // A table for 1,024 locations.
 fn location_table() -> [u8; 32768]
@@ -23,19 +25,28 @@ fn line_room() -> [u8; 133120]
 // The hex digit of a number below 16.
 fn digit(n: u8) -> u8
     requires { ⌜ n < 16 ⌝ }
+    ensures { λ r. ⌜ r ≡ digitOf n ⌝ }
 {
     if n < 10 { 48 + n } else { 87 + n }
+}
+
+// The two digits of byte i of a record, in their place.
+fn write_byte(byte: u8, line: &mut [u8], i: usize)
+    requires { ⌜ 2 * i + 2 ≤ length (now line) ⌝ }
+    ensures { λ _. ⌜ now (line .exit) ≡ take (2 * i) (now (line .entry)) ++ (byteOf byte ++ drop (2 * i + 2) (now (line .entry))) ⌝ }
+{
+    line[2 * i] = digit(byte / 16);
+    line[2 * i + 1] = digit(byte % 16);
 }
 
 // A record as a line: two digits for each of its 32 bytes.
 fn write_line(rec: &[u8], line: &mut [u8])
     requires { ⌜ (32 ≤ length (now rec)) × (65 ≤ length (now line)) ⌝ }
+    ensures { λ _. ⌜ now (line .exit) ≡ lineOf (take 32 (now (rec .entry))) ++ drop 65 (now (line .entry)) ⌝ }
 {
     let mut i = 0;
     while i < 32 {
-        let byte = rec[i];
-        line[2 * i] = digit(byte / 16);
-        line[2 * i + 1] = digit(byte % 16);
+        write_byte(rec[i], line, i);
         i += 1;
     }
     line[64] = 0x0a;
@@ -44,6 +55,7 @@ fn write_line(rec: &[u8], line: &mut [u8])
 // The first n records of a table as lines.
 fn write_lines(table: &[u8], n: usize, text: &mut [u8])
     requires { ⌜ (32 * n ≤ length (now table)) × (65 * n ≤ length (now text)) ⌝ }
+    ensures { λ _. ⌜ now (text .exit) ≡ linesOf n (now (table .entry)) ++ drop (65 * n) (now (text .entry)) ⌝ }
 {
     let mut i = 0;
     while i < n {
@@ -54,7 +66,7 @@ fn write_lines(table: &[u8], n: usize, text: &mut [u8])
     }
 }
 
-// Prints the first n records of a table.
+// Prints the first n records of a table: what `write_all` is handed is `linesOf n` of the table.
 fn print_records(table: &[u8], n: usize)
     requires { ⌜ (n ≤ 2048) × (32 * n ≤ length (now table)) ⌝ }
 {

@@ -1,26 +1,50 @@
--- `write_line` is safe: a turn writes two digits.
-use Prim.Native.Nat.{_-_, _≤_}
-use mathlib.Core.Path.{_≡_}
+-- `write_line` meets its contract: the first i bytes are written.
+use Prim.Native.Nat.{_+_, _*_, _-_, _≤_}
+use mathlib.Core.Path.{_≡_, refl, sym, ap, ap₂, _∙_}
+use mathlib.Core.List.{[], _∷_, _++_, map}
 use native.Mathlib.Omega.{arith}
-use lib.ListN.{length, length-set}
+use lib.ListN.{length, getD, take, drop}
+use lib.Seq.{set-split}
 use borrow.Author.Needs.{needs}
+use Rattle.model.specs.Base.{joined}
+use Rattle.translate.specs.Text.{byteOf}
+use Rattle.translate.proofs.Lines.{bytes-next, put-next}
 use Rattle.translate.proofs.write_line.Statement.{statement}
 use Rattle.translate.proofs.write_line.Tie as tie
 
 abbrev Inv-loop : tie.InvT-loop
-Inv-loop rec line₀ i₀ line i = (i ≤ 32) × (length line ≡ length line₀)
+Inv-loop rec line₀ i₀ line i = (i ≤ 32) × (length line ≡ length line₀) × (line ≡ joined (map byteOf (take i rec)) ++ drop (2 * i) line₀)
 
 abbrev μ-loop : tie.MeasureT-loop
 μ-loop rec line₀ i₀ line i = 32 - i
 
-digit-requires : tie.Need-digit-requires Inv-loop μ-loop
-digit-requires c κs = omega (arith, c .shared-slice-known2 .given (c .before .before .loop .i))
-
-slice-write-line-2 : tie.Need-slice-write-line-2 Inv-loop μ-loop
-slice-write-line-2 c = simp length-set (omega arith)
+loop-holds : tie.Need-loop-holds Inv-loop μ-loop
+loop-holds c = (omega arith, refl, refl)
 
 loop-again : tie.Need-loop-again Inv-loop μ-loop
-loop-again c = simp length-set (omega arith)
+loop-again c =
+    let b = c .before .before .before .before .before .before in
+    let l = b .loop in
+    let a = b .before .before .before .args in
+    let r = a .rec .now in
+    let k = c .before .before .write-byte in
+    let e : 2 * l .i + 2 ≡ 2 * (l .i + 1) = omega arith in (
+      omega arith,
+      k .kept .1 .0 ∙ l .inv .1,
+      k .ensures
+          ∙ put-next (a .line .now) (l .line) (joined (map byteOf (take (l .i) r))) (byteOf (getD r (l .i) 0)) (2 * l .i) 2 (l .inv .1) (omega arith) (l .inv .2)
+          ∙ ap₂ (λ w m. w ++ drop m (a .line .now)) (sym (bytes-next r (l .i) (omega arith))) e,
+    )
+
+returns : tie.Need-returns Inv-loop μ-loop
+returns c =
+    let l = c .before .loop in
+    let a = c .before .before .before .before .args in
+    let r = a .rec .now in
+    let e : l .i ≡ 32 = omega arith in
+    let w = l .inv .2 ∙ ap (λ i. joined (map byteOf (take i r)) ++ drop (2 * i) (a .line .now)) e in
+    set-split (l .line) 64 10 (omega arith)
+    ∙ put-next (a .line .now) (l .line) (joined (map byteOf (take 32 r))) (10 ∷ []) 64 1 (l .inv .1) (omega arith) w
 
 pub write-line-spec : {M : Type 1} → statement M
 write-line-spec =
@@ -28,18 +52,12 @@ write-line-spec =
     (tie.spec
     Inv-loop
     μ-loop
-    (λ c. search needs)
-    (λ c. search needs)
-    digit-requires
-    (λ c. search needs)
+    loop-holds
     (λ c. search needs)
     (λ c κs. search needs)
-    (λ c. search needs)
-    (λ c. search needs)
-    slice-write-line-2
     (λ c. search needs)
     (λ c. search needs)
     loop-again
     (λ c. search needs)
     (λ c. search needs)
-    (λ c. search needs))
+    returns)
