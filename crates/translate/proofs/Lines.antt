@@ -21,6 +21,12 @@ put-next t s w v a n k h e =
     let d : drop (a + n) (w ++ r) ≡ drop (a + n) t = ap (λ m. drop (m + n) (w ++ r)) (sym l) ∙ drop-append-add w r n ∙ drop-drop n a t in
     ap (λ x. take a x ++ (v ++ drop (a + n) x)) e ∙ ap₂ (λ x y. x ++ (v ++ y)) (take-at w r a l) d ∙ sym (append-assoc w v (drop (a + n) t))
 
+-- and w is what stands before the place a
+pub front-is : (t s w : List ℕ) (a : ℕ) → length s ≡ length t → a ≤ length t → s ≡ w ++ drop a t → take a s ≡ w
+front-is t s w a k h e =
+    let r = drop a t in
+    ap (take a) e ∙ take-at w r a (omega (arith, ap length e, length-append w r, length-drop a t))
+
 -- the bytes of a record, one more
 pub bytes-next : (r : List ℕ) (i : ℕ) → i < length r → joined (map byteOf (take (i + 1) r)) ≡ joined (map byteOf (take i r)) ++ byteOf (getD r i 0)
 bytes-next r i h =

@@ -66,13 +66,21 @@ fn write_lines(table: &[u8], n: usize, text: &mut [u8])
     }
 }
 
-// Prints the first n records of a table: what `write_all` is handed is `linesOf n` of the table.
+// The same as a text of its own: the bytes before the place that is answered.
+fn write_text(table: &[u8], n: usize, text: &mut [u8]) -> usize
+    requires { ⌜ (n ≤ 2048) × (32 * n ≤ length (now table)) × (65 * n ≤ length (now text)) ⌝ }
+    ensures { λ r. ⌜ (r ≤ length (now (text .exit))) × (take r (now (text .exit)) ≡ linesOf n (now (table .entry))) ⌝ }
+{
+    write_lines(table, n, text);
+    65 * n
+}
+
+// Prints the first n records of a table.
 fn print_records(table: &[u8], n: usize)
     requires { ⌜ (n ≤ 2048) × (32 * n ≤ length (now table)) ⌝ }
 {
     let mut text = line_room();
-    write_lines(table, n, &mut text);
-    let end = 65 * n;
+    let end = write_text(table, n, &mut text);
     io::write_all(STDOUT_FILENO, &text[..end]);
 }
 

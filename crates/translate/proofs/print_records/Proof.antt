@@ -1,7 +1,5 @@
 -- `print_records` is safe: the lines have room.
-use Prim.Native.Nat.{_*_}
 use mathlib.Core.Path.{sym}
-use native.Mathlib.Omega.{arith}
 use lib.Seq.{length-take-le}
 use borrow.Author.Needs.{needs}
 use Rattle.translate.proofs.print_records.Statement.{statement}
@@ -9,8 +7,8 @@ use Rattle.translate.proofs.print_records.Tie as tie
 
 slice-aggregate-write-all : tie.Need-slice-aggregate-write-all
 slice-aggregate-write-all c =
-    let n = c .before .before .before .before .before .before .args .n in
-    sym (length-take-le (65 * n) (c .before .before .write-lines .last .1 .1 .0) (omega arith))
+    let w = c .before .before .write-text in
+    sym (length-take-le (w .result) (w .last .1 .1 .0) (w .ensures .0))
 
 pub print-records-spec : {M : Type 1} → statement M
 print-records-spec =
@@ -19,7 +17,6 @@ print-records-spec =
     (λ c κs. search needs)
     (λ c. search needs)
     (λ c κs. search needs)
-    (λ c. search needs)
     (λ c. search needs)
     slice-aggregate-write-all
     (λ c κs. search needs)
