@@ -1,14 +1,15 @@
--- Parts of lists: what is left from a place on and what stands before it, with tests, maps and sums of these, for a loop at that place; a part that is lent.
+-- Parts of lists: what is left from a place on and what stands before it, with tests, maps and sums of these, for a loop at that place; a part that is lent; a front that is written.
 use Prim.Native.Nat.{_+_, _-_, _<_, _≤_, suc, zero, ℕ}
-use mathlib.Core.Path.{_∙_, _≡_, ap, sym}
+use mathlib.Core.Path.{_∙_, _≡_, ap, ap₂, sym}
 use mathlib.Core.Bool.{Bool, _&&_, true}
 use mathlib.Core.List.{List, [], _++_, _∷_, append-assoc, append-nil, map, map-append}
 use native.Mathlib.Numerals.{add-one}
 use native.Mathlib.Omega.{arith}
-use lib.ListN.{drop, drop-of-length-le, getD, length, length-drop, length-map, set, take}
-use lib.Seq.{drop-cons, drop-drop, length-take-le, paste-suc, set-at, take-all, take-suc}
+use lib.ListN.{drop, drop-of-length-le, getD, length, length-append, length-drop, length-map, set, take}
+use lib.Seq.{drop-append-add, drop-cons, drop-drop, length-take-le, paste-suc, set-at, take-all, take-at, take-suc}
 use borrow.Rule.Slice.PartMut.{midOf, putMid}
-use Rattle.model.specs.Base.{all, sum}
+use Rattle.model.specs.Base.{all, joined, sum}
+use Rattle.model.proofs.Lists.{joined-snoc}
 
 -- what is left from i on
 pub drop-step : (l : List ℕ) (i : ℕ) → i < length l → drop i l ≡ getD l i 0 ∷ drop (i + 1) l
@@ -17,6 +18,11 @@ drop-step l i h = drop-cons l i 0 h ∙ ap (λ n. getD l i 0 ∷ drop n l) (sym 
 -- one element more of the front
 pub take-next : (l : List ℕ) (i : ℕ) → i < length l → take (i + 1) l ≡ take i l ++ getD l i 0 ∷ []
 take-next l i h = ap (λ n. take n l) (add-one i) ∙ take-suc l i 0 h
+
+-- lists made of the elements, joined: one more
+pub joined-next : (f : ℕ → List ℕ) (l : List ℕ) (i : ℕ) → i < length l → joined (map f (take (i + 1) l)) ≡ joined (map f (take i l)) ++ f (getD l i 0)
+joined-next f l i h =
+    ap (λ x. joined (map f x)) (take-next l i h) ∙ ap joined (map-append f (take i l) (getD l i 0 ∷ [])) ∙ joined-snoc (map f (take i l)) (f (getD l i 0))
 
 -- the part from a on, as a lent part has it
 pub part-from : (l : List ℕ) (a : ℕ) → take (length l - a) (drop a l) ≡ drop a l
@@ -29,6 +35,21 @@ put-back xs r ys a n e =
     let l : length (drop a xs) ≤ length xs - a = omega (arith, length-drop a xs) in
     let p : drop (length xs - a) (drop a xs) ≡ [] = drop-of-length-le (drop a xs) l in
     rw (e, part-from xs a, p, append-nil, drop-drop)
+
+-- s is t with w over its first a places: n places more, written with v
+pub put-next : (t s w v : List ℕ) (a n : ℕ) → length s ≡ length t → a ≤ length t → s ≡ w ++ drop a t
+    → take a s ++ (v ++ drop (a + n) s) ≡ (w ++ v) ++ drop (a + n) t
+put-next t s w v a n k h e =
+    let r = drop a t in
+    let l : length w ≡ a = omega (arith, ap length e, length-append w r, length-drop a t) in
+    let d : drop (a + n) (w ++ r) ≡ drop (a + n) t = ap (λ m. drop (m + n) (w ++ r)) (sym l) ∙ drop-append-add w r n ∙ drop-drop n a t in
+    ap (λ x. take a x ++ (v ++ drop (a + n) x)) e ∙ ap₂ (λ x y. x ++ (v ++ y)) (take-at w r a l) d ∙ sym (append-assoc w v (drop (a + n) t))
+
+-- and w is what stands before place a
+pub front-is : (t s w : List ℕ) (a : ℕ) → length s ≡ length t → a ≤ length t → s ≡ w ++ drop a t → take a s ≡ w
+front-is t s w a k h e =
+    let r = drop a t in
+    ap (take a) e ∙ take-at w r a (omega (arith, ap length e, length-append w r, length-drop a t))
 
 -- one turn of a loop that tests each element, and its end
 pub all-step : (p : ℕ → Bool) (l : List ℕ) (i : ℕ) → i < length l → all p (drop i l) ≡ p (getD l i 0) && all p (drop (i + 1) l)

@@ -1,19 +1,17 @@
 -- The bytes that the writers leave are those of the definitions, and those are the records of the model.
 use Prim.Native.Nat.{ℕ, suc, _+_, _-_, _*_, _/_, _%_, _≤_, _<_}
 use mathlib.Core.Path.{_≡_, refl, sym, ap, ap₂, _∙_}
-use mathlib.Core.List.{List, [], _∷_, _++_, append-assoc, append-nil, map, map-map, map-append}
-use native.Mathlib.Numerals.{add-one}
+use mathlib.Core.List.{List, [], _∷_, _++_, append-assoc, append-nil, map, map-map}
 use native.Mathlib.Omega.{arith}
 use lib.ListN.{length, getD, set, take, drop, replicate, length-append, length-drop, length-map}
-use lib.Seq.{drop-append-add, drop-drop, length-take-le, sets-eq, take-at, take-suc}
+use lib.Seq.{length-take-le, sets-eq}
 use borrow.Rule.Slice.PartMut.{midOf, putMid}
 use Rattle.model.specs.Base.{joined}
 use Rattle.model.specs.Heap.{Heap}
 use Rattle.model.specs.Edges.{Edge}
 use Rattle.model.specs.Records.{edgeRecord, filled, guardBytes, shapeBytes, slotByte, twoBytes, updateCode, valByte}
 use Rattle.model.specs.Shape.{segments, shape}
-use Rattle.model.proofs.Lists.{joined-snoc}
-use Rattle.model.proofs.Slices.{put-back}
+use Rattle.model.proofs.Slices.{joined-next, put-back, put-next}
 use Rattle.record.specs.Written.{edgeBytes, updateBytes}
 use Rattle.record.proofs.ListLaws.{drop-zeros}
 
@@ -58,18 +56,15 @@ updates-turn p us j h k =
     let pre = take 8 p ++ updateBytes us j in
     let lp : length pre ≡ n =
     length-append (take 8 p) (updateBytes us j) ∙ ap₂ _+_ (length-take-le 8 p (omega arith)) (updates-length us j (omega arith)) in
-    let lw : length (pre ++ drop n p) ≡ length p = omega (arith, length-append pre (drop n p), length-drop n p) in
-    let s = sets-eq (twoBytes u) (pre ++ drop n p) n (omega arith) in
-    let t : take n (pre ++ drop n p) ≡ pre = take-at pre (drop n p) n lp in
+    let x = pre ++ drop n p in
+    let lw : length x ≡ length p = omega (arith, length-append pre (drop n p), length-drop n p) in
+    let s = sets-eq (twoBytes u) x n (omega arith) in
     let next : n + 2 ≡ 8 + 2 * (j + 1) = omega arith in
-    let d : drop (n + 2) (pre ++ drop n p) ≡ drop (8 + 2 * (j + 1)) p =
-    ap (λ m. drop (m + 2) (pre ++ drop n p)) (sym lp) ∙ drop-append-add pre (drop n p) 2 ∙ drop-drop 2 n p ∙ ap (λ m. drop m p) next in
-    let more : updateBytes us (j + 1) ≡ updateBytes us j ++ twoBytes u =
-    ap (λ m. updateBytes us m) (add-one j) ∙ ap (λ l. joined (map twoBytes l)) (take-suc us j 0 k)
-    ∙ ap joined (map-append twoBytes (take j us) (u ∷ [])) ∙ joined-snoc (map twoBytes (take j us)) (twoBytes u) in
+    let more : updateBytes us (j + 1) ≡ updateBytes us j ++ twoBytes u = joined-next twoBytes us j k in
     let second : 9 + 2 * j ≡ suc n = omega arith in
     rw (second, ← append-assoc (take 8 p) (updateBytes us j) (drop n p)) s
-    ∙ ap₂ (λ x y. x ++ twoBytes u ++ y) t d ∙ rw more (simp append-assoc)
+    ∙ append-assoc (take n x) (twoBytes u) (drop (n + 2) x) ∙ put-next p x pre (twoBytes u) n 2 lw (omega arith) refl
+    ∙ ap (λ m. (pre ++ twoBytes u) ++ drop m p) next ∙ rw more (simp append-assoc)
 
 -- the record of an edge, its first eight bytes and then its updates in a record of zeros
 pub edge-is : (a b c d e f g h : ℕ) (us z : List ℕ) (k : ℕ) → k ≤ 12 → k ≤ length us

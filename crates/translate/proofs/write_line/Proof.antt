@@ -7,8 +7,8 @@ use lib.ListN.{length, getD, take, drop}
 use lib.Seq.{set-split}
 use borrow.Author.Needs.{needs}
 use Rattle.model.specs.Base.{joined}
+use Rattle.model.proofs.Slices.{joined-next, put-next}
 use Rattle.translate.specs.Text.{byteOf}
-use Rattle.translate.proofs.Lines.{bytes-next, put-next}
 use Rattle.translate.proofs.write_line.Statement.{statement}
 use Rattle.translate.proofs.write_line.Tie as tie
 
@@ -33,7 +33,7 @@ loop-again c =
       k .kept .1 .0 ∙ l .inv .1,
       k .ensures
           ∙ put-next (a .line .now) (l .line) (joined (map byteOf (take (l .i) r))) (byteOf (getD r (l .i) 0)) (2 * l .i) 2 (l .inv .1) (omega arith) (l .inv .2)
-          ∙ ap₂ (λ w m. w ++ drop m (a .line .now)) (sym (bytes-next r (l .i) (omega arith))) e,
+          ∙ ap₂ (λ w m. w ++ drop m (a .line .now)) (sym (joined-next byteOf r (l .i) (omega arith))) e,
     )
 
 returns : tie.Need-returns Inv-loop μ-loop

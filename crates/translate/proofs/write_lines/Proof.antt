@@ -5,9 +5,9 @@ use mathlib.Core.List.{_++_}
 use native.Mathlib.Omega.{arith}
 use lib.ListN.{length, take, drop}
 use borrow.Author.Needs.{needs}
-use Rattle.model.proofs.Slices.{part-from, put-back}
+use Rattle.model.proofs.Slices.{part-from, put-back, put-next}
 use Rattle.translate.specs.Text.{lineOf, linesOf}
-use Rattle.translate.proofs.Lines.{lines-next, put-next}
+use Rattle.translate.proofs.Lines.{lines-next}
 use Rattle.translate.proofs.write_lines.Statement.{statement}
 use Rattle.translate.proofs.write_lines.Tie as tie
 

@@ -2,8 +2,8 @@
 use Prim.Native.Nat.{_*_}
 use native.Mathlib.Omega.{arith}
 use borrow.Author.Needs.{needs}
+use Rattle.model.proofs.Slices.{front-is}
 use Rattle.translate.specs.Text.{linesOf}
-use Rattle.translate.proofs.Lines.{front-is}
 use Rattle.translate.proofs.write_text.Statement.{statement}
 use Rattle.translate.proofs.write_text.Tie as tie
 
