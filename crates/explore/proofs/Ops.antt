@@ -39,25 +39,25 @@ op-chooses op u w m =
 -- ---- targets
 
 -- the branch of a test, or of a choice, leads to one of two targets
-test-below : (st : Stmt) (n : ℕ) (b : Bool) → st .first < n → st .second < n → target st (test b) < n
+test-below : (st : Stmt) (n : ℕ) (b : Bool) → st .firstTarget < n → st .secondTarget < n → target st (test b) < n
 test-below st n true p q = p
 test-below st n false p q = q
 
-pick-below : (st : Stmt) (n b : ℕ) → st .first < n → st .second < n → target st b < n
+pick-below : (st : Stmt) (n b : ℕ) → st .firstTarget < n → st .secondTarget < n → target st b < n
 pick-below st n zero p q = p
 pick-below st n (suc b) p q = q
 
 module _ (u w f t n p : ℕ) (h : Heap) where
   abbrev Leads : ℕ → Type 0
   Leads op = isStop (kind (opOf op u w)) ≡ false → targetBelow n (usesFirst op) f ≡ true → targetBelow n (usesSecond op) t ≡ true
-      → target (record { op = opOf op u w; first = f; second = t }) (branch (opOf op u w) p h) < n
+      → target (record { op = opOf op u w; firstTarget = f; secondTarget = t }) (branch (opOf op u w) p h) < n
 
   op-leads : (op : ℕ) → op ≤ 11 → Leads op
   op-leads = each-op Leads (λ g a b. clash refl g) (λ g a b. ltb-true f n a) (λ g a b. ltb-true f n a) (λ g a b. ltb-true f n a) (λ g a b. ltb-true f n a)
       (λ g a b. ltb-true f n a) (λ g a b. ltb-true f n a) (λ g a b. ltb-true f n a)
-      (λ g a b. test-below (record { op = opOf 8 u w; first = f; second = t }) n (sameVal (ptr h u) null) (ltb-true f n a) (ltb-true t n b))
-      (λ g a b. test-below (record { op = opOf 9 u w; first = f; second = t }) n (sameVal (ptr h u) (ptr h w)) (ltb-true f n a) (ltb-true t n b))
-      (λ g a b. pick-below (record { op = opOf 10 u w; first = f; second = t }) n p (ltb-true f n a) (ltb-true t n b)) (λ g a b. ltb-true f n a)
+      (λ g a b. test-below (record { op = opOf 8 u w; firstTarget = f; secondTarget = t }) n (sameVal (ptr h u) null) (ltb-true f n a) (ltb-true t n b))
+      (λ g a b. test-below (record { op = opOf 9 u w; firstTarget = f; secondTarget = t }) n (sameVal (ptr h u) (ptr h w)) (ltb-true f n a) (ltb-true t n b))
+      (λ g a b. pick-below (record { op = opOf 10 u w; firstTarget = f; secondTarget = t }) n p (ltb-true f n a) (ltb-true t n b)) (λ g a b. ltb-true f n a)
 
 -- an accepted statement that is no stop leads to one of the n statements
 pub target-below : (n : ℕ) (r : List ℕ) (p : ℕ) (h : Heap) → refusalS n r ≡ 0 → byte r 1 ≤ 11 → isStop (kind (stmtOf r .op)) ≡ false

@@ -8,7 +8,7 @@ use lib.Dec.{eqb}
 use lib.ListN.{length, replicate, getD-replicate}
 use borrow.Author.Tests.{ne-eqb}
 use Rattle.model.specs.Heap.{Heap}
-use Rattle.model.specs.Machine.{Answer, refused, done, Op, Stmt, accepts, answerOf, branch, kind, run, target, unlessStop}
+use Rattle.model.specs.Machine.{Answer, refused, done, Op, Stmt, accepts, answerOf, branch, kind, carryOut, target, unlessStop}
 use Rattle.model.specs.Records.{byte, opOf, stmtOf}
 use Rattle.model.specs.Image.{Stepping, answered, heapOf, pastEnd, refusalStep, stays, stepImage}
 use Rattle.model.proofs.Ops.{op-goes}
@@ -45,12 +45,12 @@ module _ {op u w x : ℕ} {ps cs : List ℕ} where
     pub copies-back : {qs ds : List ℕ} (f : ℕ) → RunOn op u w x vs ws f qs ds → (ps′ cs′ : List ℕ) → ps′ ≡ cond (eqb f 0) qs ps → cs′ ≡ cond (eqb f 0) ds cs
         → Finished op u w x ps cs f ps′ cs′
     copies-back {qs} {ds} zero d ps′ cs′ p q = record {
-      ran = record { outcome = ap₂ (λ y z. done (heapOf y z)) p q ∙ d .outcome ∙ ap₂ (λ y z. run (opOf op u w) x (heapOf y z)) a b; low = d .low };
+      ran = record { outcome = ap₂ (λ y z. done (heapOf y z)) p q ∙ d .outcome ∙ ap₂ (λ y z. carryOut (opOf op u w) x (heapOf y z)) a b; low = d .low };
       stays = λ n. absurd (n refl);
     }
     copies-back {qs} {ds} (suc f) d ps′ cs′ p q = record {
       ran = record {
-        outcome = fault-any f (heapOf ps′ cs′) (heapOf qs ds) ∙ d .outcome ∙ ap₂ (λ y z. run (opOf op u w) x (heapOf y z)) a b;
+        outcome = fault-any f (heapOf ps′ cs′) (heapOf qs ds) ∙ d .outcome ∙ ap₂ (λ y z. carryOut (opOf op u w) x (heapOf y z)) a b;
         low = d .low;
       };
       stays = λ n. (p ∙ rw (ne-eqb (suc f) 0 n), q ∙ rw (ne-eqb (suc f) 0 n));
@@ -58,10 +58,10 @@ module _ {op u w x : ℕ} {ps cs : List ℕ} where
 
 -- ---- the answer
 
-pub first-target : (op : Op) (f s b : ℕ) → b ≡ 0 → f ≡ target (record { op = op; first = f; second = s }) b
+pub first-target : (op : Op) (f s b : ℕ) → b ≡ 0 → f ≡ target (record { op = op; firstTarget = f; secondTarget = s }) b
 first-target op f s b e = rw e
 
-pub second-target : (op : Op) (f s b : ℕ) → (b ≡ 0 → ⊥) → s ≡ target (record { op = op; first = f; second = s }) b
+pub second-target : (op : Op) (f s b : ℕ) → (b ≡ 0 → ⊥) → s ≡ target (record { op = op; firstTarget = f; secondTarget = s }) b
 second-target op f s zero n = absurd (n refl)
 second-target op f s (suc b) n = refl
 
@@ -96,7 +96,7 @@ with-taken false false x ps cs e = let z : _≡_ {A = ℕ} 0 1 = cc in absurd (o
 
 -- what a statement other than stop answers on the image ps, cs
 abbrev ranAnswer : Stmt → ℕ → ℕ → List ℕ → List ℕ → Answer
-ranAnswer st p c ps cs = answerOf st (branch (st .op) p (heapOf ps cs)) (run (st .op) c (heapOf ps cs))
+ranAnswer st p c ps cs = answerOf st (branch (st .op) p (heapOf ps cs)) (carryOut (st .op) c (heapOf ps cs))
 
 -- the step of record r, pick p and cell c on the image ps, cs; a is what the test of the entry gives
 module _ (r : List ℕ) (p c : ℕ) (ps cs : List ℕ) {a : Bool} (e : a ≡ accepted (kind (opOf (byte r 1) (byte r 2) (byte r 3))) p c ps cs) where

@@ -6,7 +6,7 @@ use mathlib.Core.List.{List}
 use lib.ListN.{length, take}
 use Rattle.model.specs.Heap.{Heap, IsHeap, inUse, next, order}
 use Rattle.model.specs.Shape.{shape, counters}
-use Rattle.model.specs.Machine.{kind, run, step}
+use Rattle.model.specs.Machine.{kind, carryOut, step}
 use Rattle.model.specs.Records.{filled, shapeRecord, opOf, stmtOf}
 use Rattle.model.specs.Image.{Folding, Stepping, heapOf, pastEnd, stays, answered}
 use Rattle.effect.specs.Effect.{EffectReady, effectOf}
@@ -38,7 +38,7 @@ pub record StepReady (op u w x : ℕ) (ps cs : List ℕ) : Type 0 where
 
 -- the fault r and the image qs, ds afterwards are what the machine's run of the image ps, cs gives
 pub record RunOn (op u w x : ℕ) (ps cs : List ℕ) (r : ℕ) (qs ds : List ℕ) : Type 0 where
-  pub outcome : effectOf r (heapOf qs ds) ≡ run (opOf op u w) x (heapOf ps cs)
+  pub outcome : effectOf r (heapOf qs ds) ≡ carryOut (opOf op u w) x (heapOf ps cs)
   pub low : r ≤ 3
 
 -- and a fault leaves the image

@@ -84,7 +84,7 @@ pub fn run_statement(
 
 // The next statement: the first target for branch 0, else the second.
 pub fn next_of(first: u8, second: u8, branch: u8) -> Statement
-    ensures { λ r. ⌜ ((op : Op) → r .0 ≡ target (record { op = op; first = first; second = second }) branch) ⌝ }
+    ensures { λ r. ⌜ ((op : Op) → r .0 ≡ target (record { op = op; firstTarget = first; secondTarget = second }) branch) ⌝ }
 {
     if branch == 0 {
         return Statement(first);

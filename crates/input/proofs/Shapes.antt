@@ -2,7 +2,7 @@
 use Prim.Native.Nat.{ℕ, _≤_}
 use native.Mathlib.Omega.{arith}
 use mathlib.Core.Path.{_≡_, sym, ap, _∙_}
-use mathlib.Core.Bool.{Bool, true, false, cond}
+use mathlib.Core.Bool.{Bool, true, false, cond, not}
 use mathlib.Core.List.{List}
 use lib.Dec.{eqb, ltb}
 use lib.ListN.{length, take, drop}
@@ -42,7 +42,7 @@ module _ (e : List (List ℕ)) (r : List ℕ) where
 
 -- ---- no number is above 10
 
-number-s : (a b c : Bool) → cond a 5 (cond b (cond c 0 7) 6) ≤ 10
+number-s : (a b c : Bool) → cond a 5 (cond (not b) 6 (cond (not c) 7 0)) ≤ 10
 number-s true b c = omega arith
 number-s false true true = omega arith
 number-s false true false = omega arith

@@ -240,9 +240,9 @@ field used b = cond used b 0
 abbrev pub stmtRecord : Stmt → List ℕ
 stmtRecord st =
     let n = opNumber (st .op) in
-    0x53 ∷ n ∷ pointerU (st .op) ∷ pointerW (st .op) ∷ field (usesFirst n) (st .first) ∷ field (usesSecond n) (st .second) ∷ replicate 26 0
+    0x53 ∷ n ∷ pointerU (st .op) ∷ pointerW (st .op) ∷ field (usesFirst n) (st .firstTarget) ∷ field (usesSecond n) (st .secondTarget) ∷ replicate 26 0
 
 -- the targets that the op does not use are zero
 pub record UnusedZero (st : Stmt) : Type 0 where
-  pub first : usesFirst (opNumber (st .op)) ≡ false → st .first ≡ 0
-  pub second : usesSecond (opNumber (st .op)) ≡ false → st .second ≡ 0
+  pub first : usesFirst (opNumber (st .op)) ≡ false → st .firstTarget ≡ 0
+  pub second : usesSecond (opNumber (st .op)) ≡ false → st .secondTarget ≡ 0

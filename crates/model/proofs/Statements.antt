@@ -1,7 +1,7 @@
 -- Statement records: how a statement is written, that it is read back, and that an accepted record is written again as it stood.
 use Prim.Native.Nat.{_<_, _≤_, ℕ}
 use mathlib.Core.Path.{_∙_, _≡_, ap, refl, sym}
-use mathlib.Core.Bool.{Bool, _&&_, cond, false, true}
+use mathlib.Core.Bool.{Bool, _&&_, cond, false, true, not}
 use mathlib.Core.List.{List, [], _∷_}
 use native.Mathlib.Omega.{arith}
 use lib.Dec.{ltb}
@@ -39,8 +39,8 @@ statement-back st z =
     let n = opNumber (st .op) in
     λ i. record {
       op = op-back (st .op) i;
-      first = field-same (usesFirst n) (st .first) (z .first) i;
-      second = field-same (usesSecond n) (st .second) (z .second) i;
+      firstTarget = field-same (usesFirst n) (st .firstTarget) (z .first) i;
+      secondTarget = field-same (usesSecond n) (st .secondTarget) (z .second) i;
     }
 
 -- what an op number is read as
@@ -62,7 +62,7 @@ target-zero false b h e = eqb-true b 0 h
 
 -- ---- what the tests of a record that is not refused say
 
-pub no-refusal : (a b c : Bool) → _≡_ {A = ℕ} (cond a 5 (cond b (cond c 0 7) 6)) 0 → (a ≡ false) × (b ≡ true) × (c ≡ true)
+pub no-refusal : (a b c : Bool) → _≡_ {A = ℕ} (cond a 5 (cond (not b) 6 (cond (not c) 7 0))) 0 → (a ≡ false) × (b ≡ true) × (c ≡ true)
 no-refusal true b c e = absurd (omega arith)
 no-refusal false true true e = (refl, refl, refl)
 no-refusal false true false e = absurd (omega arith)

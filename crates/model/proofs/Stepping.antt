@@ -10,7 +10,7 @@ use lib.ListN.{length, length-map}
 use borrow.Author.Tests.{leb-false}
 use Rattle.model.specs.Heap.{Heap, Slot, Val, cell, holds, next, null, ptr, undef, unused}
 use Rattle.model.specs.Image.{Stepping, answered, cellSlot, heapOf, pastEnd, refusalImage, refusalStep, stays, stepImage}
-use Rattle.model.specs.Machine.{Answer, Effect, Entry, Kind, Op, Stmt, accepts, allocates, answerOf, branch, choose, clear, copy, done, effect, fault, faulted, free, freeVal, held, isNull, keep, kind, load, new, other, picks, put, putSlot, refused, run, same, setNull, setPtr, skip, step, stop, stopped, stops, store, through, unlessStop, went, wipeSlot}
+use Rattle.model.specs.Machine.{Answer, Effect, Entry, Kind, Op, Stmt, accepts, allocates, answerOf, branch, choose, clear, copy, done, effect, fault, faulted, free, freeVal, held, isNull, keep, kind, load, new, other, picks, put, putSlot, refused, carryOut, same, setNull, setPtr, skip, step, stop, stopped, stops, store, through, unlessStop, went, wipeSlot}
 use Rattle.model.specs.Records.{byte, fieldsS, isS, slotByte, stmtOf, targetsS, valByte, valOf}
 use Rattle.model.proofs.Effects.{closed-ptr}
 use Rattle.model.proofs.Facts.{heap-closed, keep-any}
@@ -156,7 +156,7 @@ answer-lengths : (st : Stmt) (e : Entry) (ps cs : List ℕ) → ClosedHeap (heap
     → SameLengths ps cs (answered (step st e (heapOf ps cs)) ps cs)
 answer-lengths st e ps cs cl q =
     bool-case (accepts (kind (st .op)) e (heapOf ps cs))
-    (λ a. rw a (by-kind (kind (st .op)) (answerOf st (branch (st .op) (e .pick) (heapOf ps cs)) (run (st .op) (e .cellNo) (heapOf ps cs))) by-run))
+    (λ a. rw a (by-kind (kind (st .op)) (answerOf st (branch (st .op) (e .pick) (heapOf ps cs)) (carryOut (st .op) (e .cellNo) (heapOf ps cs))) by-run))
     (λ a. rw a (refl, refl))
   where
     by-effect : (b : ℕ) (x : Effect) → PtrsAre (length (heapOf ps cs .ptrs)) x → SlotsAre (length (heapOf ps cs .slots)) x
@@ -167,7 +167,7 @@ answer-lengths st e ps cs cl q =
       length-map (h .slots) slotByte ∙ v ∙ length-map cs cellSlot,
     )
 
-    by-run : SameLengths ps cs (answered (answerOf st (branch (st .op) (e .pick) (heapOf ps cs)) (run (st .op) (e .cellNo) (heapOf ps cs))) ps cs)
+    by-run : SameLengths ps cs (answered (answerOf st (branch (st .op) (e .pick) (heapOf ps cs)) (carryOut (st .op) (e .cellNo) (heapOf ps cs))) ps cs)
     by-run =
         let h = heapOf ps cs in
         let x = effect (st .op) (e .cellNo) h in

@@ -88,7 +88,7 @@ opOf op u w =
     getD (stop ∷ setNull u ∷ copy u w ∷ load u w ∷ clear u ∷ store u w ∷ new u ∷ free u ∷ isNull u ∷ same u w ∷ choose ∷ skip ∷ []) op stop
 
 abbrev pub stmtOf : List ℕ → Stmt
-stmtOf r = record { op = opOf (byte r 1) (byte r 2) (byte r 3); first = byte r 4; second = byte r 5 }
+stmtOf r = record { op = opOf (byte r 1) (byte r 2) (byte r 3); firstTarget = byte r 4; secondTarget = byte r 5 }
 
 -- H and L: 1 statement, 2 fault, 3 node count, 4 to 9 the pointers, 10 to 21 the successors
 abbrev pub valOf : ℕ → Val
@@ -140,7 +140,7 @@ targetsS n r =
     targetBelow n (usesFirst op) (byte r 4) && targetBelow n (usesSecond op) (byte r 5)
 
 abbrev pub refusalS : ℕ → List ℕ → ℕ
-refusalS n r = cond (ltb 11 (byte r 1)) 5 (cond (fieldsS r) (cond (targetsS n r) 0 7) 6)
+refusalS n r = cond (ltb 11 (byte r 1)) 5 (cond (not (fieldsS r)) 6 (cond (not (targetsS n r)) 7 0))
 
 -- a byte that is a value in a shape of k nodes
 abbrev pub valueByte : ℕ → ℕ → Bool

@@ -3,7 +3,7 @@ use Prim.Native.Nat.{ℕ}
 use mathlib.Core.Path.{_≡_}
 use mathlib.Core.List.{List}
 use lib.ListN.{set}
-use Rattle.model.specs.Runs.{DemandThree}
+use Rattle.model.specs.Runs.{IsRoutineOf}
 use Rattle.model.specs.Translate.{translate}
 
 -- three numbers at the first three places of a list; `set` past its end changes nothing
@@ -16,4 +16,4 @@ pub record Told (s : List ℕ) (a b : ℕ) (xs : List ℕ) (r : ℕ) (ys ls es :
   pub answer : ys ≡ told xs (translate s a b .refused .place) (translate s a b .tables .locCount) (translate s a b .tables .edgeCount)
   pub locations : ls ≡ translate s a b .tables .locBytes
   pub edges : es ≡ translate s a b .tables .edgeBytes
-  pub automaton : r ≡ 0 → DemandThree s (translate s a b .tables)
+  pub automaton : r ≡ 0 → IsRoutineOf s (translate s a b .tables)

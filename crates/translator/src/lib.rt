@@ -11,7 +11,7 @@ ghost use lib.ListN.{length, drop, replicate};
 ghost use Rattle.model.specs.Answers.{outcomeOf};
 ghost use Rattle.model.specs.Records.{locRecord, recordAt};
 ghost use Rattle.model.specs.Translate.{tableOf, translate};
-ghost use Rattle.model.specs.Runs.{DemandThree};
+ghost use Rattle.model.specs.Runs.{IsRoutineOf};
 ghost use Rattle.record.specs.Written.{placed};
 ghost use Rattle.translator.specs.Starts.{startBytes, startLocs, StartsReady, ListReady};
 
@@ -83,7 +83,7 @@ fn list(input: &[u8], n: usize, m: usize, locations: &mut [u8], edges: &mut [u8]
 pub fn translate(input: &[u8], locations: &mut [u8], edges: &mut [u8]) -> Translated
     ensures outcome { λ r. ⌜ outcomeOf r (now (locations .exit)) (now (edges .exit)) ≡ translate (now (input .entry)) (length (now (locations .entry))) (length (now (edges .entry))) ⌝ }
     ensures automaton { λ r. ⌜ (outcomeOf r (now (locations .exit)) (now (edges .exit)) .refused .number ≡ 0
-        → DemandThree (now (input .entry)) (outcomeOf r (now (locations .exit)) (now (edges .exit)) .tables)) ⌝ }
+        → IsRoutineOf (now (input .entry)) (outcomeOf r (now (locations .exit)) (now (edges .exit)) .tables)) ⌝ }
 {
     clear_both(locations, edges);
     match input::check(input) {
