@@ -11,9 +11,9 @@ use Rattle.model.specs.Base.{any, count, joined, numbers, placeOf}
 use Rattle.model.specs.Edges.{Edge, Loc, always, at, edgesOf, failed, sameLoc}
 use Rattle.model.specs.Heap.{Heap, Slot, Val, cell, holds, null, order, undef, unused}
 use Rattle.model.specs.Machine.{Op, Stmt, choose, clear, copy, free, isNull, leak, load, new, same, setNull, skip, stop, store}
-use Rattle.model.specs.Records.{isH, isS, refusalH, refusalS, shapeOf, stmtOf, usesFirst, usesSecond}
+use Rattle.model.specs.Records.{Refusal, isH, isS, refusal, refusalH, refusalS, shapeOf, stmtOf, usesFirst, usesSecond}
 use Rattle.model.specs.Runs.{added}
-use Rattle.model.specs.Translate.{Link, Listing, Refusal, Routine, addEdges, between, chunks, explore, full, grown, listed, refusal}
+use Rattle.model.specs.Translate.{Link, Listing, Routine, addEdges, between, chunks, explore, full, grown, listed}
 use Rattle.model.proofs.Lists.{Distinct, In}
 
 -- ---- what a listing holds

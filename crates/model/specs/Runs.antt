@@ -12,7 +12,7 @@ use Rattle.model.specs.Heap.{Heap, IsHeap, next, inUse}
 use Rattle.model.specs.Shape.{shape, counters}
 use Rattle.model.specs.Machine.{Stmt, Fault, faultNumber, Kind, stops, picks, allocates, other, kind, Entry, Answer, refused, stopped, faulted, went, step}
 use Rattle.model.specs.Edges.{stmtAt}
-use Rattle.model.specs.Records.{byte, word, recordAt, shapeOf}
+use Rattle.model.specs.Records.{isAccepted, byte, word, recordAt, shapeOf}
 use Rattle.model.specs.Translate.{good, check, Routine, Tables, translate}
 
 -- a step made or an edge taken: its branch, and what it leaves
@@ -201,4 +201,4 @@ IsRoutineOf s t = (r : Routine) → check s ≡ good r → IsRoutine r t
 
 -- Demand 3: for any accepted translation.
 unfoldable pub Demand3 : Type 0
-Demand3 = (s : List ℕ) (a b : ℕ) → translate s a b .refused .number ≡ 0 → IsRoutineOf s (translate s a b .tables)
+Demand3 = (s : List ℕ) (a b : ℕ) → translate s a b .verdict ≡ isAccepted → IsRoutineOf s (translate s a b .tables)

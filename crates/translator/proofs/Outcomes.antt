@@ -8,7 +8,8 @@ use borrow.Author.Tests.{lt-ltb, le-ltb}
 use Rattle.model.specs.Answers.{outcomeOf}
 use Rattle.model.specs.Edges.{at}
 use Rattle.model.specs.Runs.{Demand3, IsRoutineOf}
-use Rattle.model.specs.Translate.{Explored, Listing, Refusal, Routine, bad, check, explore, full, good, listed, listedWith, listing, places, refusal, refusedWith, translate}
+use Rattle.model.specs.Records.{Refusal, refusal}
+use Rattle.model.specs.Translate.{Explored, Listing, Routine, bad, check, explore, full, good, listed, listedWith, listing, places, refusedWith, translate}
 use Rattle.model.specs.declared.Translated.{Translated}
 use Rattle.model.specs.declared.Translated.the-variants as translated
 use Rattle.model.proofs.Demand.{demand-three}
