@@ -4,17 +4,16 @@ use mathlib.Core.Path.{_≡_, refl, ap}
 use mathlib.Core.Bool.{Bool, true, false}
 use mathlib.Core.List.{List}
 use native.Mathlib.Omega.{arith}
-use lib.Dec.{ltb}
 use lib.ListN.{getD}
 use borrow.Author.Tests.{ltb-true}
 use Rattle.model.specs.Heap.{Heap, Val, null, ptr, sameVal, undef}
 use Rattle.model.specs.Machine.{Op, Stmt, allocates, branch, choose, clear, copy, free, isNull, kind, load, new, other, picks, same, setNull, skip, stop, stops, store, target, test}
 use Rattle.model.specs.Edges.{access}
-use Rattle.model.specs.Records.{byte, fieldsS, opOf, refusalS, stmtOf, targetBelow, targetsS, usesFirst, usesSecond}
+use Rattle.model.specs.Records.{byte, opOf, refusalS, stmtOf, targetBelow, usesFirst, usesSecond}
 use Rattle.model.specs.Runs.{isStop}
 use Rattle.model.proofs.Logic.{and-l, and-r, clash}
 use Rattle.model.proofs.Ops.{each-op}
-use Rattle.model.proofs.Statements.{no-refusal}
+use Rattle.model.proofs.Statements.{passed-s}
 
 -- ---- kinds
 
@@ -64,7 +63,7 @@ pub target-below : (n : ℕ) (r : List ℕ) (p : ℕ) (h : Heap) → refusalS n 
     → target (stmtOf r) (branch (stmtOf r .op) p h) < n
 target-below n r p h e hi goes =
     let op = byte r 1 in
-    let q = no-refusal (ltb 11 op) (fieldsS r) (targetsS n r) e .2 in
+    let q = passed-s n r e .1 .1 .0 in
     let x = targetBelow n (usesFirst op) (byte r 4) in
     let y = targetBelow n (usesSecond op) (byte r 5) in
     op-leads (byte r 2) (byte r 3) (byte r 4) (byte r 5) n p h op hi goes (and-l x y q) (and-r x y q)

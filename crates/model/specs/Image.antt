@@ -80,9 +80,13 @@ strands vs b (s ∷ ss) (c ∷ cs) = strand b c (spreadSlot vs s) ++ strands vs 
 abbrev pub unfoldHeap : Heap → List ℕ → Heap
 unfoldHeap h cs = record { ptrs = map (spread cs) (h .ptrs); slots = strands cs 0 (h .slots) cs }
 
--- "15: a counter of 0 below k or not 0 past it, or a sum above the cell length"; there are twelve counters
+-- "15: a counter of 0 below k or not 0 past it, or a sum above the cell length"
+abbrev pub countsFit : ℕ → List ℕ → ℕ → Bool
+countsFit k vs n = all (leb 1) (take k vs) && all isZero (drop k vs) && leb (sum (λ v. v) vs) n
+
+-- there are twelve counters
 abbrev pub countersFit : ℕ → List ℕ → ℕ → Bool
-countersFit k vs n = eqb (length vs) 12 && (all (leb 1) (take k vs) && all isZero (drop k vs) && leb (sum (λ v. v) vs) n)
+countersFit k vs n = eqb (length vs) 12 && countsFit k vs n
 
 -- "Unfolding checks the lengths (13), then 8, 9, 15"; r a record, vs the counters, np and nc the lengths of pointers and cells
 abbrev pub checksUnfold : List ℕ → List ℕ → ℕ → ℕ → List Check

@@ -6,7 +6,7 @@ ghost use Prim.Native.Nat.{_+_, _-_, _≤_};
 ghost use lib.Dec.{leb};
 ghost use lib.ListN.{length, take, replicate};
 ghost use Rattle.model.specs.Base.{all, sum};
-ghost use Rattle.model.specs.Image.{countersFit, unfoldHeap, cellBytesOf};
+ghost use Rattle.model.specs.Image.{countersFit, countsFit, unfoldHeap, cellBytesOf};
 ghost use Rattle.model.specs.Records.{byte, isZero, shapeOf, valByte};
 ghost use Rattle.spread.specs.Bytes.{FirstCells, imageBytes, placedByte, strandBytes, strandsBytes};
 ghost use Rattle.spread.specs.Spread.{SpreadReady};
@@ -53,10 +53,10 @@ fn total(counters: &[u32]) -> u64
     t
 }
 
-// Whether the counters fit k nodes and n cells.
-pub fn counters_fit(k: usize, counters: &[u32], n: usize) -> bool
+// Whether twelve counters fit k nodes and n cells.
+fn counts_fit(k: usize, counters: &[u32], n: usize) -> bool
     requires { ⌜ (length (now counters) ≡ 12) × (k ≤ 12) ⌝ }
-    ensures { λ r. ⌜ r ≡ countersFit k (now (counters .entry)) n ⌝ }
+    ensures { λ r. ⌜ r ≡ countsFit k (now (counters .entry)) n ⌝ }
 {
     if all_positive(&counters[..k]) {
         if all_zero(&counters[k..]) {
@@ -64,6 +64,17 @@ pub fn counters_fit(k: usize, counters: &[u32], n: usize) -> bool
         }
     }
     false
+}
+
+// Whether the counters are twelve, and fit k nodes and n cells.
+pub fn counters_fit(k: usize, counters: &[u32], n: usize) -> bool
+    requires { ⌜ k ≤ 12 ⌝ }
+    ensures { λ r. ⌜ r ≡ countersFit k (now (counters .entry)) n ⌝ }
+{
+    if counters.len() != 12 {
+        return false;
+    }
+    counts_fit(k, counters, n)
 }
 
 // Enters the first cell of each node into the table.
