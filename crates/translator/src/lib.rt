@@ -9,7 +9,7 @@ ghost use mathlib.Core.List.{_++_, map};
 ghost use Prim.Native.Nat.{_+_, _*_, _≤_};
 ghost use lib.ListN.{length, drop, replicate};
 ghost use Rattle.model.specs.Answers.{outcomeOf};
-ghost use Rattle.model.specs.Records.{locRecord, recordAt};
+ghost use Rattle.model.specs.Records.{isAccepted, locRecord, recordAt};
 ghost use Rattle.model.specs.Translate.{tableOf, translate};
 ghost use Rattle.model.specs.Runs.{IsRoutineOf};
 ghost use Rattle.record.specs.Written.{placed};
@@ -82,7 +82,7 @@ fn list(input: &[u8], n: usize, m: usize, locations: &mut [u8], edges: &mut [u8]
 // stands in the tables, with the counts answered, is the routine (demand 3).
 pub fn translate(input: &[u8], locations: &mut [u8], edges: &mut [u8]) -> Translated
     ensures outcome { λ r. ⌜ outcomeOf r (now (locations .exit)) (now (edges .exit)) ≡ translate (now (input .entry)) (length (now (locations .entry))) (length (now (edges .entry))) ⌝ }
-    ensures automaton { λ r. ⌜ (outcomeOf r (now (locations .exit)) (now (edges .exit)) .refused .number ≡ 0
+    ensures automaton { λ r. ⌜ (outcomeOf r (now (locations .exit)) (now (edges .exit)) .verdict ≡ isAccepted
         → IsRoutineOf (now (input .entry)) (outcomeOf r (now (locations .exit)) (now (edges .exit)) .tables)) ⌝ }
 {
     clear_both(locations, edges);
