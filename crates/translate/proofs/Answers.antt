@@ -30,20 +30,27 @@ module _ (s : List ℕ) (a b : ℕ) (o : Translated) (ls es : List ℕ) (e : out
       let g = fitting s a b .edgeMost in
       (omega arith, omega arith, omega arith, omega arith)
 
-  pub listed-text : (i j : ℕ) → o ≡ translated.Listed i j → linesOf i ls ++ linesOf j es ≡ textOf (translate s a b)
+  listed-text : (i j : ℕ) → o ≡ translated.Listed i j → linesOf i ls ++ linesOf j es ≡ textOf (translate s a b)
   unfolding textOf
   listed-text i j q = ap (λ x. textOf (outcomeOf x ls es)) (sym q) ∙ ap textOf e
 
-  pub refused-text : (n p : ℕ) → o ≡ translated.Refused n p → refusalLine (refusal n p) ≡ textOf (translate s a b)
+  refused-text : (n k : ℕ) → o ≡ translated.Refused n k → refusalLine (refusal n k) ≡ textOf (translate s a b)
   unfolding textOf
-  refused-text n p q =
-      let c : outcomeOf (translated.Refused n p) ls es ≡ translate s a b = rw q at e in
-      let k = ap (λ x. x .tables .locCount) c in
+  refused-text n k q =
+      let c : outcomeOf (translated.Refused n k) ls es ≡ translate s a b = rw q at e in
+      let l = ap (λ x. x .tables .locCount) c in
       let m = ap (λ x. x .refused .number) c in
       let z : eqb n 0 ≡ false = ne-eqb n 0 (λ z. omega (arith, some-locations s a b (sym m ∙ z))) in
-      let t : textOf (outcomeOf (translated.Refused n p) ls es) ≡ refusalLine (refusal n p) = rw (z, textOf) in
+      let t : textOf (outcomeOf (translated.Refused n k) ls es) ≡ refusalLine (refusal n k) = rw (z, textOf) in
       sym t ∙ ap textOf c
 
--- an input that is read whole
-pub printed-is : (s : List ℕ) (a b : ℕ) → length s ≤ 4096 → a ≡ 32768 → b ≡ 65536 → textOf (translate s a b) ≡ printed s
-printed-is s a b h p q = rw (p, q, take-all 4096 s h)
+  -- the text u that is written is the definition's, where the input is read whole and the tables have their places
+  module _ (h : length s ≤ 4096) (p : a ≡ 32768) (p′ : b ≡ 65536) (u : List ℕ) where
+    whole : textOf (translate s a b) ≡ printed s
+    whole = rw (p, p′, take-all 4096 s h)
+
+    pub listed-printed : (i j : ℕ) → o ≡ translated.Listed i j → u ≡ linesOf i ls ++ linesOf j es → u ≡ printed s
+    listed-printed i j q w = w ∙ listed-text i j q ∙ whole
+
+    pub refused-printed : (n k : ℕ) → o ≡ translated.Refused n k → u ≡ refusalLine (refusal n k) → u ≡ printed s
+    refused-printed n k q w = w ∙ refused-text n k q ∙ whole
