@@ -92,7 +92,10 @@ fn step_numbers(stepped: Stepped) -> [u8; 4]
         Stepped::Went { branch, next } => [0, 0, branch, next.0],
         Stepped::Faulted { fault } => [fault, 0, 0, 0],
         Stepped::Stopped => [0, 1, 0, 0],
-        Stepped::Refused { number: _, place: _ } => [0, 0, 0, 0],
+        Stepped::Refused {
+            number: _,
+            place: _,
+        } => [0, 0, 0, 0],
     }
 }
 

@@ -1,6 +1,7 @@
 -- What a translation leaves, for all inputs: how it can end, its tables and counts, when it is accepted, and which refusal it gives.
 use Prim.Native.Nat.{_*_, _+_, _-_, _/_, _<_, _≤_, ℕ}
 use Rattle.model.proofs.Checks.{not-both, refused-inj}
+use Rattle.model.specs.Answers.{refusalOf}
 use mathlib.Core.Path.{_∙_, _≡_, ap, refl, subst, sym}
 use mathlib.Core.Logic.{_↔_, _⊎_, inl, inr, ⊎-elim}
 use mathlib.Core.List.{List, [], map}
@@ -9,7 +10,7 @@ use native.Mathlib.Omega.{arith}
 use lib.ListN.{drop, length, length-map, replicate}
 use Rattle.model.specs.Edges.{failed}
 use Rattle.model.specs.Machine.{leak}
-use Rattle.model.specs.Records.{Refusal, locRecord, recordAt, refusal, isAccepted, isRefused}
+use Rattle.model.specs.Records.{Refusal, locRecord, recordAt, refusal, isAccepted, isRefused, Verdict}
 use Rattle.model.specs.Translate.{Checked, Explored, Listing, Outcome, Routine, Tables, bad, check, full, good, linkRecord, listed, listedWith, listing, places, refusedWith, tableOf, tablesOf, translate}
 use Rattle.model.proofs.Bytes.{table-empty, table-length, table-rest}
 use Rattle.model.proofs.Checked.{GoodStarts, check-good, good-inj}
@@ -73,6 +74,14 @@ translate-number s a b y z = by-case (translate-cases s a b)
         (λ (f : x .number ≡ 12). (omega arith, omega arith, λ (l : x .number ≤ 3). absurd (omega arith)))
         (full-number r (places 1024 a) (places 2048 b) x p))
     by-case (inr (inr (r, t, e, p, q))) = not-both (translate s a b .verdict) y (ap (λ (o : Outcome). o .verdict) q) z
+
+-- in numbers: 0 is no refusal
+pub zero-accepted : (s : List ℕ) (a b : ℕ) → refusalOf (translate s a b .verdict) .number ≡ 0 → translate s a b .verdict ≡ isAccepted
+zero-accepted s a b = by-verdict (translate s a b .verdict) refl
+  where
+    by-verdict : (v : Verdict) → translate s a b .verdict ≡ v → refusalOf v .number ≡ 0 → v ≡ isAccepted
+    by-verdict isAccepted e z = refl
+    by-verdict (isRefused x) e z = absurd (omega (arith, translate-number s a b x e .0))
 
 -- an accepted translation is a listing of a checked routine
 abbrev pub Accepted : List ℕ → ℕ → ℕ → Type 0

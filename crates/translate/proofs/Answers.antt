@@ -2,19 +2,16 @@
 use Prim.Native.Nat.{ℕ, _*_, _≤_}
 use native.Mathlib.Omega.{arith}
 use mathlib.Core.Path.{_≡_, ap, sym, _∙_}
-use mathlib.Core.Bool.{false}
 use mathlib.Core.List.{List, _++_}
-use lib.Dec.{eqb}
 use lib.ListN.{length}
 use lib.Seq.{take-all}
-use borrow.Author.Tests.{ne-eqb}
 use Rattle.model.specs.Answers.{outcomeOf}
-use Rattle.model.specs.Translate.{refusal, translate}
+use Rattle.model.specs.Records.{refusal}
+use Rattle.model.specs.Translate.{translate}
 use Rattle.model.specs.declared.Translated.{Translated}
 use Rattle.model.specs.declared.Translated.the-variants as translated
 use Rattle.model.proofs.Outcomes.{fitting}
 use Rattle.translate.specs.Text.{linesOf, printed, refusalLine, textOf}
-use Rattle.translate.proofs.Refused.{some-locations}
 
 -- the records that are counted stand in the tables
 abbrev pub Stand : ℕ → List ℕ → ℕ → List ℕ → Type 0
@@ -36,13 +33,7 @@ module _ (s : List ℕ) (a b : ℕ) (o : Translated) (ls es : List ℕ) (e : out
 
   refused-text : (n k : ℕ) → o ≡ translated.Refused n k → refusalLine (refusal n k) ≡ textOf (translate s a b)
   unfolding textOf
-  refused-text n k q =
-      let c : outcomeOf (translated.Refused n k) ls es ≡ translate s a b = rw q at e in
-      let l = ap (λ x. x .tables .locCount) c in
-      let m = ap (λ x. x .refused .number) c in
-      let z : eqb n 0 ≡ false = ne-eqb n 0 (λ z. omega (arith, some-locations s a b (sym m ∙ z))) in
-      let t : textOf (outcomeOf (translated.Refused n k) ls es) ≡ refusalLine (refusal n k) = rw (z, textOf) in
-      sym t ∙ ap textOf c
+  refused-text n k q = ap (λ x. textOf (outcomeOf x ls es)) (sym q) ∙ ap textOf e
 
   -- the text u that is written is the definition's, where the input is read whole and the tables have their places
   module _ (h : length s ≤ 4096) (p : a ≡ 32768) (p′ : b ≡ 65536) (u : List ℕ) where

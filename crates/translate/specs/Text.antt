@@ -3,10 +3,11 @@
 use Prim.Native.Nat.{ℕ, zero, suc, _+_, _/_, _%_}
 use mathlib.Core.Bool.{true, false}
 use mathlib.Core.List.{List, [], _∷_, _++_, map}
-use lib.Dec.{eqb, ltb}
+use lib.Dec.{ltb}
 use lib.ListN.{take}
 use Rattle.model.specs.Base.{joined}
-use Rattle.model.specs.Translate.{Outcome, Refusal, chunks, translate}
+use Rattle.model.specs.Records.{Refusal, isAccepted, isRefused}
+use Rattle.model.specs.Translate.{Outcome, chunks, translate}
 
 -- ---- records
 
@@ -56,9 +57,9 @@ refusalLine x = refusedWord ++ decimalOf (x .number) ++ 0x20 ∷ [] ++ decimalOf
 -- the locations and then the edges where nothing is refused, else the refusal
 unfoldable pub textOf : Outcome → List ℕ
 textOf o =
-    elim (eqb (o .refused .number) 0) [
-      | true ↦ linesOf (o .tables .locCount) (o .tables .locBytes) ++ linesOf (o .tables .edgeCount) (o .tables .edgeBytes)
-      | false ↦ refusalLine (o .refused)
+    elim (o .verdict) [
+      | isAccepted ↦ linesOf (o .tables .locCount) (o .tables .locBytes) ++ linesOf (o .tables .edgeCount) (o .tables .edgeBytes)
+      | isRefused x ↦ refusalLine x
     ]
 
 -- what is written for input s: "reads at most 4,096 bytes"; the tables have 1,024 and 2,048 places

@@ -7,7 +7,7 @@ ghost use mathlib.Core.List.{_++_};
 ghost use Prim.Native.Nat.{_+_, _*_, _≤_, _<_};
 ghost use lib.ListN.{length, take, drop};
 ghost use Rattle.io.specs.Counts.{Counts};
-ghost use Rattle.model.specs.Translate.{refusal};
+ghost use Rattle.model.specs.Records.{refusal};
 ghost use Rattle.translate.specs.Text.{byteOf, decimalOf, digitOf, lineOf, linesOf, printed, refusalLine};
 
 // A table for 1,024 locations.

@@ -1,11 +1,12 @@
 -- An outcome told in numbers.
 use Prim.Native.Nat.{ℕ}
-use mathlib.Core.Path.{_≡_, ap, _∙_}
+use mathlib.Core.Path.{_≡_, ap, sym, _∙_}
 use mathlib.Core.List.{List}
 use Rattle.model.specs.Answers.{refusalOf}
 use Rattle.model.specs.Runs.{Demand3}
 use Rattle.model.specs.Translate.{Outcome, translate}
 use Rattle.model.proofs.Demand.{demand-three}
+use Rattle.model.proofs.Outcomes.{zero-accepted}
 use Rattle.translator.specs.Told.{Told, told}
 
 pub outcome-told : (s : List ℕ) (a b : ℕ) (xs ys : List ℕ) (u : Outcome) → u ≡ translate s a b
@@ -17,5 +18,5 @@ outcome-told s a b xs ys u e p = record {
   answer = p ∙ ap (λ x. told xs (refusalOf (x .verdict) .place) (x .tables .locCount) (x .tables .edgeCount)) e;
   locations = ap (λ x. x .tables .locBytes) e;
   edges = ap (λ x. x .tables .edgeBytes) e;
-  automaton = λ z. demand-three s a b z;
+  automaton = λ z. demand-three s a b (zero-accepted s a b (sym (ap (λ x. refusalOf (x .verdict) .number) e) ∙ z));
 }

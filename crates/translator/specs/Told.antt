@@ -4,7 +4,6 @@ use mathlib.Core.Path.{_≡_}
 use mathlib.Core.List.{List}
 use lib.ListN.{set}
 use Rattle.model.specs.Answers.{refusalOf}
-use Rattle.model.specs.Records.{isAccepted}
 use Rattle.model.specs.Runs.{IsRoutineOf}
 use Rattle.model.specs.Translate.{translate}
 
@@ -18,4 +17,4 @@ pub record Told (s : List ℕ) (a b : ℕ) (xs : List ℕ) (r : ℕ) (ys ls es :
   pub answer : ys ≡ told xs (refusalOf (translate s a b .verdict) .place) (translate s a b .tables .locCount) (translate s a b .tables .edgeCount)
   pub locations : ls ≡ translate s a b .tables .locBytes
   pub edges : es ≡ translate s a b .tables .edgeBytes
-  pub automaton : translate s a b .verdict ≡ isAccepted → IsRoutineOf s (translate s a b .tables)
+  pub automaton : r ≡ 0 → IsRoutineOf s (translate s a b .tables)
