@@ -100,7 +100,7 @@ impl Draw {
     fn shape(&mut self) -> Option<[u8; 32]> {
         let (pointers, cells) = self.image(16);
         let (refusal, record, _) = currantplane::fold(&pointers, &cells);
-        (refusal == 0).then_some(record)
+        (refusal.number == 0).then_some(record)
     }
 
     /// The records of a routine that the checks of the input pass, with at most so many statements.

@@ -1,7 +1,6 @@
 -- The checks of a plain step: of its image and record, of its entry, and what the run may ask once they are passed.
 use Prim.Native.Nat.{ℕ, _≤_, _<_}
 use Rattle.model.proofs.Checks.{failed-after, failed-before, given-failed, none-failed, pass-after, pass-before, pass-none}
-use Rattle.model.proofs.Stepping.{entry}
 use mathlib.Core.Path.{_≡_, refl, sym, ap, subst, _∙_}
 use mathlib.Core.Bool.{Bool, true, false, _&&_, not, Bool·not-not}
 use mathlib.Core.List.{List, [], _∷_}
@@ -9,7 +8,7 @@ use lib.Dec.{eqb, leb}
 use lib.ListN.{length, getD, length-map}
 use borrow.Author.Tests.{eq-eqb, eqb-true, le-leb, lt-leb, leb-false, ne-eqb, not-true}
 use Rattle.model.specs.Heap.{inUse, next}
-use Rattle.model.specs.Machine.{kind}
+use Rattle.model.specs.Machine.{kind, entry}
 use Rattle.model.specs.Records.{byte, isS, opOf, refusalS, Check, checksS, firstFailed, unless}
 use Rattle.model.specs.Image.{heapOf, refusalImage, cellSlot, checksImage, checksStatement, entryFits}
 use Rattle.model.proofs.Images.{image-accepted, number-case}

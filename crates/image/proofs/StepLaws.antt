@@ -3,7 +3,6 @@ use Prim.Native.Nat.{ℕ, zero, suc, _≤_}
 use Rattle.model.proofs.Checks.{failed-after, failed-before, given-failed, pass-none}
 use Rattle.model.proofs.Images.{number-case}
 use Rattle.model.proofs.Logic.{and-r}
-use Rattle.model.proofs.Stepping.{entry}
 use native.Mathlib.Omega.{arith}
 use mathlib.Core.Path.{_≡_, refl, sym, ap, ap₂, subst, _∙_}
 use mathlib.Core.Bool.{Bool, true, false, cond, not}
@@ -12,7 +11,7 @@ use lib.Dec.{eqb}
 use lib.ListN.{length, replicate, getD-replicate}
 use borrow.Author.Tests.{ne-eqb}
 use Rattle.model.specs.Heap.{Heap}
-use Rattle.model.specs.Machine.{Answer, done, Op, Stmt, accepts, answerOf, branch, kind, carryOut, target, unlessStop, step}
+use Rattle.model.specs.Machine.{Answer, done, Op, Stmt, accepts, answerOf, branch, kind, carryOut, target, unlessStop, step, entry}
 use Rattle.model.specs.Records.{byte, opOf, stmtOf, Check, firstFailed, refusal, unless}
 use Rattle.model.specs.Image.{Stepping, answered, heapOf, pastEnd, stays, stepImage, checksStatement, checksStep, entryFits, noStep, toFault, toNext, toStop}
 use Rattle.model.proofs.Ops.{op-goes}

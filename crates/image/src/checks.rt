@@ -6,7 +6,7 @@ ghost use mathlib.Core.Path.{_≡_};
 ghost use lib.Dec.{eqb};
 ghost use lib.ListN.{length, replicate};
 ghost use Rattle.model.specs.Image.{lengths, refusalUnfold, checksStatement, entryFits, heapOf};
-ghost use Rattle.model.specs.Machine.{kind};
+ghost use Rattle.model.specs.Machine.{entry, kind};
 ghost use Rattle.model.specs.Records.{firstFailed, layoutH, opOf};
 ghost use Rattle.image.specs.Checks.{ImageChecked};
 
@@ -114,7 +114,7 @@ pub fn step_refusal(rec: &[u8], pointers: &[u8], cells: &[u8]) -> u8
 // Whether the pick at choose is 0 or 1, and the cell at new is one of the image that is not in use.
 pub fn entry_ok(op: u8, pick: u8, cell: usize, cells: &[u8]) -> bool
     requires { ⌜ op ≤ 11 ⌝ }
-    ensures { λ r. ⌜ ((u w : ℕ) (ps : List ℕ) → r ≡ entryFits (kind (opOf op u w)) (record { pick = pick; cellNo = cell }) (heapOf ps (now (cells .entry)))) ⌝ }
+    ensures { λ r. ⌜ ((u w : ℕ) (ps : List ℕ) → r ≡ entryFits (kind (opOf op u w)) (entry pick cell) (heapOf ps (now (cells .entry)))) ⌝ }
 {
     if op == 10 {
         return pick <= 1;

@@ -1,6 +1,7 @@
 -- What the promises about heaps, shapes and edges speak of, beside specs/: reachable cells, segments, merging, renaming, one heap as the
 -- expansion of another, guards and updates on counters.
 use Prim.Native.Nat.{_+_, _-_, _<_, _≤_, ℕ}
+use Rattle.model.specs.Image.{StepAnswer, noStep, toFault, toNext, toStop}
 use mathlib.Core.Path.{_≡_}
 use mathlib.Core.Logic.{_↔_, _⊎_}
 use mathlib.Core.Bool.{Bool, cond, false, true}
@@ -204,6 +205,13 @@ Pass (c ∷ cs) = (c .passes ≡ true) × Pass cs
 abbrev pub Given : List Check → ℕ → Type 0
 Given [] n = ⊥
 Given (c ∷ cs) n = ((c .number ≡ n) × (c .passes ≡ false)) ⊎ ((c .passes ≡ true) × Given cs n)
+
+-- a step that does not go on to a next statement
+abbrev pub Halted : StepAnswer → Type 0
+Halted (toNext b n) = ⊥
+Halted (toFault f) = Unit {0}
+Halted toStop = Unit {0}
+Halted (noStep x) = Unit {0}
 
 -- A call is accepted exactly when every check passes; it is refused with a number, at place 0, exactly when that number is given.
 pub record CheckedBy (cs : List Check) (v : Verdict) : Type 0 where

@@ -1,7 +1,7 @@
 -- The cases of an answer are told apart by what they say.
 use Prim.Native.Nat.{ℕ}
 use Rattle.model.proofs.Checks.{not-both, refused-inj}
-use Rattle.model.proofs.Stepping.{Halted}
+use Rattle.model.proofs.Notions.{Halted}
 use mathlib.Core.Path.{_≡_, ap, refl, sym}
 use mathlib.Core.List.{List, [], _∷_}
 use native.Mathlib.Omega.{arith}

@@ -10,7 +10,7 @@ use lib.ListN.{drop, getD, length, replicate}
 use Rattle.model.specs.Answers.{outcomeOf, stepAnswerOf, stepNumbers, verdictOf}
 use Rattle.model.specs.Heap.{IsHeap}
 use Rattle.model.specs.Image.{answered, checksImage, checksStep, checksUnfold, foldImage, heapOf, stepImage, stepVerdict, unfoldImage, verdictBy}
-use Rattle.model.specs.Machine.{step}
+use Rattle.model.specs.Machine.{entry, step}
 use Rattle.model.specs.Records.{Refusal, filled, isAccepted, isRefused, isS, shapeOf, shapeRecord, stmtOf}
 use Rattle.model.specs.Shape.{counters, shape}
 use Rattle.model.specs.Translate.{Routine, bad, check, good, translate}
@@ -19,11 +19,11 @@ use Rattle.model.specs.declared.Stepped.{Stepped}
 use Rattle.model.specs.declared.Translated.{Translated}
 use Rattle.model.proofs.Images.{fold-accepted, fold-checked, fold-gives, fold-lengths, fold-refused, fold-verdict, image-accepted, unfold-checked, unfold-lengths, unfold-refused}
 use Rattle.model.proofs.Listings.{BadInput, GoodInput, recordRefusal, recordsOf}
-use Rattle.model.proofs.Notions.{CheckedBy}
+use Rattle.model.proofs.Notions.{CheckedBy, Halted}
 use Rattle.model.proofs.OneToOne.{halted-numbers, outcome-one, step-one, verdict-one}
 use Rattle.model.proofs.Outcomes.{bad-translate, fitting, places-most, refused-tables, translate-number}
 use Rattle.model.proofs.Refusals.{accepted-input, bad-number, good-accepted, record-number, refused-input}
-use Rattle.model.proofs.Stepping.{Halted, entry, step-answers, step-checked, step-lengths, step-stays}
+use Rattle.model.proofs.Stepping.{step-answers, step-checked, step-lengths, step-stays}
 
 -- ==== demand 1: every call states its outcome for all inputs
 

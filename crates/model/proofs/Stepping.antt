@@ -9,21 +9,18 @@ use lib.Dec.{eqb}
 use lib.ListN.{length, length-map}
 use borrow.Author.Tests.{leb-false, not-true}
 use Rattle.model.specs.Heap.{Heap, Slot, Val, cell, holds, next, null, ptr, undef, unused}
-use Rattle.model.specs.Image.{StepAnswer, Stepping, answered, cellSlot, checksImage, checksStatement, checksStep, entryFits, heapOf, noStep, pastEnd, refusalImage, stays, stepImage, stepVerdict, toFault, toNext, toStop, verdictBy}
-use Rattle.model.specs.Machine.{Answer, Effect, Entry, Kind, Op, Stmt, accepts, allocates, answerOf, branch, choose, clear, copy, done, effect, fault, faulted, free, freeVal, held, isNull, keep, kind, load, new, other, picks, put, putSlot, refused, carryOut, same, setNull, setPtr, skip, step, stop, stopped, stops, store, through, unlessStop, went, wipeSlot}
+use Rattle.model.specs.Image.{Stepping, answered, cellSlot, checksImage, checksStatement, checksStep, entryFits, heapOf, noStep, pastEnd, refusalImage, stays, stepImage, stepVerdict, verdictBy}
+use Rattle.model.specs.Machine.{Answer, Effect, Entry, Kind, Op, Stmt, accepts, allocates, answerOf, branch, choose, clear, copy, done, effect, fault, faulted, free, freeVal, held, isNull, keep, kind, load, new, other, picks, put, putSlot, refused, carryOut, same, setNull, setPtr, skip, step, stop, stopped, stops, store, through, unlessStop, went, wipeSlot, entry}
 use Rattle.model.specs.Records.{checksS, firstFailed, isAccepted, isS, refusal, slotByte, stmtOf, unless, valByte, valOf}
 use Rattle.model.proofs.Checks.{checked-by, none-failed, not-both, pass-after, pass-before, pass-none}
 use Rattle.model.proofs.Effects.{closed-ptr}
 use Rattle.model.proofs.Facts.{heap-closed, keep-any}
 use Rattle.model.proofs.Images.{image-accepted, number-case}
 use Rattle.model.proofs.Logic.{and-l, and-r, bool-case}
-use Rattle.model.proofs.Notions.{CheckedBy}
+use Rattle.model.proofs.Notions.{CheckedBy, Halted}
 use Rattle.model.proofs.Order.{used-below}
 use Rattle.model.proofs.Reached.{PtrsAre, effect-ptrs}
 use Rattle.model.proofs.Walks.{Closed, ClosedHeap}
-
-abbrev pub entry : ℕ → ℕ → Entry
-entry p c = record { pick = p; cellNo = c }
 
 -- how a step can end: refused by its checks, or answered by the machine, which then takes the entry
 abbrev pub StepCases : List ℕ → ℕ → ℕ → List ℕ → List ℕ → Type 0
@@ -94,13 +91,6 @@ step-answers r p c ps cs z = by-case (step-cases r p c ps cs)
     by-case (inr (e, q)) = q
 
 -- ---- what stays
-
--- "at a fault, a stop or a refusal .. the heap stays": only a step to a next statement moves it
-abbrev pub Halted : StepAnswer → Type 0
-Halted (toNext b n) = ⊥
-Halted (toFault f) = Unit {0}
-Halted toStop = Unit {0}
-Halted (noStep x) = Unit {0}
 
 abbrev pub Stays : List ℕ → List ℕ → Stepping → Type 0
 Stays ps cs s = (s .ptrBytes ≡ ps) × (s .cellBytes ≡ cs)

@@ -7,7 +7,7 @@ use lib.ListN.{length, getD}
 use Rattle.model.specs.Base.{any, count, numbers, joined}
 use Rattle.model.specs.Heap.{Val, cell, null, undef, holds, Heap, ptr, next, sameHeap}
 use Rattle.model.specs.Shape.{Seg, cells, segments, foldBy}
-use Rattle.model.specs.Machine.{Op, stop, setNull, copy, load, clear, store, new, free, isNull, same, choose, skip, Stmt, Fault, faultNumber, putSlot, Kind, stops, picks, allocates, other, kind, Answer, refused, stopped, faulted, went, step}
+use Rattle.model.specs.Machine.{Op, stop, setNull, copy, load, clear, store, new, free, isNull, same, choose, skip, Stmt, Fault, faultNumber, putSlot, Kind, stops, picks, allocates, other, kind, entry, Answer, refused, stopped, faulted, went, step}
 
 -- "A location is a statement with a shape, or a statement with a fault."
 pub data Loc : Type 0 where
@@ -52,7 +52,8 @@ pub record Update : Type 0 where
   pub adds : List Bool
   pub plus : ℕ
 
--- the update that adds up what the cells of a segment stand for, over k old nodes
+-- The update that adds up what the cells of a segment stand for, over k old nodes. At most one cell of the heap is one less than a
+-- counter, since one node is split, so nothing is cut off where subtraction stops at 0.
 abbrev pub updateOf : ℕ → (ℕ → Weight) → Seg → Update
 updateOf k w s = record {
   adds = map (λ i. any (λ c. addsCounter i (w c)) (cells s)) (numbers 0 k);
@@ -140,7 +141,7 @@ edgeBy s k y (went b t h) =
 
 -- the step that a way stands for; at new the cell is the first past the shape's nodes
 abbrev pub stepBy : Stmt → ℕ → Way → Answer
-stepBy st k y = step st (record { pick = y .pick; cellNo = k }) (y .heap)
+stepBy st k y = step st (entry (y .pick) k) (y .heap)
 
 abbrev pub edgesAt : ℕ → Stmt → Heap → List Edge
 edgesAt s st h =

@@ -1,13 +1,13 @@
 -- 01, "Records", heap images: folding, unfolding and the plain step on bytes, each with its whole outcome. Assumes nothing.
 use Prim.Native.Nat.{ℕ, zero, suc, _-_, _+_}
-use mathlib.Core.Bool.{Bool, true, false, _&&_, cond, not}
+use mathlib.Core.Bool.{Bool, false, _&&_, cond, not}
 use mathlib.Core.List.{List, [], _∷_, _++_, map}
 use lib.Dec.{eqb, leb}
 use lib.ListN.{length, take, drop, replicate}
 use Rattle.model.specs.Base.{all, sum}
 use Rattle.model.specs.Heap.{Val, cell, null, undef, Slot, unused, holds, Heap, closed, kept}
 use Rattle.model.specs.Shape.{shape, counters, canonical}
-use Rattle.model.specs.Machine.{faultNumber, Kind, stops, picks, allocates, other, kind, Entry, accepts, Answer, refused, stopped, faulted, went, step}
+use Rattle.model.specs.Machine.{faultNumber, Kind, stops, picks, allocates, other, kind, Entry, entry, accepts, Answer, refused, stopped, faulted, went, step}
 use Rattle.model.specs.Records.{valByte, valOf, slotByte, byte, isZero, isS, filled, shapeRecord, layoutH, shapeOf, stmtOf, Refusal, refusal, Verdict, isAccepted, isRefused, Check, unless, firstFailed, checksS}
 
 -- "six pointer bytes and 0 to 240 cell bytes: a cell number, 0xfe, 0xff, or for a cell 0xfd (not in use)"
@@ -105,7 +105,7 @@ pub record Unfolding : Type 0 where
   pub ptrBytes : List ℕ
   pub cellBytes : List ℕ
 
--- the heap's bytes, "and marks the rest 0xfd" up to n cells
+-- the heap's bytes, "and marks the rest 0xfd" up to n cells; they fit, so nothing is cut off where subtraction stops at 0
 abbrev pub cellBytesOf : ℕ → Heap → List ℕ
 cellBytesOf n h = let ss = map slotByte (h .slots) in ss ++ replicate (n - length ss) 0xfd
 
@@ -174,8 +174,7 @@ checksStep r e ps cs = checksStatement r ps cs ++ unless 16 (entryFits (kind (st
 -- statement record r, pick p, cell c, pointers ps, cells cs
 unfoldable pub stepImage : List ℕ → ℕ → ℕ → List ℕ → List ℕ → Stepping
 stepImage r p c ps cs =
-    let e : Entry = record { pick = p; cellNo = c } in
-    elim (firstFailed (checksStep r e ps cs)) [
+    elim (firstFailed (checksStep r (entry p c) ps cs)) [
       | suc n ↦ stays (noStep (refusal (suc n) 0)) ps cs
-      | zero ↦ answered (step (stmtOf r) e (heapOf ps cs)) ps cs
+      | zero ↦ answered (step (stmtOf r) (entry p c) (heapOf ps cs)) ps cs
     ]

@@ -159,6 +159,9 @@ pub record Entry : Type 0 where
   pub pick : ℕ
   pub cellNo : ℕ
 
+abbrev pub entry : ℕ → ℕ → Entry
+entry p c = record { pick = p; cellNo = c }
+
 -- "Refused are a pick above 1 at choose and a cell in use at new."
 abbrev pub accepts : Kind → Entry → Heap → Bool
 accepts stops e h = true

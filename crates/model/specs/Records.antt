@@ -23,7 +23,7 @@ abbrev pub slotByte : Slot → ℕ
 slotByte unused = 0xfd
 slotByte (holds v) = valByte v
 
--- a list made n long by zeros
+-- a list made n long by zeros; a longer one stays as it is, since subtraction stops at 0
 abbrev pub filled : ℕ → List ℕ → List ℕ
 filled n xs = xs ++ replicate (n - length xs) 0
 

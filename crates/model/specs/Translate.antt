@@ -146,7 +146,8 @@ pub record Outcome : Type 0 where
 abbrev pub linkRecord : Link → List ℕ
 linkRecord l = edgeRecord (l .from) (l .dest) (l .edge)
 
--- "Each record is written into its lent table from its own offset onward; bytes after the last are zero."
+-- "Each record is written into its lent table from its own offset onward; bytes after the last are zero." The records fit into the n
+-- bytes, so nothing is cut off where subtraction stops at 0.
 abbrev pub tableOf : ℕ → List (List ℕ) → List ℕ
 tableOf n rs = joined rs ++ replicate (n - 32 * length rs) 0
 
