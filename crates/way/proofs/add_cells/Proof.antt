@@ -62,7 +62,8 @@ loop-again c =
     let p = c .before .before .before .before .cell-plus in
     let t = getD (a .node .now) (getD (a .cells .now) (l .i) 0) 0 in
     let lt : t < length (l .updates) = omega (arith, c .before .before .before .before .before .node-of .ensures, node-below (c .before .before .before .before .before)) in
-    let e : c .before .before .add-code .last .0 ≡ set (l .updates) t (getD (l .updates) t 0 + p .result) = cc in
+    let e : c .before .before .add-code .last .0 ≡ set (l .updates) t (getD (l .updates) t 0 + p .result) =
+    c .before .before .add-code .ensures ∙ ap (λ x. set (l .updates) x (getD (l .updates) x 0 + p .result)) (c .before .before .before .before .before .node-of .ensures) in
     rw e (
       omega arith,
       simp length-set (l .inv .1),

@@ -1,5 +1,5 @@
 -- `way::write_bases` meets its contract: 4096 everywhere, then 0 at the tail's node.
-use mathlib.Core.Path.{_≡_, ap, _∙_}
+use mathlib.Core.Path.{_≡_, ap, ap₂, _∙_}
 use native.Mathlib.Omega.{arith}
 use lib.ListN.{getD, getD-replicate, length, replicate, set}
 use borrow.Author.Needs.{needs}
@@ -20,7 +20,8 @@ returns c j lt =
     let t = c .before .before .before .before .before .if1 .taken in
     let n = length (a .updates .now) in
     let m = getD (a .node .now) (a .k) 0 in
-    let e : c .before .before .set-code .last .0 ≡ set (replicate n 4096) m 0 = cc in
+    let e : c .before .before .set-code .last .0 ≡ set (replicate n 4096) m 0 =
+    c .before .before .set-code .ensures ∙ ap₂ (λ u x. set u x 0) (c .before .before .before .before .before .before .before .before .clear-updates .ensures) (c .before .before .before .node-of .ensures) in
     rw t (ap (λ u. getD u j 0) e ∙ bases n m (s .pre .1 t) j lt)
 
 returns-2 : tie.Need-returns-2
