@@ -20,8 +20,11 @@ returns c j lt =
     let t = c .before .before .before .before .before .if1 .taken in
     let n = length (a .updates .now) in
     let m = getD (a .node .now) (a .k) 0 in
-    let e : c .before .before .set-code .last .0 ≡ set (replicate n 4096) m 0 =
-    c .before .before .set-code .ensures ∙ ap₂ (λ u x. set u x 0) (c .before .before .before .before .before .before .before .before .clear-updates .ensures) (c .before .before .before .node-of .ensures) in
+    let z = c .before .before .before .before .before .before .before .before .clear-updates in
+    let b = c .before .before .before .node-of in
+    let k = c .before .before .set-code in
+    let w : k .last .0 ≡ set (z .last .0) (b .result .0) 0 = k .ensures in
+    let e : k .last .0 ≡ set (replicate n 4096) m 0 = w ∙ ap₂ (λ u x. set u x 0) (z .ensures) (b .ensures) in
     rw t (ap (λ u. getD u j 0) e ∙ bases n m (s .pre .1 t) j lt)
 
 returns-2 : tie.Need-returns-2
