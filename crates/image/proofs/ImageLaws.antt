@@ -1,12 +1,13 @@
 -- The checks of a heap image, what an image that passes them is, and folding one.
 use Prim.Native.Nat.{ℕ, suc, _-_, _≤_}
 use Rattle.model.proofs.Checks.{given-failed, pass-none}
+use Rattle.record.proofs.ListLaws.{drop-zeros}
 use native.Mathlib.Omega.{arith}
 use mathlib.Core.Path.{_≡_, refl, sym, ap₂, _∙_, ap}
 use mathlib.Core.Bool.{Bool, true, false, _&&_, not}
-use mathlib.Core.List.{List, _∷_, _++_, map}
+use mathlib.Core.List.{List, _∷_, _++_, map, [], append-nil}
 use lib.Dec.{eqb, leb}
-use lib.ListN.{length, getD, take, drop, replicate, getD-replicate, length-map}
+use lib.ListN.{length, getD, drop, replicate, getD-replicate, length-map, take-append-drop}
 use borrow.Author.Tests.{leb-true}
 use borrow.Rule.Slice.PartMut.{putMid}
 use Rattle.model.specs.Heap.{closed, eachUsed, kept}
@@ -86,16 +87,20 @@ fold-ready {ps} {cs} {o} {m} {r} {n} d z l w =
     let k = d .few z in
     record { isHeap = A .2; six = A .0; few = f; visited = d .visited z; long = omega arith; holders = omega arith; held = d .held z }
 
+zeros-left : (k : ℕ) → k ≤ 12 → drop {A = ℕ} k (replicate 12 0) ≡ replicate (12 - k) 0
+zeros-left k h = drop-zeros k 12 [] h ∙ append-nil {A = ℕ} (replicate (12 - k) 0)
+
 module _ {ps cs o : List ℕ} {n : ℕ} {h : List ℕ} (x : FoldReady ps cs o n h) where
-  -- the record of k nodes in t, and the counters v cleared past them
-  pub fold-is : (m z q : List ℕ) (k : ℕ) → IsShape ps cs m z (replicate 28 0) q k → (t v : List ℕ) → length z ≡ 12
-      → t ≡ 0x48 ∷ 0 ∷ 0 ∷ k ∷ drop 4 (putMid 4 28 (replicate 32 0) q) → v ≡ take k z ++ replicate (length z - k) 0
-      → record { verdict = isAccepted; recordBytes = t; counts = v } ≡ foldedHeap (heapOf ps cs)
+  -- the record of k nodes in t, and the counters z, which stay zero past them
+  pub fold-is : (m z q : List ℕ) (k : ℕ) → IsShape ps cs m z (replicate 28 0) q k → (t : List ℕ)
+      → t ≡ 0x48 ∷ 0 ∷ 0 ∷ k ∷ drop 4 (putMid 4 28 (replicate 32 0) q) → drop k z ≡ drop k (replicate 12 0)
+      → record { verdict = isAccepted; recordBytes = t; counts = z } ≡ foldedHeap (heapOf ps cs)
   unfolding foldedHeap
-  fold-is m z q k d t v l a b =
+  fold-is m z q k d t a b =
       let h = heapOf ps cs in
       let s : t ≡ shapeRecord (shape h) =
       a ∙ headed-is 0x48 0 k h (replicate 32 0) q refl (length-map ps valOf ∙ x .six) (d .number) (d .twelve) (d .bytes) in
-      let n : length z - k ≡ 12 - length (counters h) = ap₂ _-_ l (d .number ∙ sym (length-map (segments h) size)) in
-      let c : v ≡ filled 12 (counters h) = b ∙ ap₂ (λ y i. y ++ replicate i 0) (d .sizes) n in
+      let n : 12 - k ≡ 12 - length (counters h) = ap (λ i. 12 - i) (d .number ∙ sym (length-map (segments h) size)) in
+      let c : z ≡ filled 12 (counters h) =
+      sym (take-append-drop k z) ∙ ap₂ _++_ (d .sizes) (b ∙ zeros-left k (d .twelve) ∙ ap (λ i. replicate i 0) n) in
       λ i. record { verdict = isAccepted; recordBytes = s i; counts = c i }

@@ -11,27 +11,13 @@ use model::Folded;
 use model::Statement;
 use model::Stepped;
 use steps::take_step;
-ghost use Prim.Native.Nat.{_-_, _≤_};
-ghost use mathlib.Core.List.{_++_};
+ghost use Prim.Native.Nat.{_-_};
 ghost use mathlib.Core.Path.{_≡_};
-ghost use lib.ListN.{length, take, replicate};
 ghost use Rattle.model.specs.Answers.{foldingOf, unfoldingOf, steppingOf};
 ghost use Rattle.model.specs.Image.{heapOf, foldImage, unfoldImage, stepImage};
 ghost use Rattle.image.specs.Parts.{FoldReady, foldedHeap};
 
-// The counters past the first k become 0.
-fn clear_past(counters: &mut [u32], k: usize)
-    requires { ⌜ k ≤ length (now counters) ⌝ }
-    ensures { λ _. ⌜ now (counters .exit) ≡ take k (now (counters .entry)) ++ replicate (length (now (counters .entry)) - k) 0 ⌝ }
-{
-    let mut i = k;
-    while i < counters.len() {
-        counters[i] = 0;
-        i += 1;
-    }
-}
-
-// Folds a heap whose visit order and counts of holders are given.
+// Folds a heap whose visit order and counts of holders are given. Sizes past the nodes stay zero.
 fn fold_heap(pointers: &[u8], cells: &[u8], order: &[u8], n: usize, held: &[u8]) -> Folded
     requires { ⌜ FoldReady (now pointers) (now cells) (now order) n (now held) ⌝ }
     ensures { λ r. ⌜ foldingOf r ≡ foldedHeap (heapOf (now (pointers .entry)) (now (cells .entry))) ⌝ }
@@ -52,7 +38,6 @@ fn fold_heap(pointers: &[u8], cells: &[u8], order: &[u8], n: usize, held: &[u8])
         &mut shape[4..],
     );
     record::write_head(&mut shape, 0x48, Statement(0), k);
-    clear_past(&mut size, k);
     Folded {
         ended: Ended::Accepted,
         shape: shape,

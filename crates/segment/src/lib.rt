@@ -51,7 +51,7 @@ fn put(c: u8, k: usize, held: &[u8], node: &mut [u8], last: &mut [u8], size: &mu
 }
 
 // Cuts the first n cells of the order before each core cell. Of each segment it keeps the last cell and the size, of each
-// cell the number of its segment, and it answers how many segments there are.
+// cell the number of its segment, and it answers how many segments there are. Sizes past these stay.
 pub fn cut(
     order: &[u8],
     n: usize,
@@ -62,6 +62,7 @@ pub fn cut(
 ) -> usize
     requires { ⌜ CutReady (now order) n (now held) (now node) (now last) (now size) ⌝ }
     ensures { λ r. ⌜ IsCut (segs (now (held .entry)) (take n (now (order .entry)))) (now (node .exit)) (now (last .exit)) (now (size .exit)) r ⌝ }
+    ensures past { λ r. ⌜ drop r (now (size .exit)) ≡ drop r (now (size .entry)) ⌝ }
 {
     let mut k = 0;
     let mut i = 0;
