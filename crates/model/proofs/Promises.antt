@@ -9,7 +9,7 @@ use native.Mathlib.Omega.{arith}
 use lib.ListN.{drop, getD, length, replicate}
 use Rattle.model.specs.Answers.{outcomeOf, stepAnswerOf, stepNumbers, verdictOf}
 use Rattle.model.specs.Heap.{IsHeap}
-use Rattle.model.specs.Image.{answered, checksImage, checksStep, checksUnfold, foldImage, heapOf, stepImage, stepVerdict, unfoldImage, verdictBy}
+use Rattle.model.specs.Image.{answered, checksImage, checksStep, checksUnfold, foldImage, heapOf, stepImage, stepVerdict, toFault, unfoldImage, verdictBy}
 use Rattle.model.specs.Machine.{entry, step}
 use Rattle.model.specs.Records.{Refusal, filled, isAccepted, isRefused, isS, shapeOf, shapeRecord, stmtOf}
 use Rattle.model.specs.Shape.{counters, shape}
@@ -23,7 +23,7 @@ use Rattle.model.proofs.Notions.{CheckedBy, Halted}
 use Rattle.model.proofs.OneToOne.{halted-numbers, outcome-one, step-one, verdict-one}
 use Rattle.model.proofs.Outcomes.{bad-translate, fitting, places-most, refused-tables, translate-number}
 use Rattle.model.proofs.Refusals.{accepted-input, bad-number, good-accepted, record-number, refused-input}
-use Rattle.model.proofs.Stepping.{step-answers, step-checked, step-lengths, step-stays}
+use Rattle.model.proofs.Stepping.{step-answers, step-checked, step-faults, step-lengths, step-stays}
 
 -- ==== demand 1: every call states its outcome for all inputs
 
@@ -171,6 +171,13 @@ StepAnswers = (r : List ℕ) (p c : ℕ) (ps cs : List ℕ) → stepVerdict (ste
 
 pub step-is : StepAnswers
 step-is = step-answers
+
+-- "fault 1; .. fault 2 .. fault 3 (a leak)"
+abbrev pub StepFaults : Type 0
+StepFaults = (r : List ℕ) (p c : ℕ) (ps cs : List ℕ) (f : ℕ) → stepImage r p c ps cs .answer ≡ toFault f → (1 ≤ f) × (f ≤ 3)
+
+pub step-faults-known : StepFaults
+step-faults-known = step-faults
 
 -- "at a fault, a stop or a refusal both numbers are 0 and the heap stays"; lengths are kept
 abbrev pub StepLeaves : Type 0

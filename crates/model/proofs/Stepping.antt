@@ -1,5 +1,5 @@
 -- What a plain step on a heap image leaves, for all inputs: its refusals; that a refusal, a fault and a stop leave the heap; that lengths are kept.
-use Prim.Native.Nat.{_<_, suc, zero, ℕ}
+use Prim.Native.Nat.{_<_, suc, zero, ℕ, _≤_}
 use mathlib.Core.Path.{_∙_, _≡_, ap, refl, subst, sym}
 use mathlib.Core.Logic.{_⊎_, inl, inr}
 use mathlib.Core.Bool.{_&&_, false, not, true}
@@ -9,8 +9,8 @@ use lib.Dec.{eqb}
 use lib.ListN.{length, length-map}
 use borrow.Author.Tests.{leb-false, not-true}
 use Rattle.model.specs.Heap.{Heap, Slot, Val, cell, holds, next, null, ptr, undef, unused}
-use Rattle.model.specs.Image.{Stepping, answered, cellSlot, checksImage, checksStatement, checksStep, entryFits, heapOf, noStep, pastEnd, refusalImage, stays, stepImage, stepVerdict, verdictBy}
-use Rattle.model.specs.Machine.{Answer, Effect, Entry, Kind, Op, Stmt, accepts, allocates, answerOf, branch, choose, clear, copy, done, effect, fault, faulted, free, freeVal, held, isNull, keep, kind, load, new, other, picks, put, putSlot, refused, carryOut, same, setNull, setPtr, skip, step, stop, stopped, stops, store, through, unlessStop, went, wipeSlot, entry}
+use Rattle.model.specs.Image.{Stepping, answered, cellSlot, checksImage, checksStatement, checksStep, entryFits, heapOf, noStep, pastEnd, refusalImage, stays, stepImage, stepVerdict, verdictBy, StepAnswer, toFault, toNext, toStop}
+use Rattle.model.specs.Machine.{Answer, Effect, Entry, Kind, Op, Stmt, accepts, allocates, answerOf, branch, choose, clear, copy, done, effect, fault, faulted, free, freeVal, held, isNull, keep, kind, load, new, other, picks, put, putSlot, refused, carryOut, same, setNull, setPtr, skip, step, stop, stopped, stops, store, through, unlessStop, went, wipeSlot, entry, Fault, faultNumber, atNull, atUndef, leak}
 use Rattle.model.specs.Records.{checksS, firstFailed, isAccepted, isS, refusal, slotByte, stmtOf, unless, valByte, valOf}
 use Rattle.model.proofs.Checks.{checked-by, none-failed, not-both, pass-after, pass-before, pass-none}
 use Rattle.model.proofs.Effects.{closed-ptr}
@@ -81,7 +81,7 @@ step-checked r p c ps cs =
 
 -- ---- what a step answers
 
--- a step that is not refused is the machine's, and a fault has a number of 01
+-- a step that is not refused is the machine's
 pub step-answers : (r : List ℕ) (p c : ℕ) (ps cs : List ℕ) → stepVerdict (stepImage r p c ps cs .answer) ≡ isAccepted
     → stepImage r p c ps cs ≡ answered (step (stmtOf r) (entry p c) (heapOf ps cs)) ps cs
 step-answers r p c ps cs z = by-case (step-cases r p c ps cs)
@@ -89,6 +89,31 @@ step-answers r p c ps cs z = by-case (step-cases r p c ps cs)
     by-case : StepCases r p c ps cs → stepImage r p c ps cs ≡ answered (step (stmtOf r) (entry p c) (heapOf ps cs)) ps cs
     by-case (inl (n, e, q)) = not-both (stepVerdict (stepImage r p c ps cs .answer)) (refusal (suc n) 0) z (ap (λ (s : Stepping). stepVerdict (s .answer)) q)
     by-case (inr (e, q)) = q
+
+abbrev KnownFault : StepAnswer → Type 0
+KnownFault (toNext b n) = Unit {0}
+KnownFault (toFault f) = (1 ≤ f) × (f ≤ 3)
+KnownFault toStop = Unit {0}
+KnownFault (noStep x) = Unit {0}
+
+number-known : (f : Fault) → (1 ≤ faultNumber f) × (faultNumber f ≤ 3)
+number-known atNull = (omega arith, omega arith)
+number-known atUndef = (omega arith, omega arith)
+number-known leak = (omega arith, omega arith)
+
+answered-known : (a : Answer) (ps cs : List ℕ) → KnownFault (answered a ps cs .answer)
+answered-known refused ps cs = tt
+answered-known stopped ps cs = tt
+answered-known (faulted f) ps cs = number-known f
+answered-known (went b t h) ps cs = tt
+
+-- a fault is 1, 2 or 3
+pub step-faults : (r : List ℕ) (p c : ℕ) (ps cs : List ℕ) (f : ℕ) → stepImage r p c ps cs .answer ≡ toFault f → (1 ≤ f) × (f ≤ 3)
+step-faults r p c ps cs f e = subst KnownFault e (by-case (step-cases r p c ps cs))
+  where
+    by-case : StepCases r p c ps cs → KnownFault (stepImage r p c ps cs .answer)
+    by-case (inl (n, z, q)) = subst (λ (s : Stepping). KnownFault (s .answer)) (sym q) tt
+    by-case (inr (z, q)) = subst (λ (s : Stepping). KnownFault (s .answer)) (sym q) (answered-known (step (stmtOf r) (entry p c) (heapOf ps cs)) ps cs)
 
 -- ---- what stays
 
