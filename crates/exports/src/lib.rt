@@ -1,5 +1,6 @@
 // The calls for Rust and C: a slice passes as a pointer and a length. Answers are written over the start of the lent slices, as far
-// as these reach. Each call answers the refusal's number, 0 for none, and writes its place.
+// as these reach. Each call answers the refusal's number, 0 for none, and writes its place. What a call writes must not overlap with
+// anything else that is lent to it: the contracts are about slices that are apart.
 use model::Ended;
 use model::Stepped;
 ghost use mathlib.Core.Path.{_≡_};

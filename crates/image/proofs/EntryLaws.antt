@@ -9,7 +9,7 @@ use lib.ListN.{length, getD, length-map}
 use borrow.Author.Tests.{eq-eqb, eqb-true, le-leb, lt-leb, leb-false, ne-eqb, not-true}
 use Rattle.model.specs.Heap.{inUse, next}
 use Rattle.model.specs.Machine.{kind, entry}
-use Rattle.model.specs.Records.{byte, isS, opOf, refusalS, Check, checksS, firstFailed, unless}
+use Rattle.model.specs.Records.{byte, isS, opOf, refusalS, Row, checksS, firstFailed, unless}
 use Rattle.model.specs.Image.{heapOf, refusalImage, cellSlot, checksImage, checksStatement, entryFits}
 use Rattle.model.proofs.Images.{image-accepted, number-case}
 use Rattle.model.proofs.Logic.{and-l, and-r}
@@ -25,7 +25,7 @@ abbrev statement : List ℕ → Bool
 statement r = eqb (length r) 32 && isS r
 
 -- the checks after those of the image
-abbrev recordChecks : List ℕ → List Check
+abbrev recordChecks : List ℕ → List Row
 recordChecks r = unless 4 (statement r) ∷ checksS 64 r
 
 module _ (r ps cs : List ℕ) {m : ℕ} (e : m ≡ refusalImage ps cs) where

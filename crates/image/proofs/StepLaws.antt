@@ -12,7 +12,7 @@ use lib.ListN.{length, replicate, getD-replicate}
 use borrow.Author.Tests.{ne-eqb}
 use Rattle.model.specs.Heap.{Heap}
 use Rattle.model.specs.Machine.{Answer, done, Op, Stmt, accepts, answerOf, branch, kind, carryOut, target, unlessStop, step, entry}
-use Rattle.model.specs.Records.{byte, opOf, stmtOf, Check, firstFailed, refusal, unless}
+use Rattle.model.specs.Records.{byte, opOf, stmtOf, Row, firstFailed, refusal, unless}
 use Rattle.model.specs.Image.{Stepping, answered, heapOf, pastEnd, stays, stepImage, checksStatement, checksStep, entryFits, noStep, toFault, toNext, toStop}
 use Rattle.model.proofs.Ops.{op-goes}
 use Rattle.model.proofs.Step.{unless-go}
@@ -86,7 +86,7 @@ went-answer st b f qs ds ps cs z =
 abbrev ranAnswer : Stmt → ℕ → ℕ → List ℕ → List ℕ → Answer
 ranAnswer st p c ps cs = answerOf st (branch (st .op) p (heapOf ps cs)) (carryOut (st .op) c (heapOf ps cs))
 
-abbrev entryCheck : List ℕ → ℕ → ℕ → List ℕ → List ℕ → Check
+abbrev entryCheck : List ℕ → ℕ → ℕ → List ℕ → List ℕ → Row
 entryCheck r p c ps cs = unless 16 (entryFits (kind (stmtOf r .op)) (entry p c) (heapOf ps cs))
 
 -- a refusal of the checks, and the image with the machine's answer where there is none

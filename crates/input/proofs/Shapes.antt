@@ -10,7 +10,7 @@ use lib.ListN.{length, take, drop}
 use Rattle.model.specs.Base.{any, sameList, all}
 use Rattle.model.specs.Heap.{closed}
 use Rattle.model.specs.Image.{heapOf}
-use Rattle.model.specs.Records.{byte, isS, layoutH, refusalH, refusalS, shapeOf, Check, checksS, checksH, firstFailed}
+use Rattle.model.specs.Records.{byte, isS, layoutH, refusalH, refusalS, shapeOf, Row, checksS, checksH, firstFailed}
 use Rattle.model.specs.Shape.{canonical}
 use Rattle.model.proofs.Logic.{bool-case, and-l, and-r}
 use Rattle.model.proofs.ShapeBack.{layout-closed, shape-image}
@@ -46,11 +46,11 @@ module _ (e : List (List ℕ)) (r : List ℕ) where
 -- ---- no number is above 10
 
 -- no check of a record has a number above 10
-number-low : (cs : List Check) → all (λ (c : Check). leb (c .number) 10) cs ≡ true → firstFailed cs ≤ 10
+number-low : (cs : List Row) → all (λ (c : Row). leb (c .number) 10) cs ≡ true → firstFailed cs ≤ 10
 number-low [] h = omega arith
 number-low (c ∷ cs) h = bool-case (c .passes)
-    (λ p. rw (p, firstFailed) (number-low cs (and-r (leb (c .number) 10) (all (λ (x : Check). leb (x .number) 10) cs) h)))
-    (λ p. rw (p, firstFailed) (leb-true (c .number) 10 (and-l (leb (c .number) 10) (all (λ (x : Check). leb (x .number) 10) cs) h)))
+    (λ p. rw (p, firstFailed) (number-low cs (and-r (leb (c .number) 10) (all (λ (x : Row). leb (x .number) 10) cs) h)))
+    (λ p. rw (p, firstFailed) (leb-true (c .number) 10 (and-l (leb (c .number) 10) (all (λ (x : Row). leb (x .number) 10) cs) h)))
 
 pub number-few : (n : ℕ) (e : List (List ℕ)) (r : List ℕ) → cond (isS r) (refusalS n r) (refusalH e r) ≤ 10
 number-few n e r = bool-case (isS r) (λ a. rw a (number-low (checksS n r) refl)) (λ a. rw a (number-low (checksH e r) refl))

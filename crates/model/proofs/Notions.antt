@@ -12,7 +12,7 @@ use Rattle.model.specs.Base.{mem, sum}
 use Rattle.model.specs.Edges.{Edge, Guard, Loc, Update, always, at, failed, isMore, isOne}
 use Rattle.model.specs.Heap.{Heap, IsHeap, Slot, Val, cell, closed, holds, next, null, undef, unused}
 use Rattle.model.specs.Machine.{Effect, Fault, Kind, allocates, done, fault, other, picks, putSlot, stops}
-use Rattle.model.specs.Records.{Check, Verdict, isAccepted, isRefused, refusal}
+use Rattle.model.specs.Records.{Row, Verdict, isAccepted, isRefused, refusal}
 use Rattle.model.specs.Shape.{Seg, cells, core, segments, size}
 use Rattle.model.proofs.Lists.{In}
 use Rattle.model.proofs.Logic.{NoDup}
@@ -197,12 +197,12 @@ pub record SmallEdge (k : ℕ) (E : Edge) : Type 0 where
 -- ---- the checks of a call, in their order
 
 -- every check passes
-abbrev pub Pass : List Check → Type 0
+abbrev pub Pass : List Row → Type 0
 Pass [] = Unit {0}
 Pass (c ∷ cs) = (c .passes ≡ true) × Pass cs
 
 -- number n is given: its check does not pass, and every check before it does
-abbrev pub Given : List Check → ℕ → Type 0
+abbrev pub Given : List Row → ℕ → Type 0
 Given [] n = ⊥
 Given (c ∷ cs) n = ((c .number ≡ n) × (c .passes ≡ false)) ⊎ ((c .passes ≡ true) × Given cs n)
 
@@ -214,6 +214,6 @@ Halted toStop = Unit {0}
 Halted (noStep x) = Unit {0}
 
 -- A call is accepted exactly when every check passes; it is refused with a number, at place 0, exactly when that number is given.
-pub record CheckedBy (cs : List Check) (v : Verdict) : Type 0 where
+pub record CheckedBy (cs : List Row) (v : Verdict) : Type 0 where
   pub accepts : (v ≡ isAccepted) ↔ Pass cs
   pub refuses : (n p : ℕ) → (v ≡ isRefused (refusal n p)) ↔ ((p ≡ 0) × Given cs n)

@@ -8,7 +8,7 @@ use Rattle.model.specs.Base.{all, sum}
 use Rattle.model.specs.Heap.{Val, cell, null, undef, Slot, unused, holds, Heap, closed, kept}
 use Rattle.model.specs.Shape.{shape, counters, canonical}
 use Rattle.model.specs.Machine.{faultNumber, Kind, stops, picks, allocates, other, kind, Entry, entry, accepts, Answer, refused, stopped, faulted, went, step}
-use Rattle.model.specs.Records.{valByte, valOf, slotByte, byte, isZero, isS, filled, shapeRecord, layoutH, shapeOf, stmtOf, Refusal, refusal, Verdict, isAccepted, isRefused, Check, unless, firstFailed, checksS}
+use Rattle.model.specs.Records.{valByte, valOf, slotByte, byte, isZero, isS, filled, shapeRecord, layoutH, shapeOf, stmtOf, Refusal, refusal, Verdict, isAccepted, isRefused, Row, unless, firstFailed, checksS}
 
 -- "six pointer bytes and 0 to 240 cell bytes: a cell number, 0xfe, 0xff, or for a cell 0xfd (not in use)"
 abbrev pub cellSlot : ℕ → Slot
@@ -21,7 +21,7 @@ abbrev pub lengths : List ℕ → List ℕ → Bool
 lengths ps cs = eqb (length ps) 6 && leb (length cs) 240
 
 -- "13: pointers not six bytes, over 240 cells, or a value naming no cell in use", "14: a used cell unreachable"
-abbrev pub checksImage : List ℕ → List ℕ → List Check
+abbrev pub checksImage : List ℕ → List ℕ → List Row
 checksImage ps cs =
     let h = heapOf ps cs in
     unless 13 (lengths ps cs && closed h) ∷ unless 14 (kept h) ∷ []
@@ -89,7 +89,7 @@ abbrev pub countersFit : ℕ → List ℕ → ℕ → Bool
 countersFit k vs n = eqb (length vs) 12 && countsFit k vs n
 
 -- "Unfolding checks the lengths (13), then 8, 9, 15"; r a record, vs the counters, np and nc the lengths of pointers and cells
-abbrev pub checksUnfold : List ℕ → List ℕ → ℕ → ℕ → List Check
+abbrev pub checksUnfold : List ℕ → List ℕ → ℕ → ℕ → List Row
 checksUnfold r vs np nc =
     unless 13 (eqb np 6 && leb nc 240)
     ∷ unless 8 (eqb (length r) 32 && layoutH r)
@@ -164,11 +164,11 @@ abbrev pub entryFits : Kind → Entry → Heap → Bool
 entryFits k e h = not (pastEnd k (e .cellNo) (length (h .slots))) && accepts k e h
 
 -- "a plain step 13, 14, 4 (its record is no S), 5, 6, 7": "Its targets need only be below 64."
-abbrev pub checksStatement : List ℕ → List ℕ → List ℕ → List Check
+abbrev pub checksStatement : List ℕ → List ℕ → List ℕ → List Row
 checksStatement r ps cs = checksImage ps cs ++ unless 4 (eqb (length r) 32 && isS r) ∷ checksS 64 r
 
 -- and then 16
-abbrev pub checksStep : List ℕ → Entry → List ℕ → List ℕ → List Check
+abbrev pub checksStep : List ℕ → Entry → List ℕ → List ℕ → List Row
 checksStep r e ps cs = checksStatement r ps cs ++ unless 16 (entryFits (kind (stmtOf r .op)) e (heapOf ps cs)) ∷ []
 
 -- statement record r, pick p, cell c, pointers ps, cells cs

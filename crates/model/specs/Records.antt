@@ -116,15 +116,15 @@ pub data Verdict : Type 0 where
   isRefused : Refusal → Verdict
 
 -- a row of 01's table: the number, and whether its condition is not met
-pub record Check : Type 0 where
+pub record Row : Type 0 where
   pub number : ℕ
   pub passes : Bool
 
-abbrev pub unless : ℕ → Bool → Check
+abbrev pub unless : ℕ → Bool → Row
 unless n b = record { number = n; passes = b }
 
 -- the number of the first check that does not pass, 0 for none
-abbrev pub firstFailed : List Check → ℕ
+abbrev pub firstFailed : List Row → ℕ
 firstFailed [] = 0
 firstFailed (c ∷ cs) = elim (c .passes) [ true ↦ firstFailed cs | false ↦ c .number ]
 
@@ -168,7 +168,7 @@ targetsS n r =
     targetBelow n (usesFirst op) (byte r 4) && targetBelow n (usesSecond op) (byte r 5)
 
 -- "5: op above 11", then 6 and 7; among n statements
-abbrev pub checksS : ℕ → List ℕ → List Check
+abbrev pub checksS : ℕ → List ℕ → List Row
 checksS n r = unless 5 (leb (byte r 1) 11) ∷ unless 6 (fieldsS r) ∷ unless 7 (targetsS n r) ∷ []
 
 abbrev pub refusalS : ℕ → List ℕ → ℕ
@@ -186,7 +186,7 @@ layoutH r =
     && all (valueByte k) (take (6 + k) (drop 4 r)) && all isZero (drop (10 + k) r)
 
 -- "9: a node unreachable or not core, or another numbering", "10: equal to an earlier H"
-abbrev pub checksH : List (List ℕ) → List ℕ → List Check
+abbrev pub checksH : List (List ℕ) → List ℕ → List Row
 checksH earlier r =
     unless 8 (layoutH r) ∷ unless 9 (canonical (shapeOf r)) ∷ unless 10 (not (any (sameList eqb r) earlier)) ∷ []
 
