@@ -1,19 +1,24 @@
 //! The proved library, called from Rust. Nothing checks these declarations against the Rattle source, so they are few and plain:
-//! a slice passes as a pointer and a length.
+//! a slice passes as a pointer and a length, a lent number as a pointer.
+//!
+//! No two things that are lent to one call may overlap where one of them is written: no lent slice that a call writes may share a
+//! byte with another argument, nor may a lent number. The contracts are about slices that are apart, and Rust's own references see to
+//! that; a caller in C must.
 
 mod raw {
     extern "C" {
         pub fn currantplane_fold(
             pointers: *const u8, pointers_len: usize, cells: *const u8, cells_len: usize,
-            shape: *mut u8, shape_len: usize, counters: *mut u32, counters_len: usize,
+            shape: *mut u8, shape_len: usize, counters: *mut u32, counters_len: usize, place: *mut usize,
         ) -> u8;
         pub fn currantplane_unfold(
             record: *const u8, record_len: usize, counters: *const u32, counters_len: usize,
-            pointers: *mut u8, pointers_len: usize, cells: *mut u8, cells_len: usize,
+            pointers: *mut u8, pointers_len: usize, cells: *mut u8, cells_len: usize, place: *mut usize,
         ) -> u8;
         pub fn currantplane_step(
             pointers: *mut u8, pointers_len: usize, cells: *mut u8, cells_len: usize,
             statement: *const u8, statement_len: usize, pick: u8, cell: usize, answer: *mut u8, answer_len: usize,
+            place: *mut usize,
         ) -> u8;
         pub fn currantplane_translate(
             input: *const u8, input_len: usize, locations: *mut u8, locations_len: usize,
@@ -22,47 +27,58 @@ mod raw {
     }
 }
 
-/// Refusal, H record and counters.
-pub fn fold(pointers: &[u8], cells: &[u8]) -> (u8, [u8; 32], [u32; 12]) {
-    let (mut shape, mut counters) = ([0xaa; 32], [0xaaaa_aaaa; 12]);
-    let refusal = unsafe {
-        raw::currantplane_fold(
-            pointers.as_ptr(), pointers.len(), cells.as_ptr(), cells.len(),
-            shape.as_mut_ptr(), 32, counters.as_mut_ptr(), 12,
-        )
-    };
-    (refusal, shape, counters)
+/// A refusal's number and its place; the number is 0 where nothing is refused.
+#[derive(Clone, Copy, PartialEq, Eq, Debug)]
+pub struct Refusal {
+    pub number: u8,
+    pub place: usize,
 }
 
-pub fn unfold(record: &[u8], counters: &[u32; 12], pointers: &mut [u8], cells: &mut [u8]) -> u8 {
-    unsafe {
-        raw::currantplane_unfold(
-            record.as_ptr(), record.len(), counters.as_ptr(), 12,
-            pointers.as_mut_ptr(), pointers.len(), cells.as_mut_ptr(), cells.len(),
+/// Refusal, H record and counters; a refused fold gives zeros.
+pub fn fold(pointers: &[u8], cells: &[u8]) -> (Refusal, [u8; 32], [u32; 12]) {
+    let (mut shape, mut counters, mut place) = ([0xaa; 32], [0xaaaa_aaaa; 12], usize::MAX);
+    let number = unsafe {
+        raw::currantplane_fold(
+            pointers.as_ptr(), pointers.len(), cells.as_ptr(), cells.len(),
+            shape.as_mut_ptr(), 32, counters.as_mut_ptr(), 12, &mut place,
         )
-    }
+    };
+    (Refusal { number, place }, shape, counters)
+}
+
+/// A refused unfolding leaves pointers and cells.
+pub fn unfold(record: &[u8], counters: &[u32], pointers: &mut [u8], cells: &mut [u8]) -> Refusal {
+    let mut place = usize::MAX;
+    let number = unsafe {
+        raw::currantplane_unfold(
+            record.as_ptr(), record.len(), counters.as_ptr(), counters.len(),
+            pointers.as_mut_ptr(), pointers.len(), cells.as_mut_ptr(), cells.len(), &mut place,
+        )
+    };
+    Refusal { number, place }
 }
 
 /// Refusal, then fault, stop, branch and next statement.
-pub fn step(pointers: &mut [u8], cells: &mut [u8], statement: &[u8], pick: u8, cell: usize) -> (u8, [u8; 4]) {
-    let mut answer = [0xaa; 4];
-    let refusal = unsafe {
+pub fn step(pointers: &mut [u8], cells: &mut [u8], statement: &[u8], pick: u8, cell: usize) -> (Refusal, [u8; 4]) {
+    let (mut answer, mut place) = ([0xaa; 4], usize::MAX);
+    let number = unsafe {
         raw::currantplane_step(
             pointers.as_mut_ptr(), pointers.len(), cells.as_mut_ptr(), cells.len(),
-            statement.as_ptr(), statement.len(), pick, cell, answer.as_mut_ptr(), 4,
+            statement.as_ptr(), statement.len(), pick, cell, answer.as_mut_ptr(), 4, &mut place,
         )
     };
-    (refusal, answer)
+    (Refusal { number, place }, answer)
 }
 
-/// Refusal, then its place, the number of locations and the number of edges.
-pub fn translate(input: &[u8], locations: &mut [u8], edges: &mut [u8]) -> (u8, [usize; 3]) {
+/// Refusal, then the number of locations and the number of edges; a refused translation leaves both tables all zero.
+pub fn translate(input: &[u8], locations: &mut [u8], edges: &mut [u8]) -> (Refusal, [usize; 2]) {
     let mut answer = [usize::MAX; 3];
-    let refusal = unsafe {
+    let number = unsafe {
         raw::currantplane_translate(
             input.as_ptr(), input.len(), locations.as_mut_ptr(), locations.len(),
             edges.as_mut_ptr(), edges.len(), answer.as_mut_ptr(), 3,
         )
     };
-    (refusal, answer)
+    let [place, locations, edges] = answer;
+    (Refusal { number, place }, [locations, edges])
 }

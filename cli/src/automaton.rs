@@ -14,11 +14,7 @@ pub struct Places {
 
 pub const ALL_PLACES: Places = Places { locations: MOST_LOCATIONS, edges: MOST_EDGES };
 
-#[derive(Clone, Copy, PartialEq, Eq, Debug)]
-pub struct Refusal {
-    pub number: u8,
-    pub place: usize,
-}
+pub use currantplane::Refusal;
 
 /// The two tables as they were written, one record after the other.
 pub struct Tables {
@@ -29,9 +25,9 @@ pub struct Tables {
 /// Asks the proved translator.
 pub fn tables(records: &[u8], places: Places) -> Result<Tables, Refusal> {
     let (mut locations, mut edges) = (vec![0; SIZE * places.locations], vec![0; SIZE * places.edges]);
-    let (number, [place, l, e]) = currantplane::translate(records, &mut locations, &mut edges);
-    if number != 0 {
-        return Err(Refusal { number, place });
+    let (refusal, [l, e]) = currantplane::translate(records, &mut locations, &mut edges);
+    if refusal.number != 0 {
+        return Err(refusal);
     }
     locations.truncate(SIZE * l);
     edges.truncate(SIZE * e);

@@ -1,6 +1,6 @@
 //! The routine on a heap, and the automaton beside it: one proved step of the one, one edge of the other.
 
-use crate::automaton::Automaton;
+use crate::automaton::{Automaton, Refusal};
 use crate::record::{Record, NODES, POINTERS};
 
 /// As many cells as a heap image has.
@@ -16,22 +16,22 @@ pub struct Machine {
     pub fault: u8,
 }
 
-/// What became of a step. A refusal is its number.
+/// What became of a step.
 #[derive(Clone, Copy, PartialEq, Eq, Debug)]
 pub enum Stepped {
     Made { branch: u8 },
     Stopped,
-    Refused(u8),
+    Refused(Refusal),
 }
 
 impl Machine {
     /// The heap of a starting shape with these counters, unfolded by the proved library.
-    pub fn start(shape: &Record, counters: &[u32]) -> Result<Machine, u8> {
+    pub fn start(shape: &Record, counters: &[u32]) -> Result<Machine, Refusal> {
         let mut all = [0; NODES];
         all[..counters.len()].copy_from_slice(counters);
         let mut machine = Machine { pointers: [0; POINTERS], cells: [0; CELLS], statement: 0, fault: 0 };
         match currantplane::unfold(shape, &all, &mut machine.pointers, &mut machine.cells) {
-            0 => Ok(machine),
+            Refusal { number: 0, .. } => Ok(machine),
             refusal => Err(refusal),
         }
     }
@@ -41,11 +41,11 @@ impl Machine {
         let cell = self.cells.iter().position(|&c| c == UNUSED).unwrap_or(CELLS);
         let (refusal, [fault, stop, branch, next]) =
             currantplane::step(&mut self.pointers, &mut self.cells, statement, pick, cell);
-        match (refusal, fault, stop) {
+        match (refusal.number, fault, stop) {
             (0, 0, 0) => self.statement = next as usize,
             (0, 0, _) => return Stepped::Stopped,
             (0, fault, _) => self.fault = fault,
-            (refusal, ..) => return Stepped::Refused(refusal),
+            _ => return Stepped::Refused(refusal),
         }
         Stepped::Made { branch }
     }
@@ -89,8 +89,8 @@ pub fn compare(automaton: &Automaton, at: &Configuration, machine: &Machine) -> 
         return Ok(());
     }
     let (refusal, record, counters) = currantplane::fold(&machine.pointers, &machine.cells);
-    if refusal != 0 {
-        return Err(format!("the heap is no heap image: refusal {refusal}"));
+    if refusal.number != 0 {
+        return Err(format!("the heap is no heap image: refusal {}", refusal.number));
     }
     if location.shape != crate::record::Shape::read(&record) {
         return Err("the heap has another shape than the location".into());

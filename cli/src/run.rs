@@ -35,7 +35,7 @@ pub enum End {
     Fault(u8),
     NoPick,
     NoMoreSteps,
-    Refused(u8),
+    Refused(Refusal),
     Mismatch(String),
 }
 
@@ -88,7 +88,7 @@ impl Run<'_> {
                 drawn.trim_end()
             )));
         }
-        let refused = |number| refusal::failure(Refusal { number, place: 0 }, self.source, ALL_PLACES);
+        let refused = |r: Refusal| refusal::failure(r, self.source, ALL_PLACES);
         let machine = Machine::start(&shape.write(), &options.heap).map_err(refused)?;
         let counters = options.heap.iter().map(|&c| u64::from(c)).collect();
         Ok(Pair { machine, at: Configuration { location: options.shape, counters } })
@@ -115,7 +115,7 @@ impl Run<'_> {
         let branch = match pair.machine.step(&statement.write(), pick) {
             Stepped::Made { branch } => branch,
             Stepped::Stopped => return Err(End::Mismatch("the plain step stopped at a statement that is no stop".into())),
-            Stepped::Refused(number) => return Err(End::Refused(number)),
+            Stepped::Refused(refusal) => return Err(End::Refused(refusal)),
         };
         let lead = format!("{:<INDENT$}", format!("step {number}"));
         text.push_str(&format!("\n{}{name}: {}\n", self.style.strong(&lead), names::statement(statement)));
@@ -168,8 +168,8 @@ impl Run<'_> {
             }
             End::NoPick => "The run waits at choose: --picks has no pick left.".into(),
             End::NoMoreSteps => "The run could go on: --steps sets how far.".into(),
-            End::Refused(number) => {
-                let why = refusal::words(Refusal { number: *number, place: 0 }, self.source, ALL_PLACES);
+            End::Refused(refusal) => {
+                let why = refusal::words(*refusal, self.source, ALL_PLACES);
                 return paragraph("", 0, &format!("{so_far} The next step is refused.")) + &why;
             }
             End::Mismatch(how) => {

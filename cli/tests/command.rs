@@ -2,7 +2,7 @@
 
 mod common;
 
-use common::{example, folder, root, text, tool};
+use common::{example, folder, printed, root, text, tool};
 use std::process::Stdio;
 
 fn status(words: &[&str], input: &[u8]) -> i32 {
@@ -64,10 +64,10 @@ fn help_says_what_is_proved() {
         assert!(said.lines().all(|l| l.len() <= 100), "{said}");
     }
     for option in ["--hex", "--dot", "--svg", "--locations", "--edges"] {
-        assert!(text(&tool(&["help", "translate"], b"").stdout).contains(option));
+        assert!(text(&printed(&["help", "translate"], b"")).contains(option));
     }
     for option in ["--heap", "--shape", "--picks", "--steps"] {
-        assert!(text(&tool(&["help", "run"], b"").stdout).contains(option));
+        assert!(text(&printed(&["help", "run"], b"")).contains(option));
     }
 }
 
@@ -91,16 +91,16 @@ fn files_are_written_whole_or_not_at_all() {
     assert_eq!((done.status.code(), done.stdout.len(), done.stderr.len()), (Some(0), 0, 0));
     let records = std::fs::read(root().join("examples/reverse.records")).unwrap();
     assert_eq!(std::fs::read(&file).unwrap(), records);
-    assert_eq!(tool(&["assemble", "-"], example("reverse").as_bytes()).stdout, records);
+    assert_eq!(printed(&["assemble", "-"], example("reverse").as_bytes()), records);
     assert_eq!(status(&["assemble", "examples/reverse.txt", "-o", "/nowhere/out"], b""), 2);
 }
 
 #[test]
 fn text_and_records_give_the_same() {
-    let records = tool(&["assemble", "examples/ring.txt"], b"").stdout;
+    let records = printed(&["assemble", "examples/ring.txt"], b"");
     for option in ["--hex", "--locations=1000"] {
-        let of_text = text(&tool(&["translate", "examples/ring.txt", option], b"").stdout);
-        let of_records = text(&tool(&["translate", "-", option], &records).stdout);
+        let of_text = text(&printed(&["translate", "examples/ring.txt", option], b""));
+        let of_records = text(&printed(&["translate", "-", option], &records));
         // records have no labels and no file name
         let plain = of_text.replace("examples/ring.txt", "standard input").replace(" (turn)", "").replace(" (alone)", "");
         assert_eq!(plain, of_records);
@@ -110,7 +110,7 @@ fn text_and_records_give_the_same() {
 #[test]
 fn no_colours_without_a_terminal() {
     for words in [vec!["translate", "examples/leak.txt"], vec!["run", "examples/leak.txt", "--heap", "2"]] {
-        assert!(!tool(&words, b"").stdout.contains(&0x1b));
+        assert!(!printed(&words, b"").contains(&0x1b));
     }
 }
 

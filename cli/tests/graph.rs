@@ -2,7 +2,7 @@
 
 mod common;
 
-use common::{example, folder, text, tool, Draw};
+use common::{example, folder, printed, text, Draw};
 use tool::automaton::{tables, Automaton, ALL_PLACES};
 use tool::drawing::shape_lines;
 use tool::names;
@@ -12,7 +12,7 @@ use tool::text::assemble;
 #[test]
 fn a_graph_has_every_location_and_edge() {
     for name in common::EXAMPLES {
-        let shown = text(&tool(&["translate", &format!("examples/{name}.txt"), "--dot"], b"").stdout);
+        let shown = text(&printed(&["translate", &format!("examples/{name}.txt"), "--dot"], b""));
         let tables = tables(&assemble(&example(name)).unwrap().records, ALL_PLACES).unwrap();
         let automaton = Automaton::read(&tables);
         let count = |what: &str| shown.lines().filter(|l| l.contains(what)).count();

@@ -128,7 +128,7 @@ fn tables_that_are_full() {
     refused(&["--edges", "3"], "refused 12\n  meaning: the table has no place for an edge");
     refused(&["--edges", "3"], "here:    all 3 places were in use when location 3 was explored");
     let done = tool(&["translate", "examples/insert.txt", "--hex", "--edges", "3"], b"");
-    assert_eq!(text(&done.stdout), "refused 12 3\n");
+    assert_eq!((done.status.code(), text(&done.stdout)), (Some(1), "refused 12 3\n".into()));
     let routine = Routine::read(&assemble(&example("insert")).unwrap().records);
     assert_eq!(routine.shapes.len(), 2);
 }

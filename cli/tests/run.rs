@@ -2,7 +2,7 @@
 
 mod common;
 
-use common::{example, text, tool, Draw};
+use common::{example, printed, text, tool, Draw};
 use tool::automaton::{Automaton, Guard, ALL_PLACES};
 use tool::record::Routine;
 use tool::run::{End, Options, Ran, Run};
@@ -78,7 +78,7 @@ fn examples_do_what_they_say() {
 
 #[test]
 fn one_cell_and_forty() {
-    let shown = text(&tool(&["run", "examples/two-lists.txt", "--heap", "1,40"], b"").stdout);
+    let shown = text(&printed(&["run", "examples/two-lists.txt", "--heap", "1,40"], b""));
     assert!(shown.contains("p1 -> 1 -> 2 -> .. 37 more .. -> 40 -> null\n"), "{shown}");
     assert!(shown.contains("statement 4: p2 := p2.next\n  edge 4     if c0 = 1: counters kept\n"), "{shown}");
     assert!(shown.contains("  match      location 5 at statement 5, c0 = 1, c1 = 40\n"), "{shown}");

@@ -1,17 +1,23 @@
 //! The three calls on heap images: fold, unfold and one plain step.
 
-use crate::fold::fold_heap;
+use crate::fold::{fold_heap, Counters};
 use crate::image::{lengths_fit, read_image, write_image};
+use crate::input::Refusal;
 use crate::machine::{run, Outcome};
 use crate::records::{node_count, Record, NODES, RECORD, STATEMENT, STATEMENTS};
 use crate::statement::{read_statement, Op, Statement};
 use crate::unfold::{check_shape, unfold_shape};
 
+/// A refusal of these calls: the place is 0 for every number.
+fn refusal(number: u8) -> Refusal {
+    Refusal { number, place: 0 }
+}
+
 /// The answer of [`fold`]. On a refusal the record and the counters are zero.
 #[derive(Clone, Copy, PartialEq, Eq, Debug)]
 pub struct Folded {
-    /// 0 for none, otherwise 13 or 14.
-    pub refusal: u8,
+    /// 13 or 14, if there is one.
+    pub refusal: Option<Refusal>,
     /// The H record of the shape.
     pub record: Record,
     /// The cells of each node, 0 past the last node.
@@ -24,13 +30,13 @@ pub fn fold(pointers: &[u8], cells: &[u8]) -> Folded {
         Ok(heap) => {
             let (record, counters) = fold_heap(&heap);
             Folded {
-                refusal: 0,
+                refusal: None,
                 record,
                 counters: counters.map(|counter| counter as u32),
             }
         }
-        Err(refusal) => Folded {
-            refusal,
+        Err(number) => Folded {
+            refusal: Some(refusal(number)),
             record: [0; RECORD],
             counters: [0; NODES],
         },
@@ -38,41 +44,46 @@ pub fn fold(pointers: &[u8], cells: &[u8]) -> Folded {
 }
 
 /// Unfolds a shape with counters into a lent heap image, whose contents do
-/// not matter. Answers 0, or the refusal 13, 8, 9 or 15; then nothing is
-/// written.
-pub fn unfold(record: &[u8], counters: &[u32; NODES], pointers: &mut [u8], cells: &mut [u8]) -> u8 {
+/// not matter. Refuses with 13, 8, 9 or 15; then nothing is written. A list
+/// of counters that is not twelve long is refused with 15.
+pub fn unfold(
+    record: &[u8],
+    counters: &[u32],
+    pointers: &mut [u8],
+    cells: &mut [u8],
+) -> Result<(), Refusal> {
     if !lengths_fit(pointers, cells) {
-        return 13;
+        return Err(refusal(13));
     }
-    let Ok(record) = Record::try_from(record) else {
-        return 8;
-    };
-    if let Err(refusal) = check_shape(&record) {
-        return refusal;
-    }
-    if !counters_fit(counters, node_count(&record), cells.len()) {
-        return 15;
-    }
-    let heap = unfold_shape(&record, &counters.map(u64::from));
-    write_image(&heap, pointers, cells);
-    0
+    let record = Record::try_from(record).map_err(|_| refusal(8))?;
+    check_shape(&record).map_err(refusal)?;
+    let counters = read_counters(counters, node_count(&record), cells.len()).map_err(refusal)?;
+    write_image(&unfold_shape(&record, &counters), pointers, cells);
+    Ok(())
 }
 
-/// Whether each node, and nothing past the nodes, has a counter, and the
+/// Takes the counters of a shape with so many nodes, or refuses them with 15:
+/// there are twelve, each node and nothing past the nodes has one, and the
 /// cells suffice for all of them.
-fn counters_fit(counters: &[u32; NODES], nodes: usize, cells: usize) -> bool {
+fn read_counters(counters: &[u32], nodes: usize, cells: usize) -> Result<Counters, u8> {
+    let counters = <[u32; NODES]>::try_from(counters).map_err(|_| 15u8)?;
+    let counters = counters.map(u64::from);
     let (present, past) = counters.split_at(nodes);
-    let sum: u64 = present.iter().map(|&counter| u64::from(counter)).sum();
-    present.iter().all(|&counter| counter != 0)
+    let fit = present.iter().all(|&counter| counter != 0)
         && past.iter().all(|&counter| counter == 0)
-        && sum <= cells as u64
+        && present.iter().sum::<u64>() <= cells as u64;
+    if fit {
+        Ok(counters)
+    } else {
+        Err(15)
+    }
 }
 
 /// The answer of [`step`].
 #[derive(Clone, Copy, PartialEq, Eq, Debug)]
 pub enum Stepped {
     /// 13, 14, 4, 5, 6, 7 or 16; the heap stays.
-    Refused(u8),
+    Refused(Refusal),
     /// The statement is a stop; the heap stays.
     Stop,
     /// 1, 2 or 3; the heap stays.
@@ -92,11 +103,11 @@ pub fn step(
 ) -> Stepped {
     let mut heap = match read_image(pointers, cells) {
         Ok(heap) => heap,
-        Err(refusal) => return Stepped::Refused(refusal),
+        Err(number) => return Stepped::Refused(refusal(number)),
     };
     let statement = match read_single(statement) {
         Ok(statement) => statement,
-        Err(refusal) => return Stepped::Refused(refusal),
+        Err(number) => return Stepped::Refused(refusal(number)),
     };
     let unused = |number: u64| number < cells.len() as u64 && !heap.in_use(number as usize);
     let refused = match statement.op {
@@ -105,7 +116,7 @@ pub fn step(
         _ => false,
     };
     if refused {
-        return Stepped::Refused(16);
+        return Stepped::Refused(refusal(16));
     }
     match run(&mut heap, &statement, pick, cell as usize) {
         Outcome::Stop => Stepped::Stop,

@@ -5,6 +5,7 @@ use std::io::{Read, Write};
 use crate::calls::{fold, step, unfold, Stepped};
 use crate::heap::POINTERS;
 use crate::help;
+use crate::input::Refusal;
 use crate::records::{hex, NULL, RECORD, UNUSED};
 use crate::selftest;
 use crate::text::{write_counters, write_record, write_values, Lines};
@@ -29,8 +30,9 @@ fn result(text: String) -> Result<Answer, String> {
     Ok(Answer { status, text })
 }
 
-fn refused(number: u8, place: usize) -> Result<Answer, String> {
+fn refused(refusal: Refusal) -> Result<Answer, String> {
     let status = REFUSED;
+    let Refusal { number, place } = refusal;
     let text = format!("refused {number} {place}\n");
     Ok(Answer { status, text })
 }
@@ -103,7 +105,8 @@ fn run_translate(input: &mut dyn Read) -> Result<Answer, String> {
     let mut edges = vec![0; EDGES * RECORD];
     let answer = translate(&input, &mut locations, &mut edges);
     if answer.refusal != 0 {
-        return refused(answer.refusal, answer.place);
+        let (number, place) = (answer.refusal, answer.place);
+        return refused(Refusal { number, place });
     }
     let mut text = String::new();
     for (table, count) in [(&locations, answer.locations), (&edges, answer.edges)] {
@@ -118,8 +121,8 @@ fn run_translate(input: &mut dyn Read) -> Result<Answer, String> {
 fn run_fold(input: &[u8]) -> Result<Answer, String> {
     let lines = Lines::read(input, &["pointers", "cells"])?;
     let folded = fold(&lines.values("pointers")?, &lines.values("cells")?);
-    if folded.refusal != 0 {
-        return refused(folded.refusal, 0);
+    if let Some(refusal) = folded.refusal {
+        return refused(refusal);
     }
     result(write_record("record", &folded.record) + &write_counters("counters", &folded.counters))
 }
@@ -138,8 +141,8 @@ fn run_unfold(input: &[u8]) -> Result<Answer, String> {
         (lines.values("pointers")?, lines.values("cells")?)
     };
     match unfold(&record, &counters, &mut pointers, &mut cells) {
-        0 => result(write_heap(&pointers, &cells)),
-        refusal => refused(refusal, 0),
+        Ok(()) => result(write_heap(&pointers, &cells)),
+        Err(refusal) => refused(refusal),
     }
 }
 
@@ -152,7 +155,7 @@ fn run_step(input: &[u8]) -> Result<Answer, String> {
     let pick = lines.number_or_zero("pick")?;
     let cell = lines.number_or_zero("cell")?;
     let first = match step(&mut pointers, &mut cells, &statement, pick, cell) {
-        Stepped::Refused(refusal) => return refused(refusal, 0),
+        Stepped::Refused(refusal) => return refused(refusal),
         Stepped::Stop => "stop\n".to_string(),
         Stepped::Fault(fault) => format!("fault {fault}\n"),
         Stepped::Moved { branch, next } => format!("moved {branch} {next}\n"),

@@ -43,7 +43,7 @@ usage: reference unfold < FILE
 
 Reads a shape, its counters and how many cells are lent:
   record HEX          an H record, 64 hex digits (another length is refused)
-  counters NUMBER...  at most twelve numbers below 2^32; the rest are 0
+  counters NUMBER...  twelve numbers below 2^32 (another count is refused)
   length NUMBER       so many cells, at most 65,536
 In place of 'length' the lent heap may be given, whose values do not matter:
   pointers VALUE...

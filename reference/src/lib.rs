@@ -6,7 +6,8 @@
 //! folds the result, and infers the edges from several such probes.
 //!
 //! The calls are [`translate`], [`fold`], [`unfold`] and [`step`]. None of
-//! them panics, whatever the bytes and lengths are; each refuses by number.
+//! them panics, whatever the bytes and lengths are; each refuses by number and
+//! place.
 
 mod automaton;
 mod calls;
@@ -28,4 +29,5 @@ mod translate;
 mod unfold;
 
 pub use calls::{fold, step, unfold, Folded, Stepped};
+pub use input::Refusal;
 pub use translate::{translate, Translated};

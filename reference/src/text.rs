@@ -98,17 +98,13 @@ impl<'a> Lines<'a> {
         Ok(length as usize)
     }
 
-    /// Twelve counters, of which the last ones may be left out.
-    pub fn counters(&self, name: &str) -> Result<[u32; NODES], String> {
+    /// The counters of a line, however many there are.
+    pub fn counters(&self, name: &str) -> Result<Vec<u32>, String> {
         let line = self.line(name)?;
-        if line.words.len() > NODES {
-            return line.check(Err("more than twelve counters".to_string()));
-        }
-        let mut counters = [0; NODES];
-        for (counter, word) in counters.iter_mut().zip(&line.words) {
-            *counter = line.check(number(word))?;
-        }
-        Ok(counters)
+        line.words
+            .iter()
+            .map(|word| line.check(number(word)))
+            .collect()
     }
 }
 
@@ -209,6 +205,17 @@ mod tests {
     }
 
     #[test]
+    fn counters_are_read_however_many() {
+        for count in [0, 1, 11, 12, 13, 1000] {
+            let counters: Vec<u32> = (0..count).map(|number| u32::MAX - number).collect();
+            let words: Vec<String> = counters.iter().map(u32::to_string).collect();
+            let input = format!("counters {}\n", words.join(" "));
+            let lines = Lines::read(input.as_bytes(), &["counters"]).unwrap();
+            assert_eq!(lines.counters("counters"), Ok(counters));
+        }
+    }
+
+    #[test]
     fn errors_name_the_line() {
         let error = |input: &[u8]| match Lines::read(input, &["counters", "record"]) {
             Err(error) => error,
@@ -222,7 +229,6 @@ mod tests {
         assert!(error(b"\n\ncounters \xff").starts_with("line 3: not plain"));
         assert!(error(b"counters 4294967296").starts_with("line 1: '4294967296' is no number"));
         assert!(error(b"counters +1").starts_with("line 1: '+1' is no number"));
-        assert!(error(b"counters 1 1 1 1 1 1 1 1 1 1 1 1 1").starts_with("line 1: more than"));
         assert!(error(b"counters\nrecord 123").starts_with("line 2: '123' is not made of pairs"));
         assert!(error(b"counters\nrecord 00 00").starts_with("line 2: 'record' is followed by"));
         assert_eq!(error(b"counters 1"), "no line 'record'");

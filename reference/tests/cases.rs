@@ -22,6 +22,7 @@ fn every_pair_agrees() {
     let mut differing = Vec::new();
     for path in &inputs {
         let expected = fs::read(path.with_extension("out")).expect("an .out for each .in");
+        assert!(!expected.is_empty(), "{} has an empty .out", path.display());
         let output = Command::new(env!("CARGO_BIN_EXE_reference"))
             .arg("translate")
             .stdin(File::open(path).expect("the input"))

@@ -107,11 +107,9 @@ fn translate_reads_at_most_4096_bytes() {
     long.push(0);
     check(&["translate"], &long, 1, "refused 3 0\n");
     long.resize(200_000, 0);
-    assert_eq!(run(&["translate"], &long).output, "refused 3 0\n");
-    assert_eq!(
-        run_in_pieces(&["translate"], &long[..4300], 1).output,
-        "refused 3 0\n"
-    );
+    check(&["translate"], &long, 1, "refused 3 0\n");
+    let ran = run_in_pieces(&["translate"], &long[..4300], 1);
+    assert_eq!((ran.status, &ran.output[..]), (1, "refused 3 0\n"));
 }
 
 #[test]
@@ -129,21 +127,61 @@ fn fold_and_unfold() {
     );
     let lent = "pointers 9 9 9 9 9 9\ncells 7 undef null # any\n";
     check(&["unfold"], (folded.clone() + lent).as_bytes(), 0, unfolded);
-    let few = format!("record {record}\ncounters 2\nlength 1\n");
-    check(&["unfold"], few.as_bytes(), 1, "refused 15 0\n");
-    let many = format!("record {record}\ncounters 2\nlength 241\n");
-    check(&["unfold"], many.as_bytes(), 1, "refused 13 0\n");
-    check(
-        &["unfold"],
-        b"record 48\ncounters\nlength 0",
-        1,
-        "refused 8 0\n",
-    );
+    let ran = run_in_pieces(&["fold"], heap, 1);
+    assert_eq!((ran.status, ran.output), (0, folded));
+}
+
+#[test]
+fn fold_refuses() {
     check(&["fold"], b"pointers\ncells\n", 1, "refused 13 0\n");
     let lost = b"pointers null null null null null null\r\ncells 0\r\n";
     check(&["fold"], lost, 1, "refused 14 0\n");
-    let ran = run_in_pieces(&["fold"], heap, 1);
-    assert_eq!((ran.status, ran.output), (0, folded));
+}
+
+/// Wants this refusal at place 0 of an unfolding with these counters.
+#[track_caller]
+fn check_unfold(record: &[u8], counters: &[u32], length: usize, number: u8) {
+    let words: String = counters.iter().map(|word| format!(" {word}")).collect();
+    let record = hex(record);
+    let text = format!("record {record}\ncounters{words}\nlength {length}\n");
+    let due = format!("refused {number} 0\n");
+    check(&["unfold"], text.as_bytes(), 1, &due);
+}
+
+#[test]
+fn unfold_refuses() {
+    let one = h(pointers(&[0]), &[NULL]);
+    let mut counters = [0; 12];
+    counters[0] = 2;
+    check_unfold(&one, &counters, 1, 15);
+    check_unfold(&h(NULLS, &[NULL]), &counters, 2, 9);
+    check_unfold(&one[..31], &counters, 2, 8);
+    check_unfold(&one, &counters, 241, 13);
+}
+
+#[test]
+fn unfold_takes_any_number_of_counters() {
+    let one = h(pointers(&[0]), &[NULL]);
+    let mut longer = [0; 13];
+    longer[0] = 1;
+    // None is filled up with zeros, and none is cut.
+    let lists: [&[u32]; 6] = [
+        &[],
+        &[1],
+        &longer[..11],
+        &longer,
+        &[0; 100],
+        &[u32::MAX; 300],
+    ];
+    for counters in lists {
+        check_unfold(&one, counters, 1, 15);
+        check_unfold(&h(NULLS, &[]), counters, 0, 15);
+        check_unfold(&h(NULLS, &[NULL]), counters, 1, 9);
+        check_unfold(&l(0, pointers(&[0]), &[NULL]), counters, 1, 8);
+        check_unfold(&[0x48], counters, 1, 8);
+        check_unfold(&one, counters, 241, 13);
+        check_unfold(&[0x48], counters, 241, 13);
+    }
 }
 
 #[test]
@@ -158,12 +196,30 @@ fn step_in_text() {
     check(&["step"], &new, 0, &format!("moved 0 7\n{after}"));
     let choose = with(s(10, 0, 0, 7, 9), "pick 1\n");
     check(&["step"], &choose, 0, &format!("moved 1 9\n{stays}"));
-    let choose = with(s(10, 0, 0, 7, 9), "pick 2\n");
-    check(&["step"], &choose, 1, "refused 16 0\n");
     check(&["step"], &with(stop(), ""), 0, &format!("stop\n{stays}"));
     let leak = with(s(1, 0, 0, 0, 0), "");
     check(&["step"], &leak, 0, &format!("fault 3\n{stays}"));
-    check(&["step"], &with([0; 32], ""), 1, "refused 4 0\n");
+}
+
+#[test]
+fn step_refuses() {
+    let refused = |pointers: &str, statement: Record, number: u8| {
+        let statement = hex(&statement);
+        let text = format!("pointers {pointers}\ncells null null unused\nstatement {statement}\n");
+        let text = text + "pick 2\ncell 3\n";
+        let due = format!("refused {number} 0\n");
+        check(&["step"], text.as_bytes(), 1, &due);
+    };
+    refused("0 1", s(12, 9, 9, 99, 99), 13);
+    refused("0 2 null null null 1", [0; 32], 13);
+    refused("0 null null null null null", [0; 32], 14);
+    let sound = "null null null null 1 0";
+    refused(sound, [0; 32], 4);
+    refused(sound, s(12, 9, 9, 99, 99), 5);
+    refused(sound, s(10, 0, 1, 99, 99), 6);
+    refused(sound, s(10, 0, 0, 63, 99), 7);
+    refused(sound, s(10, 0, 0, 63, 63), 16);
+    refused(sound, s(6, 0, 0, 63, 0), 16);
 }
 
 #[test]
@@ -186,6 +242,8 @@ fn bad_text_is_named_by_its_line() {
     check_wrong(&["unfold"], b"record zz\n", "line 1: 'zz'");
     let both = b"record 00\ncounters\nlength 1\ncells\n";
     check_wrong(&["unfold"], both, "'length' stands beside");
+    let counter = b"record 00\ncounters 0 4294967296\nlength 0\n";
+    check_wrong(&["unfold"], counter, "line 2: '4294967296'");
     let large = b"record 00\ncounters\nlength 65537\n";
     check_wrong(&["unfold"], large, "line 3: 65537");
     let pick = b"pointers\ncells\nstatement 00\npick -1\n";
@@ -217,10 +275,10 @@ fn help_tells_of_every_command() {
         let own = run(&[command, "--help"], b"");
         assert_eq!(own.status, 0);
         assert!(own.output.contains(&format!("usage: reference {command}")));
-        assert_eq!(own.output, run(&["help", command], b"").output);
+        check(&["help", command], b"", 0, &own.output);
         assert!(own.output.lines().all(|line| line.len() <= 80));
     }
-    assert_eq!(run(&["help"], b"").output, general.output);
+    check(&["help"], b"", 0, &general.output);
 }
 
 #[test]

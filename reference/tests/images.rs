@@ -3,7 +3,7 @@
 mod common;
 
 use common::*;
-use reference::{fold, step, unfold, Stepped};
+use reference::{fold, step, unfold, Refusal, Stepped};
 
 /// Pointers 0 and 3 lead over cells 4 and 1 into the ring 2, 0; cell 3 is
 /// not in use.
@@ -13,7 +13,7 @@ const CELLS: [u8; 5] = [2, 2, 0, UNUSED, 2];
 #[test]
 fn fold_of_a_heap() {
     let folded = fold(&POINTERS, &CELLS);
-    assert_eq!(folded.refusal, 0);
+    assert_eq!(folded.refusal, None);
     assert_eq!(folded.record, h([0, NULL, UNDEF, 2, NULL, 0], &[1, 1, 1]));
     assert_eq!(folded.counters, [1, 2, 1, 0, 0, 0, 0, 0, 0, 0, 0, 0]);
 }
@@ -22,8 +22,8 @@ fn fold_of_a_heap() {
 fn unfold_of_a_shape() {
     let folded = fold(&POINTERS, &CELLS);
     let (mut pointers, mut cells) = ([9; 6], [9; 7]);
-    let refusal = unfold(&folded.record, &folded.counters, &mut pointers, &mut cells);
-    assert_eq!(refusal, 0);
+    let answer = unfold(&folded.record, &folded.counters, &mut pointers, &mut cells);
+    assert_eq!(answer, Ok(()));
     assert_eq!(pointers, [0, NULL, UNDEF, 3, NULL, 0]);
     assert_eq!(cells, [1, 2, 1, 1, UNUSED, UNUSED, UNUSED]);
 }
@@ -39,21 +39,24 @@ fn refused_folds_are_zero() {
         (&NULLS, &[0], 14),
         (&[UNUSED, NULL, NULL, NULL, NULL, NULL], &[], 13),
     ];
-    for (pointers, cells, refusal) in cases {
+    for (pointers, cells, number) in cases {
         let folded = fold(pointers, cells);
-        assert_eq!(folded.refusal, refusal, "{pointers:?} {cells:?}");
+        let due = Some(at_0(number));
+        assert_eq!(folded.refusal, due, "{pointers:?} {cells:?}");
         assert_eq!((folded.record, folded.counters), ([0; 32], [0; 12]));
     }
 }
 
-fn refusal_of_unfold(record: &[u8], counters: [u32; 12], lengths: (usize, usize)) -> u8 {
+/// Wants this refusal at place 0 of an unfolding into a heap of these
+/// lengths, which stays as it is.
+#[track_caller]
+fn check_unfold(record: &[u8], counters: &[u32], lengths: (usize, usize), number: u8) {
     let mut pointers = vec![0x33; lengths.0];
     let mut cells = vec![0x44; lengths.1];
-    let refusal = unfold(record, &counters, &mut pointers, &mut cells);
-    assert_ne!(refusal, 0);
+    let answer = unfold(record, counters, &mut pointers, &mut cells);
+    assert_eq!(answer, Err(at_0(number)), "{} counters", counters.len());
     assert_eq!(pointers, vec![0x33; lengths.0]);
     assert_eq!(cells, vec![0x44; lengths.1]);
-    refusal
 }
 
 #[test]
@@ -61,31 +64,90 @@ fn order_of_the_refusals_of_unfold() {
     let none = [0; 12];
     let good = h(pointers(&[0]), &[NULL]);
     let lost = h(NULLS, &[NULL]);
-    assert_eq!(refusal_of_unfold(&[], none, (5, 240)), 13);
-    assert_eq!(refusal_of_unfold(&[], none, (7, 240)), 13);
-    assert_eq!(refusal_of_unfold(&[], none, (6, 241)), 13);
+    check_unfold(&[], &none, (5, 240), 13);
+    check_unfold(&[], &none, (7, 240), 13);
+    check_unfold(&[], &none, (6, 241), 13);
     for length in [0, 1, 31, 33, 64] {
-        assert_eq!(refusal_of_unfold(&vec![0x48; length], none, (6, 240)), 8);
+        check_unfold(&vec![0x48; length], &none, (6, 240), 8);
     }
-    assert_eq!(refusal_of_unfold(&[0; 32], none, (6, 0)), 8);
+    check_unfold(&[0; 32], &none, (6, 0), 8);
     // A location is no H record.
     let place = l(0, pointers(&[0]), &[NULL]);
-    assert_eq!(refusal_of_unfold(&place, none, (6, 240)), 8);
-    assert_eq!(refusal_of_unfold(&lost, none, (6, 240)), 9);
-    assert_eq!(refusal_of_unfold(&good, none, (6, 240)), 15);
+    check_unfold(&place, &none, (6, 240), 8);
+    check_unfold(&lost, &none, (6, 240), 9);
+    check_unfold(&good, &none, (6, 240), 15);
     let mut counters = none;
     counters[0] = 3;
-    assert_eq!(refusal_of_unfold(&good, counters, (6, 2)), 15);
+    check_unfold(&good, &counters, (6, 2), 15);
     counters[11] = 1;
-    assert_eq!(refusal_of_unfold(&good, counters, (6, 240)), 15);
-    assert_eq!(refusal_of_unfold(&good, [u32::MAX; 12], (6, 240)), 15);
+    check_unfold(&good, &counters, (6, 240), 15);
+    check_unfold(&good, &[u32::MAX; 12], (6, 240), 15);
+}
+
+/// Lists of counters that are not twelve, of all 1, of all 0, and of 1 and
+/// then 0, which would fit one node.
+fn not_twelve() -> Vec<Vec<u32>> {
+    let lengths = (0..40).filter(|&length| length != 12).chain([240, 5000]);
+    let lists = |length: usize| {
+        let mut first = vec![0; length];
+        first.iter_mut().take(1).for_each(|counter| *counter = 1);
+        [vec![1; length], vec![0; length], first]
+    };
+    lengths.flat_map(lists).collect()
+}
+
+#[test]
+fn counters_that_are_not_twelve() {
+    let one = h(pointers(&[0]), &[NULL]);
+    for counters in not_twelve() {
+        check_unfold(&one, &counters, (6, 240), 15);
+        check_unfold(&one, &counters, (6, 1), 15);
+        check_unfold(&one, &counters, (6, 0), 15);
+        check_unfold(&h(NULLS, &[]), &counters, (6, 0), 15);
+        check_unfold(&h(pointers(&[0, 1]), &[NULL; 2]), &counters, (6, 240), 15);
+    }
+    // Twelve of them, wherever they are lent from.
+    let many: Vec<u32> = [vec![9], vec![1], vec![0; 50]].concat();
+    let (mut to_pointers, mut to_cells) = ([9; 6], [9; 2]);
+    let answer = unfold(&one, &many[1..13], &mut to_pointers, &mut to_cells);
+    assert_eq!(answer, Ok(()));
+    assert_eq!((to_pointers, to_cells), (pointers(&[0]), [NULL, UNUSED]));
+    check_unfold(&one, &many[1..12], (6, 2), 15);
+    check_unfold(&one, &many[1..14], (6, 2), 15);
+}
+
+#[test]
+fn counters_that_are_not_twelve_come_after_13_8_and_9() {
+    let one = h(pointers(&[0]), &[NULL]);
+    let lost = h(NULLS, &[NULL]);
+    let swapped = h(pointers(&[1, 0]), &[NULL; 2]);
+    let not_core = h(pointers(&[0]), &[1, NULL]);
+    let place = l(0, pointers(&[0]), &[NULL]);
+    for counters in not_twelve() {
+        for lengths in [(0, 0), (5, 240), (7, 240), (6, 241), (12, 12)] {
+            check_unfold(&one, &counters, lengths, 13);
+            check_unfold(&lost, &counters, lengths, 13);
+            check_unfold(&place, &counters, lengths, 13);
+            check_unfold(&[], &counters, lengths, 13);
+        }
+        for length in [0, 12, 31, 33] {
+            check_unfold(&vec![0x48; length], &counters, (6, 240), 8);
+        }
+        check_unfold(&place, &counters, (6, 240), 8);
+        check_unfold(&[0; 32], &counters, (6, 0), 8);
+        for record in [lost, swapped, not_core] {
+            check_unfold(&record, &counters, (6, 240), 9);
+            check_unfold(&record, &counters, (6, 0), 9);
+        }
+    }
 }
 
 #[test]
 fn unfold_without_cells() {
     let (mut pointers, mut cells) = ([1; 6], []);
     let shape = h(common::pointers(&[UNDEF]), &[]);
-    assert_eq!(unfold(&shape, &[0; 12], &mut pointers, &mut cells), 0);
+    let answer = unfold(&shape, &[0; 12], &mut pointers, &mut cells);
+    assert_eq!(answer, Ok(()));
     assert_eq!(pointers, [UNDEF, NULL, NULL, NULL, NULL, NULL]);
 }
 
@@ -139,8 +201,8 @@ fn steps_that_stay() {
 #[test]
 fn refusals_of_a_step() {
     let refused = |statement: &[u8], pick, cell| match step_on(statement, pick, cell).0 {
-        Stepped::Refused(refusal) => refusal,
-        other => panic!("{other:?} is no refusal"),
+        Stepped::Refused(Refusal { number, place: 0 }) => number,
+        other => panic!("{other:?} is no refusal at place 0"),
     };
     assert_eq!(refused(&[], 0, 0), 4);
     assert_eq!(refused(&[0x53; 31], 0, 0), 4);
@@ -167,8 +229,38 @@ fn the_image_of_a_step_is_looked_at_first() {
         assert_eq!((&to_pointers[..], &to_cells[..]), (pointers, cells));
         stepped
     };
-    assert_eq!(refused(&[], &[]), Stepped::Refused(13));
-    assert_eq!(refused(&NULLS, &[UNUSED; 241]), Stepped::Refused(13));
-    assert_eq!(refused(&NULLS, &[NULL]), Stepped::Refused(14));
-    assert_eq!(refused(&NULLS, &[]), Stepped::Refused(4));
+    assert_eq!(refused(&[], &[]), Stepped::Refused(at_0(13)));
+    let long = refused(&NULLS, &[UNUSED; 241]);
+    assert_eq!(long, Stepped::Refused(at_0(13)));
+    assert_eq!(refused(&NULLS, &[NULL]), Stepped::Refused(at_0(14)));
+    assert_eq!(refused(&NULLS, &[]), Stepped::Refused(at_0(4)));
+}
+
+#[test]
+fn places_are_0_wherever_the_error_lies() {
+    // The last pointer, the last cell, a cell that is lost far behind.
+    let last = fold(&[NULL, NULL, NULL, NULL, NULL, 3], &[UNUSED; 3]);
+    assert_eq!(last.refusal, Some(at_0(13)));
+    let mut cells = [UNUSED; 240];
+    cells[239] = 238;
+    assert_eq!(fold(&NULLS, &cells).refusal, Some(at_0(13)));
+    cells[239] = NULL;
+    assert_eq!(fold(&NULLS, &cells).refusal, Some(at_0(14)));
+    // The last byte, the last node, the last counter.
+    let nodes = pointers(&[0, 1, 2]);
+    let mut counters = [0; 12];
+    counters[..3].fill(1);
+    let mut record = h(nodes, &[NULL; 3]);
+    record[31] = 1;
+    check_unfold(&record, &counters, (6, 240), 8);
+    check_unfold(&h(nodes, &[NULL; 4]), &counters, (6, 240), 9);
+    counters[11] = 1;
+    check_unfold(&h(nodes, &[NULL; 3]), &counters, (6, 240), 15);
+    // The last byte, and the target of the second branch.
+    let mut statement = s(10, 0, 0, 63, 63);
+    statement[31] = 1;
+    let refused = |number| Stepped::Refused(at_0(number));
+    assert_eq!(step_on(&statement, 0, 0).0, refused(6));
+    assert_eq!(step_on(&s(10, 0, 0, 63, 255), 0, 0).0, refused(7));
+    assert_eq!(step_on(&s(6, 1, 0, 63, 0), 0, 4).0, refused(16));
 }

@@ -131,28 +131,28 @@ fn counters_and_cells() {
         counters[0] = 100;
         counters[1] = second;
         let (mut to_pointers, mut to_cells) = ([7; 6], vec![7; length]);
-        let refusal = unfold(&record, &counters, &mut to_pointers, &mut to_cells);
-        if refusal != 0 {
+        let answer = unfold(&record, &counters, &mut to_pointers, &mut to_cells);
+        if answer.is_err() {
             assert_eq!((to_pointers, to_cells), ([7; 6], vec![7; length]));
-            return refusal;
+            return answer;
         }
         let folded = fold(&to_pointers, &to_cells);
         assert_eq!((folded.record, folded.counters), (record, counters));
-        0
+        answer
     };
-    assert_eq!(try_sum(140, 240), 0);
-    assert_eq!(try_sum(141, 240), 15);
-    assert_eq!(try_sum(140, 239), 15);
-    assert_eq!(try_sum(u32::MAX - 99, 240), 15);
-    assert_eq!(try_sum(140, 241), 13);
+    assert_eq!(try_sum(140, 240), Ok(()));
+    assert_eq!(try_sum(141, 240), Err(at_0(15)));
+    assert_eq!(try_sum(140, 239), Err(at_0(15)));
+    assert_eq!(try_sum(u32::MAX - 99, 240), Err(at_0(15)));
+    assert_eq!(try_sum(140, 241), Err(at_0(13)));
 }
 
 #[test]
 fn heap_images() {
-    assert_eq!(fold(&NULLS, &[UNUSED; 240]).refusal, 0);
-    assert_eq!(fold(&NULLS, &[UNUSED; 241]).refusal, 13);
+    assert_eq!(fold(&NULLS, &[UNUSED; 240]).refusal, None);
+    assert_eq!(fold(&NULLS, &[UNUSED; 241]).refusal, Some(at_0(13)));
     let mut chain: Vec<u8> = (1..=240).collect();
     chain[239] = NULL;
     let folded = fold(&pointers(&[0]), &chain);
-    assert_eq!((folded.refusal, folded.counters[0]), (0, 240));
+    assert_eq!((folded.refusal, folded.counters[0]), (None, 240));
 }

@@ -50,10 +50,11 @@ fn refusal_9_for_all_small_records() {
                 counters[..nodes].fill(2);
                 let (mut to_pointers, mut to_cells) = ([0; 6], [0; 8]);
                 let record = h(held, successors);
-                let refusal = unfold(&record, &counters, &mut to_pointers, &mut to_cells);
-                let due = if is_shape(&held, successors) { 0 } else { 9 };
-                assert_eq!(refusal, due, "{held:?} {successors:?}");
-                passed += u32::from(refusal == 0);
+                let answer = unfold(&record, &counters, &mut to_pointers, &mut to_cells);
+                let sound = is_shape(&held, successors);
+                let due = if sound { Ok(()) } else { Err(at_0(9)) };
+                assert_eq!(answer, due, "{held:?} {successors:?}");
+                passed += u32::from(sound);
             }
         }
     }
@@ -76,13 +77,13 @@ fn twelve_nodes() {
     }
     assert!(is_shape(&held, &successors));
     let (mut to_pointers, mut to_cells) = ([0; 6], [0; 240]);
-    let refusal = unfold(
-        &h(held, &successors),
-        &[20; 12],
-        &mut to_pointers,
-        &mut to_cells,
-    );
-    assert_eq!(refusal, 0);
+    let mut unfold_with = |counters: &[u32]| {
+        let record = h(held, &successors);
+        unfold(&record, counters, &mut to_pointers, &mut to_cells)
+    };
+    assert_eq!(unfold_with(&[20; 11]), Err(at_0(15)));
+    assert_eq!(unfold_with(&[18; 13]), Err(at_0(15)));
+    assert_eq!(unfold_with(&[20; 12]), Ok(()));
     let folded = reference::fold(&to_pointers, &to_cells);
     assert_eq!(
         (folded.record, folded.counters),

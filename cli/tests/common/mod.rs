@@ -37,6 +37,15 @@ pub fn tool(words: &[&str], input: &[u8]) -> Output {
     child.wait_with_output().unwrap()
 }
 
+/// What the tool prints for these words and this standard input, where it must succeed and say nothing else: two tools that fail and
+/// print nothing are not to pass for equal.
+pub fn printed(words: &[&str], input: &[u8]) -> Vec<u8> {
+    let done = tool(words, input);
+    assert_eq!((done.status.code(), text(&done.stderr)), (Some(0), String::new()), "{words:?}");
+    assert!(!done.stdout.is_empty(), "{words:?} prints nothing");
+    done.stdout
+}
+
 pub fn text(bytes: &[u8]) -> String {
     String::from_utf8(bytes.to_vec()).unwrap()
 }
@@ -91,7 +100,7 @@ impl Draw {
     fn shape(&mut self) -> Option<[u8; 32]> {
         let (pointers, cells) = self.image(16);
         let (refusal, record, _) = currantplane::fold(&pointers, &cells);
-        (refusal == 0).then_some(record)
+        (refusal.number == 0).then_some(record)
     }
 
     /// The records of a routine that the checks of the input pass, with at most so many statements.

@@ -8,7 +8,7 @@ use lib.ListN.{List·getD-eq-default, length, length-map, take}
 use lib.Seq.{length-take-le}
 use borrow.Author.Tests.{ne-eqb}
 use Rattle.model.specs.Heap.{Heap, cell, next, unused}
-use Rattle.model.specs.Machine.{Answer, Fault, Stmt, accepts, answerOf, atNull, atUndef, branch, fault, faultNumber, faulted, kind, leak, run, target, went}
+use Rattle.model.specs.Machine.{Answer, Fault, Stmt, accepts, answerOf, atNull, atUndef, branch, fault, faultNumber, faulted, kind, leak, carryOut, target, went}
 use Rattle.model.specs.Edges.{Edge, Guard, Way, Weight, access, always, at, edgeBy, failed, splitHeap, stepBy, updateOf}
 use Rattle.model.specs.Image.{heapOf}
 use Rattle.model.specs.Records.{byte, locRecord, stmtOf, updateCode}
@@ -30,13 +30,13 @@ use Rattle.edge.proofs.Ready.{node-below, node-used, nodes-few, nodes-i
 
 -- the pick is read by choose only, which splits nothing
 pub step-way : (sp : Bool) (g : Guard) (v p : ℕ) (st : Stmt) (h : Heap) → isStop (kind (st .op)) ≡ false → p ≤ 1 → (sp ≡ true → access (st .op) h ≡ cell v)
-    → stepBy st (length (h .slots)) (wayOf sp g v p h) ≡ answerOf st (branch (st .op) p h) (run (st .op) (length (h .slots)) (wayOf sp always v p h .heap))
+    → stepBy st (length (h .slots)) (wayOf sp g v p h) ≡ answerOf st (branch (st .op) p h) (carryOut (st .op) (length (h .slots)) (wayOf sp always v p h .heap))
 step-way true g v p st h goes few a =
     let k = length (h .slots) in
     let x = splitHeap v k h in
     let f = access-facts (st .op) h v (a refl) in
     step-go st (record { pick = 0; cellNo = k }) x goes (ap (λ d. accepts d (record { pick = 0; cellNo = k }) x) (f .0))
-    ∙ ap (λ b. answerOf st b (run (st .op) k x)) (f .1 0 x ∙ sym (f .1 p h))
+    ∙ ap (λ b. answerOf st b (carryOut (st .op) k x)) (f .1 0 x ∙ sym (f .1 p h))
 step-way false g v p st h goes few a =
     let k = length (h .slots) in
     step-go st (record { pick = p; cellNo = k }) h goes
@@ -68,7 +68,7 @@ fault-of (suc (suc (suc (suc f)))) n le = absurd (omega arith)
 abbrev pub Faults : List ℕ → List ℕ → Bool → ℕ → ℕ → ℕ → Type 0
 Faults l r sp v p f =
     (n s : ℕ) (h : Heap) → WayReady l r n s h sp v p
-    → (x : Fault) × (faultNumber x ≡ f) × (run (stmtOf r .op) (length (h .slots)) (wayOf sp always v p h .heap) ≡ fault x)
+    → (x : Fault) × (faultNumber x ≡ f) × (carryOut (stmtOf r .op) (length (h .slots)) (wayOf sp always v p h .heap) ≡ fault x)
 
 -- the edge of a fault
 pub fault-leaves : (l r : List ℕ) (sp : Bool) (v p : ℕ) (t us : List ℕ) (f b m : ℕ) → Faults l r sp v p f
@@ -94,9 +94,9 @@ fault-leaves l r sp v p t us f b m F d n s h R g E e =
 module _ {l r : List ℕ} {sp : Bool} {v p : ℕ} {ps cs o x : List ℕ} {f b c m : ℕ} (W : WayRan l r sp v p ps cs o x f b c m) where
   module _ {n s : ℕ} {h : Heap} (R : WayReady l r n s h sp v p) where
     -- what the run gave, by the shape
-    outcome-is : run (stmtOf r .op) (length (h .slots)) (wayOf sp always v p h .heap) ≡ effectOf f (heapOf ps (take c cs))
+    outcome-is : carryOut (stmtOf r .op) (length (h .slots)) (wayOf sp always v p h .heap) ≡ effectOf f (heapOf ps (take c cs))
     outcome-is =
-        ap₂ (λ k (x : Heap). run (stmtOf r .op) k (wayOf sp always v p x .heap)) (sym (nodes-is R)) (sym (shape-is R))
+        ap₂ (λ k (x : Heap). carryOut (stmtOf r .op) k (wayOf sp always v p x .heap)) (sym (nodes-is R)) (sym (shape-is R))
         ∙ sym (W .outcome)
 
     answer-is : (g : Guard) → stepBy (stmtOf r) (length (h .slots)) (wayOf sp g v p h) ≡ answerOf (stmtOf r) b (effectOf f (heapOf ps (take c cs)))
@@ -112,7 +112,7 @@ module _ {l r : List ℕ} {sp : Bool} {v p : ℕ} {ps cs o x : List ℕ} {f b c 
         let is = nodes-is R in
         rw is (tail-used (stmtOf r .op) k v k h (heapOf ps (take c cs)) (access-same (stmtOf r .op) v k h ∙ R .isNode e)
         (ne-eqb k v (λ q. omega arith)) (node-used R e)
-        (ap (λ d. run (stmtOf r .op) k (wayOf d always v p h .heap)) (sym e) ∙ outcome-is ∙ ap (λ i. effectOf i (heapOf ps (take c cs))) z))
+        (ap (λ d. carryOut (stmtOf r .op) k (wayOf d always v p h .heap)) (sym e) ∙ outcome-is ∙ ap (λ i. effectOf i (heapOf ps (take c cs))) z))
 
   pub run-faults : (f ≡ 0 → ⊥) → Faults l r sp v p f
   run-faults bad n s h R =

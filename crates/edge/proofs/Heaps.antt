@@ -8,7 +8,7 @@ use lib.Dec.{eqb}
 use lib.ListN.{List·getD-eq-default, getD, length}
 use borrow.Author.Tests.{eq-eqb, eqb-true}
 use Rattle.model.specs.Heap.{Heap, Slot, Val, cell, closed, holds, inUse, kept, next, null, ptr, undef, unused}
-use Rattle.model.specs.Machine.{Effect, Op, choose, clear, copy, done, effect, fault, free, isNull, keep, load, new, putSlot, run, same, setNull, skip, stop, store, wipe}
+use Rattle.model.specs.Machine.{Effect, Op, choose, clear, copy, done, effect, fault, free, isNull, keep, load, new, putSlot, carryOut, same, setNull, skip, stop, store, wipe}
 use Rattle.model.specs.Edges.{Guard, access, splitHeap}
 use Rattle.model.specs.Records.{opOf}
 use Rattle.model.proofs.Effects.{next-free, next-put}
@@ -90,11 +90,11 @@ opened-fresh op n h e =
 
 -- a run on it is one on the way's heap
 pub opened-run : (sp : Bool) (g : Guard) (p op u w n : ℕ) (h : Heap)
-    → run (opOf op u w) (length (h .slots)) (openedHeap sp op n h) ≡ run (opOf op u w) (length (h .slots)) (wayOf sp g n p h .heap)
+    → carryOut (opOf op u w) (length (h .slots)) (openedHeap sp op n h) ≡ carryOut (opOf op u w) (length (h .slots)) (wayOf sp g n p h .heap)
 opened-run true g p op u w n h = refl
 opened-run false g p op u w n h =
     bool-case (eqb op 6)
-    (λ e. rw e (subst (λ x. run (opOf x u w) (length (h .slots)) (withUnused h) ≡ run (opOf x u w) (length (h .slots)) h) (sym (eqb-true op 6 e)) (run-opened u h)))
+    (λ e. rw e (subst (λ x. carryOut (opOf x u w) (length (h .slots)) (withUnused h) ≡ carryOut (opOf x u w) (length (h .slots)) h) (sym (eqb-true op 6 e)) (run-opened u h)))
     (λ e. rw e)
 
 -- ---- the tail
@@ -128,7 +128,7 @@ keep-used k (fault f) u = tt
 keep-used k (done g) u = bool-case (kept g) (λ q. rw q u) (λ q. rw q tt)
 
 pub tail-used : (op : Op) (x n k : ℕ) (h g : Heap) → access op (splitHeap n k h) ≡ cell n → eqb k n ≡ false → Used (next h) n
-    → run op x (splitHeap n k h) ≡ done g → Used (next g) k
+    → carryOut op x (splitHeap n k h) ≡ done g → Used (next g) k
 tail-used op x n k h g a d u e =
     subst (InUse k) e
     (keep-used k (effect op x (splitHeap n k h))

@@ -9,7 +9,7 @@ use lib.Seq.{getD-take, length-take-le}
 use borrow.Author.Tests.{ne-eqb}
 use Rattle.model.specs.Base.{numbers}
 use Rattle.model.specs.Heap.{Heap, null}
-use Rattle.model.specs.Machine.{Op, answerOf, branch, done, effect, fault, keep, leak, run, target}
+use Rattle.model.specs.Machine.{Op, answerOf, branch, done, effect, fault, keep, leak, carryOut, target}
 use Rattle.model.specs.Edges.{Edge, access, at, stepBy, updateOf}
 use Rattle.model.specs.Image.{heapOf}
 use Rattle.model.specs.Records.{byte, locRecord, opOf, shapeOf, stmtOf, updateCode}
@@ -44,7 +44,7 @@ keeps op u w le =
     subst (λ n. Keeps (opOf n u w)) e (past-free (op - 8) u w)
 
 -- nothing of a shape is lost
-run-kept : (op u w k : ℕ) (h : Heap) → 8 ≤ op → Canon h → run (opOf op u w) k h ≡ done h
+run-kept : (op u w k : ℕ) (h : Heap) → 8 ≤ op → Canon h → carryOut (opOf op u w) k h ≡ done h
 run-kept op u w k h le C = ap keep (keeps op u w le .0 k h) ∙ ap (λ b. cond b (done h) (fault leak)) (kept-test h (C .kept))
 
 -- ---- the updates

@@ -9,7 +9,7 @@ use lib.ListN.{drop, getD, length, length-drop, take}
 use lib.Seq.{getD-drop, getD-take, length-take-le}
 use borrow.Author.Tests.{eqb-true}
 use Rattle.model.specs.Heap.{Heap, Val, cell, holds, next, null, ptr, undef, unused}
-use Rattle.model.specs.Machine.{copy, done, fault, held, keep, kind, leak, load, putSlot, run}
+use Rattle.model.specs.Machine.{copy, done, fault, held, keep, kind, leak, load, putSlot, carryOut}
 use Rattle.model.specs.Edges.{access, splitHeap}
 use Rattle.model.specs.Records.{byte, opOf, shapeOf, stmtOf, valByte, valOf}
 use Rattle.model.specs.Runs.{isStop}
@@ -35,12 +35,12 @@ module _ {l r : List ℕ} {n s : ℕ} {h : Heap} {v p : ℕ} (R : WayReady l r n
   k = length (h .slots)
 
   abbrev CutLeaks : ℕ → Type 0
-  CutLeaks op = access (opOf op (byte r 2) (byte r 3)) h ≡ cell v → run (opOf op (byte r 2) (byte r 3)) k (splitHeap v k h) ≡ fault leak
+  CutLeaks op = access (opOf op (byte r 2) (byte r 3)) h ≡ cell v → carryOut (opOf op (byte r 2) (byte r 3)) k (splitHeap v k h) ≡ fault leak
 
   write : (x : Val) → Closed (next h) x → keep (done (putSlot v (holds x) (splitHeap v k h))) ≡ fault leak
   write = write-leaks h (R .isShape .closed) v (node-used R refl)
 
-  cut-run : cutsNext (byte r 1) ≡ true → run (stmtOf r .op) k (splitHeap v k h) ≡ fault leak
+  cut-run : cutsNext (byte r 1) ≡ true → carryOut (stmtOf r .op) k (splitHeap v k h) ≡ fault leak
   cut-run c =
       let op = byte r 1 in
       let w = byte r 3 in
@@ -104,7 +104,7 @@ module _ {l r : List ℕ} {n s : ℕ} {h : Heap} {sp : Bool} {v p : ℕ} (R : Wa
 
   -- the run on any heap with the shape's pointers where nothing else holds the node
   over-run : (H : Heap) → H .ptrs ≡ h .ptrs → Used (next H) a → NoNext (next H) a → byte r 1 < 8 → cutsNext (byte r 1) ≡ false
-      → Overwrites l (byte r 1) (byte r 2) (byte r 3) → run (stmtOf r .op) (length (h .slots)) H ≡ fault leak
+      → Overwrites l (byte r 1) (byte r 2) (byte r 3) → carryOut (stmtOf r .op) (length (h .slots)) H ≡ fault leak
   over-run H ps used empty lt c o =
       let u = byte r 2 in
       let w = byte r 3 in
@@ -113,13 +113,13 @@ module _ {l r : List ℕ} {n s : ℕ} {h : Heap} {sp : Bool} {v p : ℕ} (R : Wa
       subst (λ (q : List Val). (i : ℕ) → i < length q → getD q i undef ≡ cell a → i ≡ u) (sym ps) alone in
       let f = statement-fields n r (R .statement .accepted) in
       let wide : length (H .ptrs) ≡ 6 = ap length ps ∙ R .six in
-      let copies : (u ≡ w → ⊥) → run (copy u w) k H ≡ fault leak =
+      let copies : (u ≡ w → ⊥) → carryOut (copy u w) k H ≡ fault leak =
       λ d. set-leaks H u a used only empty (ptr H w) (λ e. d (sym (only w (omega (arith, f .2)) (sym e)))) in
-      let loads : byte l (w + 4) < byte l 3 → run (load u w) k H ≡ fault leak =
+      let loads : byte l (w + 4) < byte l 3 → carryOut (load u w) k H ≡ fault leak =
       λ q. let b = byte l (w + 4) in
       let at : ptr H w ≡ cell b = ap (λ x. getD x w undef) ps ∙ held-by w (f .2) q in
       rw at (set-leaks H u a used only empty (held (next H b)) (held-other H u a used only empty b)) in
-      each-op (λ op. op < 8 → cutsNext op ≡ false → isStop (kind (opOf op u w)) ≡ false → Overwrites l op u w → run (opOf op u w) k H ≡ fault leak)
+      each-op (λ op. op < 8 → cutsNext op ≡ false → isStop (kind (opOf op u w)) ≡ false → Overwrites l op u w → carryOut (opOf op u w) k H ≡ fault leak)
       (λ lt c g o. clash refl g)
       (λ lt c g o. set-leaks H u a used only empty null (λ e. no-access (sym e)))
       (λ lt c g o. copies (o .0 refl))

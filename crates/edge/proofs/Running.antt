@@ -8,7 +8,7 @@ use lib.ListN.{drop, getD, length, length-drop, replicate, take}
 use lib.Seq.{length-take-le, take-at}
 use borrow.Author.Tests.{eq-eqb}
 use Rattle.model.specs.Heap.{Heap, Val, closed, inUse, next, null, sameVal, undef}
-use Rattle.model.specs.Machine.{Op, branch, choose, clear, copy, free, isNull, load, new, run, same, setNull, skip, stop, store, test}
+use Rattle.model.specs.Machine.{Op, branch, choose, clear, copy, free, isNull, load, new, carryOut, same, setNull, skip, stop, store, test}
 use Rattle.model.specs.Edges.{always}
 use Rattle.model.specs.Records.{byte, opOf, shapeOf, stmtOf, valOf}
 use Rattle.model.specs.Image.{heapOf}
@@ -99,8 +99,8 @@ module _ {l r : List ℕ} {n s : ℕ} {h : Heap} {sp : Bool} {v p : ℕ} (R : Wa
         let lc : length ds ≡ c = len ∙ part-length in
         let part : take c (ds ++ drop c cs) ≡ ds = take-at ds (drop c cs) c lc in
         record {
-          outcome = rw part (I .outcome ∙ ap (run op (byte l 3)) he
-              ∙ subst (λ k. run op k (openedHeap sp (byte r 1) v (shapeOf l)) ≡ run op k (wayOf sp always v p (shapeOf l) .heap)) (sym slots-is)
+          outcome = rw part (I .outcome ∙ ap (carryOut op (byte l 3)) he
+              ∙ subst (λ k. carryOut op k (openedHeap sp (byte r 1) v (shapeOf l)) ≡ carryOut op k (wayOf sp always v p (shapeOf l) .heap)) (sym slots-is)
               (opened-run sp always p (byte r 1) (byte r 2) (byte r 3) v (shapeOf l)));
           branch = be [] ∙ branch-pointers op p (heapOf ps []) (shapeOf l) (ap (map valOf) pe);
           known = I .known;

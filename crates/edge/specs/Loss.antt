@@ -6,7 +6,7 @@ use mathlib.Core.List.{List}
 use lib.Dec.{eqb}
 use lib.ListN.{length}
 use Rattle.model.specs.Heap.{Heap}
-use Rattle.model.specs.Machine.{fault, leak, run}
+use Rattle.model.specs.Machine.{fault, leak, carryOut}
 use Rattle.model.specs.Edges.{always}
 use Rattle.model.specs.Records.{byte, stmtOf}
 use Rattle.edge.specs.Edge.{WayReady, wayOf}
@@ -40,4 +40,4 @@ pub record LossReady (l r : List ℕ) (sp : Bool) : Type 0 where
 abbrev pub Leaks : List ℕ → List ℕ → Bool → Type 0
 Leaks l r sp =
     (n s : ℕ) (h : Heap) (v p : ℕ) → WayReady l r n s h sp v p
-    → run (stmtOf r .op) (length (h .slots)) (wayOf sp always v p h .heap) ≡ fault leak
+    → carryOut (stmtOf r .op) (length (h .slots)) (wayOf sp always v p h .heap) ≡ fault leak

@@ -6,7 +6,7 @@ use mathlib.Core.List.{List, map}
 use lib.ListN.{length, getD, take}
 use Rattle.model.specs.Heap.{Heap, IsHeap, next, order}
 use Rattle.model.specs.Image.{heapOf}
-use Rattle.model.specs.Machine.{branch, run}
+use Rattle.model.specs.Machine.{branch, carryOut}
 use Rattle.model.specs.Edges.{always, at, updateOf}
 use Rattle.model.specs.Records.{byte, locRecord, shapeOf, stmtOf, updateCode}
 use Rattle.model.specs.Shape.{segments, shape}
@@ -31,7 +31,7 @@ pub record RunsReady (l r : List ℕ) (sp : Bool) (v p : ℕ) (ps cs o s : List 
 -- the fault f, the branch b, and the image of c cells afterwards are those of the statement run on the way's heap; without a fault
 -- o holds the n cells in visit order, and the marks s tell the core cells
 pub record WayRan (l r : List ℕ) (sp : Bool) (v p : ℕ) (ps cs o s : List ℕ) (f b c n : ℕ) : Type 0 where
-  pub outcome : effectOf f (heapOf ps (take c cs)) ≡ run (stmtOf r .op) (byte l 3) (wayOf sp always v p (shapeOf l) .heap)
+  pub outcome : effectOf f (heapOf ps (take c cs)) ≡ carryOut (stmtOf r .op) (byte l 3) (wayOf sp always v p (shapeOf l) .heap)
   pub branch : b ≡ branch (stmtOf r .op) p (shapeOf l)
   pub known : f ≤ 3
   pub count : c ≤ byte l 3 + 1

@@ -1,5 +1,6 @@
 // Leaks that are seen in a location's record, before the statement is run: a third of the edges of large listings are such.
-ghost use Prim.Native.Nat.{_≤_, _<_};
+use model::Pointer;
+ghost use Prim.Native.Nat.{_+_, _≤_, _<_};
 ghost use mathlib.Core.Bool.{true};
 ghost use mathlib.Core.Path.{_≡_};
 ghost use lib.ListN.{length};
@@ -13,12 +14,13 @@ fn cuts_next(op: u8) -> bool
     op == 4 || (op == 5 || op == 7)
 }
 
-// Whether the byte at a pointer's place stands at no other place of the six pointers and the nodes' successors.
+// Whether the byte at pointer u's place stands at no other place of the six pointers and the nodes' successors.
 // All places are looked at: a count has no branch to guess.
-fn stands_once(location: &[u8], at: usize) -> bool
-    requires { ⌜ (length (now location) ≡ 32) × (4 ≤ at) × (at < 10) × (byte (now location) 3 ≤ 12) ⌝ }
-    ensures { λ r. ⌜ (r ≡ true → StandsOnce (now (location .entry)) at) ⌝ }
+fn stands_once(location: &[u8], u: Pointer) -> bool
+    requires { ⌜ (length (now location) ≡ 32) × (u .0 < 6) × (byte (now location) 3 ≤ 12) ⌝ }
+    ensures { λ r. ⌜ (r ≡ true → StandsOnce (now (location .entry)) (u .0 + 4)) ⌝ }
 {
+    let at = u.0 as usize + 4;
     let end = location[3] as usize + 10;
     let held = location[at];
     let mut count: u8 = 0;
@@ -33,26 +35,27 @@ fn stands_once(location: &[u8], at: usize) -> bool
 }
 
 // Whether the op puts another value into pointer u: not so where it copies u to itself, or reads through a pointer that holds no node.
-fn overwrites(location: &[u8], op: u8, u: u8, w: u8) -> bool
-    requires { ⌜ (length (now location) ≡ 32) × (w < 6) ⌝ }
-    ensures { λ r. ⌜ (r ≡ true → Overwrites (now (location .entry)) op u w) ⌝ }
+fn overwrites(location: &[u8], op: u8, u: Pointer, w: Pointer) -> bool
+    requires { ⌜ (length (now location) ≡ 32) × (w .0 < 6) ⌝ }
+    ensures { λ r. ⌜ (r ≡ true → Overwrites (now (location .entry)) op (u .0) (w .0)) ⌝ }
 {
     if op == 2 {
-        u != w
+        u.0 != w.0
     } else if op == 3 {
-        location[w as usize + 4] < location[3]
+        let at = w.0 as usize + 4;
+        location[at] < location[3]
     } else {
         true
     }
 }
 
 // Whether pointer u alone holds a node.
-fn alone_holds(location: &[u8], u: u8) -> bool
-    requires { ⌜ (length (now location) ≡ 32) × (u < 6) × (byte (now location) 3 ≤ 12) ⌝ }
-    ensures { λ r. ⌜ (r ≡ true → AloneHolds (now (location .entry)) u) ⌝ }
+fn alone_holds(location: &[u8], u: Pointer) -> bool
+    requires { ⌜ (length (now location) ≡ 32) × (u .0 < 6) × (byte (now location) 3 ≤ 12) ⌝ }
+    ensures { λ r. ⌜ (r ≡ true → AloneHolds (now (location .entry)) (u .0)) ⌝ }
 {
-    let at = u as usize + 4;
-    location[at] < location[3] && stands_once(location, at)
+    let at = u.0 as usize + 4;
+    location[at] < location[3] && stands_once(location, u)
 }
 
 // Whether the run is seen to be a leak before it is made: the tail of a split goes with its head's next, or a node goes with the only pointer that holds it.
@@ -61,10 +64,10 @@ pub fn surely_lost(location: &[u8], statement: &[u8], split: bool) -> bool
     ensures { λ r. ⌜ (r ≡ true → Leaks (now (location .entry)) (now (statement .entry)) split) ⌝ }
 {
     let op = statement[1];
-    let u = statement[2];
+    let u = Pointer(statement[2]);
     if cuts_next(op) {
         split
-    } else if overwrites(location, op, u, statement[3]) {
+    } else if overwrites(location, op, u, Pointer(statement[3])) {
         alone_holds(location, u)
     } else {
         false

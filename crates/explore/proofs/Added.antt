@@ -9,7 +9,8 @@ use lib.ListN.{length}
 use borrow.Author.Tests.{eqb-false, eqb-true}
 use Rattle.model.specs.Base.{placeOf}
 use Rattle.model.specs.Edges.{Edge, at, sameLoc}
-use Rattle.model.specs.Translate.{Listing, addEdges, full, grown, places, refusal}
+use Rattle.model.specs.Records.{refusal}
+use Rattle.model.specs.Translate.{Listing, addEdges, full, grown, places}
 use Rattle.model.proofs.Lists.{in-append-cases, in-single}
 use Rattle.model.proofs.Logic.{bool-case}
 use Rattle.grow.specs.Grow.{GrownTo}

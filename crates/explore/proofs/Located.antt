@@ -116,8 +116,8 @@ pub statement-within : (s : List ℕ) (n : ℕ) (ls es : List ℕ) (nl ne i : �
 statement-within s n ls es nl ne i R lt l e z =
     omega (arith, statement-low (R .list) ls es nl ne i (R .held) lt n l (R .fine) e z, R .readable .room)
 
-pub part-is : (s : List ℕ) (b : ℕ) → take ((32 * b + 32) - 32 * b) (drop (32 * b) s) ≡ recordAt s b
-part-is s b = let e : (32 * b + 32) - 32 * b ≡ 32 = omega arith in rw e
+pub part-is : (s : List ℕ) (b start : ℕ) → start ≡ 32 * b → take ((start + 32) - start) (drop start s) ≡ recordAt s b
+part-is s b start q = let e : (start + 32) - start ≡ 32 = omega arith in rw (e, q)
 
 pub rest-is : (t : List ℕ) (i : ℕ) → take 32 (take (length t - 32 * i) (drop (32 * i) t)) ≡ recordAt t i
 rest-is t i = ap (take 32) (take-all (length t - 32 * i) (drop (32 * i) t) (simp length-drop (omega arith)))

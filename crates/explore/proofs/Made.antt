@@ -7,7 +7,7 @@ use native.Mathlib.Omega.{arith}
 use lib.ListN.{List·getD-eq-default, length}
 use Rattle.model.specs.Base.{joined}
 use Rattle.model.specs.Heap.{Heap, Val, cell, null, undef, unused}
-use Rattle.model.specs.Machine.{Effect, Kind, Stmt, accepts, allocates, answerOf, branch, done, fault, kind, other, picks, run, stops, target}
+use Rattle.model.specs.Machine.{Effect, Kind, Stmt, accepts, allocates, answerOf, branch, done, fault, kind, other, picks, carryOut, stops, target}
 use Rattle.model.specs.Edges.{Edge, Guard, Loc, Way, access, always, at, edgeBy, edgesAt, failed, isOne, picksOf, split, splitHeap, stepBy, ways, waysAt, whole}
 use Rattle.model.specs.Runs.{isStop}
 use Rattle.model.proofs.Leave.{accept-room}
@@ -27,9 +27,9 @@ pub record Makes (s : ℕ) (st : Stmt) (k n : ℕ) (y : Way) (E : Edge) : Type 0
 
 way-makes : (s : ℕ) (st : Stmt) (k n : ℕ) (y : Way) → isStop (kind (st .op)) ≡ false → accepts (kind (st .op)) (record { pick = y .pick; cellNo = k }) (y .heap) ≡ true
     → s < n → target st (branch (st .op) (y .pick) (y .heap)) < n → (E : Edge) × Makes s st k n y E
-way-makes s st k n y g a low to = by-run (run (st .op) k (y .heap)) refl
+way-makes s st k n y g a low to = by-run (carryOut (st .op) k (y .heap)) refl
   where
-    by-run : (x : Effect) → run (st .op) k (y .heap) ≡ x → (E : Edge) × Makes s st k n y E
+    by-run : (x : Effect) → carryOut (st .op) k (y .heap) ≡ x → (E : Edge) × Makes s st k n y E
     by-run (fault f) e = (
       _,
       record {

@@ -4,17 +4,16 @@ use mathlib.Core.Path.{_≡_, refl, ap}
 use mathlib.Core.Bool.{Bool, true, false}
 use mathlib.Core.List.{List}
 use native.Mathlib.Omega.{arith}
-use lib.Dec.{ltb}
 use lib.ListN.{getD}
 use borrow.Author.Tests.{ltb-true}
 use Rattle.model.specs.Heap.{Heap, Val, null, ptr, sameVal, undef}
 use Rattle.model.specs.Machine.{Op, Stmt, allocates, branch, choose, clear, copy, free, isNull, kind, load, new, other, picks, same, setNull, skip, stop, stops, store, target, test}
 use Rattle.model.specs.Edges.{access}
-use Rattle.model.specs.Records.{byte, fieldsS, opOf, refusalS, stmtOf, targetBelow, targetsS, usesFirst, usesSecond}
+use Rattle.model.specs.Records.{byte, opOf, refusalS, stmtOf, targetBelow, usesFirst, usesSecond}
 use Rattle.model.specs.Runs.{isStop}
 use Rattle.model.proofs.Logic.{and-l, and-r, clash}
 use Rattle.model.proofs.Ops.{each-op}
-use Rattle.model.proofs.Statements.{no-refusal}
+use Rattle.model.proofs.Statements.{passed-s}
 
 -- ---- kinds
 
@@ -39,32 +38,32 @@ op-chooses op u w m =
 -- ---- targets
 
 -- the branch of a test, or of a choice, leads to one of two targets
-test-below : (st : Stmt) (n : ℕ) (b : Bool) → st .first < n → st .second < n → target st (test b) < n
+test-below : (st : Stmt) (n : ℕ) (b : Bool) → st .firstTarget < n → st .secondTarget < n → target st (test b) < n
 test-below st n true p q = p
 test-below st n false p q = q
 
-pick-below : (st : Stmt) (n b : ℕ) → st .first < n → st .second < n → target st b < n
+pick-below : (st : Stmt) (n b : ℕ) → st .firstTarget < n → st .secondTarget < n → target st b < n
 pick-below st n zero p q = p
 pick-below st n (suc b) p q = q
 
 module _ (u w f t n p : ℕ) (h : Heap) where
   abbrev Leads : ℕ → Type 0
   Leads op = isStop (kind (opOf op u w)) ≡ false → targetBelow n (usesFirst op) f ≡ true → targetBelow n (usesSecond op) t ≡ true
-      → target (record { op = opOf op u w; first = f; second = t }) (branch (opOf op u w) p h) < n
+      → target (record { op = opOf op u w; firstTarget = f; secondTarget = t }) (branch (opOf op u w) p h) < n
 
   op-leads : (op : ℕ) → op ≤ 11 → Leads op
   op-leads = each-op Leads (λ g a b. clash refl g) (λ g a b. ltb-true f n a) (λ g a b. ltb-true f n a) (λ g a b. ltb-true f n a) (λ g a b. ltb-true f n a)
       (λ g a b. ltb-true f n a) (λ g a b. ltb-true f n a) (λ g a b. ltb-true f n a)
-      (λ g a b. test-below (record { op = opOf 8 u w; first = f; second = t }) n (sameVal (ptr h u) null) (ltb-true f n a) (ltb-true t n b))
-      (λ g a b. test-below (record { op = opOf 9 u w; first = f; second = t }) n (sameVal (ptr h u) (ptr h w)) (ltb-true f n a) (ltb-true t n b))
-      (λ g a b. pick-below (record { op = opOf 10 u w; first = f; second = t }) n p (ltb-true f n a) (ltb-true t n b)) (λ g a b. ltb-true f n a)
+      (λ g a b. test-below (record { op = opOf 8 u w; firstTarget = f; secondTarget = t }) n (sameVal (ptr h u) null) (ltb-true f n a) (ltb-true t n b))
+      (λ g a b. test-below (record { op = opOf 9 u w; firstTarget = f; secondTarget = t }) n (sameVal (ptr h u) (ptr h w)) (ltb-true f n a) (ltb-true t n b))
+      (λ g a b. pick-below (record { op = opOf 10 u w; firstTarget = f; secondTarget = t }) n p (ltb-true f n a) (ltb-true t n b)) (λ g a b. ltb-true f n a)
 
 -- an accepted statement that is no stop leads to one of the n statements
 pub target-below : (n : ℕ) (r : List ℕ) (p : ℕ) (h : Heap) → refusalS n r ≡ 0 → byte r 1 ≤ 11 → isStop (kind (stmtOf r .op)) ≡ false
     → target (stmtOf r) (branch (stmtOf r .op) p h) < n
 target-below n r p h e hi goes =
     let op = byte r 1 in
-    let q = no-refusal (ltb 11 op) (fieldsS r) (targetsS n r) e .2 in
+    let q = passed-s n r e .1 .1 .0 in
     let x = targetBelow n (usesFirst op) (byte r 4) in
     let y = targetBelow n (usesSecond op) (byte r 5) in
     op-leads (byte r 2) (byte r 3) (byte r 4) (byte r 5) n p h op hi goes (and-l x y q) (and-r x y q)

@@ -7,7 +7,8 @@ use native.Mathlib.Numerals.{add-one}
 use lib.ListN.{length}
 use Rattle.model.specs.Machine.{Stmt}
 use Rattle.model.specs.Edges.{edgesOf}
-use Rattle.model.specs.Translate.{Explored, Listing, addEdges, explore, full, listed, places, refusal}
+use Rattle.model.specs.Records.{refusal}
+use Rattle.model.specs.Translate.{Explored, Listing, addEdges, explore, full, listed, places}
 use Rattle.model.proofs.Listing.{explore-end, explore-full, explore-next}
 use Rattle.model.proofs.Listings.{locAt}
 use Rattle.grow.specs.Grow.{Holds}

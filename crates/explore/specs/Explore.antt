@@ -5,8 +5,8 @@ use mathlib.Core.List.{List}
 use lib.ListN.{length}
 use Rattle.model.specs.Edges.{Loc, at, failed, stmtAt}
 use Rattle.model.specs.Machine.{Stmt}
-use Rattle.model.specs.Records.{recordAt, stmtOf}
-use Rattle.model.specs.Translate.{refusal, Listing, Explored, full, listed}
+use Rattle.model.specs.Records.{recordAt, refusal, stmtOf}
+use Rattle.model.specs.Translate.{Listing, Explored, full, listed}
 use Rattle.model.proofs.Lists.{In}
 use Rattle.model.proofs.Reached.{GoodLoc}
 use Rattle.edge.specs.Edge.{StatementOk}

@@ -3,9 +3,10 @@ use edge::Way;
 use grow::Grown;
 use model::Node;
 use model::Pointer;
+use model::Statement;
 ghost use mathlib.Core.Path.{_≡_};
 ghost use mathlib.Core.List.{List};
-ghost use Prim.Native.Nat.{_≤_, _<_};
+ghost use Prim.Native.Nat.{_*_, _≤_, _<_};
 ghost use lib.ListN.{length, take};
 ghost use Rattle.model.specs.Edges.{edgesOf};
 ghost use Rattle.model.specs.Machine.{Stmt};
@@ -155,6 +156,13 @@ fn add_edges(
     add_ways(statement, location, v, count, locations, edges, nl, ne, i)
 }
 
+// Where a statement's record begins in the input.
+fn record_start(statement: Statement) -> usize
+    ensures { λ r. ⌜ r ≡ 32 * statement .0 ⌝ }
+{
+    32 * (statement.0 as usize)
+}
+
 // Adds the edges of location i; a fault has none.
 pub fn explore_location(
     input: &[u8],
@@ -179,7 +187,7 @@ pub fn explore_location(
             edges: ne,
         };
     }
-    let start = 32 * (location[1] as usize);
+    let start = record_start(Statement(location[1]));
     let end = start + 32;
     add_edges(&input[start..end], &location, locations, edges, nl, ne, i)
 }

@@ -1,10 +1,10 @@
 -- The first i elements are laid over; one more, and the ends.
 use Prim.Native.Nat.{ℕ, _+_, _≤_, _<_}
-use mathlib.Core.Path.{_≡_, refl, sym, ap, _∙_}
-use mathlib.Core.List.{List, [], _∷_, _++_}
+use mathlib.Core.Path.{_≡_, sym, ap, _∙_}
+use mathlib.Core.List.{List, _++_}
 use native.Mathlib.Omega.{arith}
 use lib.ListN.{length, take, drop, getD, set, drop-of-length-le}
-use lib.Seq.{take-all}
+use lib.Seq.{length-take-le, take-all}
 use Rattle.model.proofs.Slices.{copy-turn}
 use Rattle.exports.specs.Over.{over}
 
@@ -27,9 +27,12 @@ laid-end i xs l m a b c e =
     let n : i ≡ length xs = omega arith in
     e ∙ ap (λ z. z ++ drop i l) (take-all i xs b ∙ sym (take-all (length l) xs (omega arith))) ∙ ap (λ j. take (length l) xs ++ drop j l) n
 
--- a list as long as the one it is laid over is the whole
-pub over-all : (xs l : List ℕ) → length xs ≡ length l → over xs l ≡ xs
-over-all [] [] h = refl
-over-all [] (y ∷ l) h = absurd (omega arith)
-over-all (x ∷ xs) [] h = absurd (omega arith)
-over-all (x ∷ xs) (y ∷ l) h = ap (λ z. x ∷ z) (over-all xs l (omega arith))
+-- a copy of the whole where there is room, and else of as many as there is room for
+pub copied-over : (xs l m : List ℕ) → length xs ≤ length l → m ≡ take (length xs) xs ++ drop (length xs) l → m ≡ over xs l
+copied-over xs l m h e = e ∙ ap (λ z. z ++ drop (length xs) l) (take-all (length xs) xs (omega arith) ∙ sym (take-all (length l) xs h))
+
+pub copied-part : (xs l m ys : List ℕ) → length l ≤ length xs → ys ≡ take (length l) xs → m ≡ take (length ys) ys ++ drop (length ys) l → m ≡ over xs l
+copied-part xs l m ys h p e =
+    let n : length ys ≡ length l = ap length p ∙ length-take-le (length l) xs h in
+    e ∙ ap (λ z. z ++ drop (length ys) l) (take-all (length ys) ys (omega arith) ∙ p)
+    ∙ ap (λ z. take (length l) xs ++ z) (drop-of-length-le l {i = length ys} (omega arith) ∙ sym (drop-of-length-le l h))

@@ -1,34 +1,23 @@
 -- The answers of a fold, an unfolding and a step, told in numbers and lent lists.
 use Prim.Native.Nat.{ℕ}
-use mathlib.Core.Path.{_≡_, ap, sym, _∙_}
-use mathlib.Core.Bool.{cond}
+use mathlib.Core.Path.{_≡_, subst}
 use mathlib.Core.List.{List}
-use lib.Dec.{eqb}
-use lib.ListN.{length}
-use borrow.Author.Tests.{ne-eqb}
-use Rattle.model.specs.Image.{Folding, Stepping, Unfolding, unfoldImage}
-use Rattle.exports.specs.Over.{IsStepped, over, stepNumbers, unfoldCall, unfoldedAs}
-use Rattle.exports.proofs.Laying.{over-all}
+use Rattle.model.specs.Answers.{refusalOf, stepNumbers}
+use Rattle.model.specs.Image.{Folding, Stepping, Unfolding, stepVerdict}
+use Rattle.exports.specs.Over.{IsFolded, IsStepped, IsUnfolded, over}
 
-pub folded-as : (f g : Folding) (a l b m : List ℕ) → f ≡ g → a ≡ over (f .shapeBytes) l → b ≡ over (f .counts) m
-    → (f .refusal ≡ g .refusal) × ((a ≡ over (g .shapeBytes) l) × (b ≡ over (g .counts) m))
-folded-as f g a l b m e p q = (ap (λ x. x .refusal) e, (p ∙ ap (λ x. over (x .shapeBytes) l) e, q ∙ ap (λ x. over (x .counts) m) e))
+pub folded-as : (f g : Folding) (n p : ℕ) (a l b m : List ℕ) → f ≡ g → n ≡ refusalOf (f .verdict) .number → p ≡ refusalOf (f .verdict) .place
+    → a ≡ over (f .recordBytes) l → b ≡ over (f .counts) m → IsFolded g n p a l b m
+folded-as f g n p a l b m e x y q r = subst (λ h. IsFolded h n p a l b m) e (record { number = x; place = y; shape = q; counters = r })
 
--- not twelve counters
-pub unfold-not : (r vs ps cs : List ℕ) → (length vs ≡ 12 → ⊥) → unfoldedAs 15 ps cs ≡ unfoldCall r vs ps cs
-unfold-not r vs ps cs h = ap (λ b. cond b (unfoldImage r vs ps cs) (unfoldedAs 15 ps cs)) (sym (ne-eqb (length vs) 12 h))
+pub unfolded-as : (u v : Unfolding) (n p : ℕ) → u ≡ v → n ≡ refusalOf (u .verdict) .number → p ≡ refusalOf (u .verdict) .place
+    → IsUnfolded v n p (u .ptrBytes) (u .cellBytes)
+unfolded-as u v n p e x y =
+    subst (λ h. IsUnfolded h n p (u .ptrBytes) (u .cellBytes)) e
+    (record { number = x; place = y; pointers = λ i. u .ptrBytes; cells = λ i. u .cellBytes })
 
--- twelve counters vs, laid over the twelve of zs
-pub unfolded-as : (u : Unfolding) (r vs zs ws ps cs : List ℕ) → u ≡ unfoldImage r ws ps cs → ws ≡ over vs zs → length vs ≡ 12 → length zs ≡ 12
-    → u ≡ unfoldCall r vs ps cs
-unfolded-as u r vs zs ws ps cs e w h k =
-    e ∙ ap (λ x. unfoldImage r x ps cs) (w ∙ over-all vs zs (h ∙ sym k))
-    ∙ ap (λ n. cond (eqb n 12) (unfoldImage r vs ps cs) (unfoldedAs 15 ps cs)) (sym h)
-
-pub stepped-as : (t s : Stepping) (a l : List ℕ) → t ≡ s → a ≡ over (stepNumbers t) l → IsStepped s (t .refusal) (t .ptrBytes) (t .cellBytes) a l
-stepped-as t s a l e p = record {
-  refused = ap (λ x. x .refusal) e;
-  pointers = ap (λ x. x .ptrBytes) e;
-  cells = ap (λ x. x .cellBytes) e;
-  answer = p ∙ ap (λ x. over (stepNumbers x) l) e;
-}
+pub stepped-as : (t s : Stepping) (n p : ℕ) (a l : List ℕ) → t ≡ s → n ≡ refusalOf (stepVerdict (t .answer)) .number
+    → p ≡ refusalOf (stepVerdict (t .answer)) .place → a ≡ over (stepNumbers (t .answer)) l → IsStepped s n p (t .ptrBytes) (t .cellBytes) a l
+stepped-as t s n p a l e x y q =
+    subst (λ h. IsStepped h n p (t .ptrBytes) (t .cellBytes) a l) e
+    (record { number = x; place = y; pointers = λ i. t .ptrBytes; cells = λ i. t .cellBytes; answer = q })

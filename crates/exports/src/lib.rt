@@ -1,21 +1,22 @@
-// The calls for Rust and C: a slice passes as a pointer and a length. Answers are written over the start of the lent slices.
+// The calls for Rust and C: a slice passes as a pointer and a length. Answers are written over the start of the lent slices, as far
+// as these reach. Each call answers the refusal's number, 0 for none, and writes its place. What a call writes must not overlap with
+// anything else that is lent to it: the contracts are about slices that are apart.
+use model::Ended;
 use model::Stepped;
-use model::Unfolded;
 ghost use mathlib.Core.Path.{_≡_};
-ghost use Rattle.model.specs.Image.{foldImage, stepImage};
-ghost use Rattle.exports.specs.Over.{over, unfoldCall, unfoldedAs, IsStepped};
+ghost use Rattle.model.specs.Answers.{refusalOf, stepAnswerOf, stepNumbers, verdictOf};
+ghost use Rattle.model.specs.Image.{foldImage, stepImage, stepVerdict, unfoldImage};
+ghost use Rattle.exports.specs.Over.{over, IsFolded, IsStepped, IsUnfolded};
 
 fn lay(from: &[u8], to: &mut [u8])
     ensures { λ _. ⌜ now (to .exit) ≡ over (now (from .entry)) (now (to .entry)) ⌝ }
 {
-    let mut i = 0;
-    while i < from.len() {
-        if to.len() <= i {
-            return;
-        }
-        to[i] = from[i];
-        i += 1;
+    if from.len() <= to.len() {
+        bytes::copy(from, to);
+        return;
     }
+    let n = to.len();
+    bytes::copy(&from[..n], to);
 }
 
 fn lay_counters(from: &[u32], to: &mut [u32])
@@ -31,49 +32,86 @@ fn lay_counters(from: &[u32], to: &mut [u32])
     }
 }
 
-// Answers the refusal, 0 for none.
+fn number_of(ended: Ended) -> u8
+    ensures { λ r. ⌜ r ≡ refusalOf (verdictOf ended) .number ⌝ }
+{
+    match ended {
+        Ended::Accepted => 0,
+        Ended::Refused { number, place: _ } => number,
+    }
+}
+
+fn place_of(ended: Ended) -> usize
+    ensures { λ r. ⌜ r ≡ refusalOf (verdictOf ended) .place ⌝ }
+{
+    match ended {
+        Ended::Accepted => 0,
+        Ended::Refused { number: _, place } => place,
+    }
+}
+
 #[no_mangle]
 pub extern "C" fn currantplane_fold(
     pointers: &[u8],
     cells: &[u8],
     shape: &mut [u8],
     counters: &mut [u32],
+    place: &mut usize,
 ) -> u8
-    ensures refusal { λ r. ⌜ r ≡ foldImage (now (pointers .entry)) (now (cells .entry)) .refusal ⌝ }
-    ensures shape { λ _. ⌜ now (shape .exit) ≡ over (foldImage (now (pointers .entry)) (now (cells .entry)) .shapeBytes) (now (shape .entry)) ⌝ }
-    ensures counters { λ _. ⌜ now (counters .exit) ≡ over (foldImage (now (pointers .entry)) (now (cells .entry)) .counts) (now (counters .entry)) ⌝ }
+    ensures { λ r. ⌜ IsFolded (foldImage (now (pointers .entry)) (now (cells .entry))) r (now (place .exit)) (now (shape .exit)) (now (shape .entry)) (now (counters .exit)) (now (counters .entry)) ⌝ }
 {
     let folded = image::fold(pointers, cells);
     let record = folded.shape;
     let counts = folded.counters;
+    let ended = folded.ended;
     lay(&record, shape);
     lay_counters(&counts, counters);
-    folded.refusal
+    *place = place_of(ended);
+    number_of(ended)
 }
 
-// A counters slice that is not twelve long is refused with 15, and nothing is touched.
 #[no_mangle]
 pub extern "C" fn currantplane_unfold(
     shape: &[u8],
     counters: &[u32],
     pointers: &mut [u8],
     cells: &mut [u8],
+    place: &mut usize,
 ) -> u8
-    ensures { λ r. ⌜ unfoldedAs r (now (pointers .exit)) (now (cells .exit)) ≡ unfoldCall (now (shape .entry)) (now (counters .entry)) (now (pointers .entry)) (now (cells .entry)) ⌝ }
+    ensures { λ r. ⌜ IsUnfolded (unfoldImage (now (shape .entry)) (now (counters .entry)) (now (pointers .entry)) (now (cells .entry))) r (now (place .exit)) (now (pointers .exit)) (now (cells .exit)) ⌝ }
 {
-    if counters.len() != 12 {
-        return 15;
-    }
-    let mut counts = [0u32; 12];
-    lay_counters(counters, &mut counts);
-    let unfolded = image::unfold(shape, counts, pointers, cells);
-    match unfolded {
-        Unfolded::Done => 0,
-        Unfolded::Refused { number } => number,
+    let ended = image::unfold(shape, counters, pointers, cells);
+    *place = place_of(ended);
+    number_of(ended)
+}
+
+// The fault, 1 for a stop, the branch and the next statement.
+fn step_numbers(stepped: Stepped) -> [u8; 4]
+    ensures { λ r. ⌜ r ≡ stepNumbers (stepAnswerOf stepped) ⌝ }
+{
+    match stepped {
+        Stepped::Went { branch, next } => [0, 0, branch, next.0],
+        Stepped::Faulted { fault } => [fault, 0, 0, 0],
+        Stepped::Stopped => [0, 1, 0, 0],
+        Stepped::Refused {
+            number: _,
+            place: _,
+        } => [0, 0, 0, 0],
     }
 }
 
-// Answers the refusal; writes the fault, 1 for a stop, the branch and the next statement over `answer`.
+fn step_ended(stepped: Stepped) -> Ended
+    ensures { λ r. ⌜ verdictOf r ≡ stepVerdict (stepAnswerOf stepped) ⌝ }
+{
+    match stepped {
+        Stepped::Went { branch: _, next: _ } => Ended::Accepted,
+        Stepped::Faulted { fault: _ } => Ended::Accepted,
+        Stepped::Stopped => Ended::Accepted,
+        Stepped::Refused { number, place } => Ended::Refused { number, place },
+    }
+}
+
+// Writes the fault, 1 for a stop, the branch and the next statement over `answer`.
 #[no_mangle]
 pub extern "C" fn currantplane_step(
     pointers: &mut [u8],
@@ -82,30 +120,14 @@ pub extern "C" fn currantplane_step(
     pick: u8,
     cell: usize,
     answer: &mut [u8],
+    place: &mut usize,
 ) -> u8
-    ensures { λ r. ⌜ IsStepped (stepImage (now (statement .entry)) pick cell (now (pointers .entry)) (now (cells .entry))) r (now (pointers .exit)) (now (cells .exit)) (now (answer .exit)) (now (answer .entry)) ⌝ }
+    ensures { λ r. ⌜ IsStepped (stepImage (now (statement .entry)) pick cell (now (pointers .entry)) (now (cells .entry))) r (now (place .exit)) (now (pointers .exit)) (now (cells .exit)) (now (answer .exit)) (now (answer .entry)) ⌝ }
 {
     let stepped = image::step(pointers, cells, statement, pick, cell);
-    match stepped {
-        Stepped::Went { branch, next } => {
-            let numbers = [0u8, 0, branch, next.0];
-            lay(&numbers, answer);
-            0
-        }
-        Stepped::Faulted { fault } => {
-            let numbers = [fault, 0u8, 0, 0];
-            lay(&numbers, answer);
-            0
-        }
-        Stepped::Stopped => {
-            let numbers = [0u8, 1, 0, 0];
-            lay(&numbers, answer);
-            0
-        }
-        Stepped::Refused { number } => {
-            let numbers = [0u8; 4];
-            lay(&numbers, answer);
-            number
-        }
-    }
+    let numbers = step_numbers(stepped);
+    lay(&numbers, answer);
+    let ended = step_ended(stepped);
+    *place = place_of(ended);
+    number_of(ended)
 }

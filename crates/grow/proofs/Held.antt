@@ -8,8 +8,8 @@ use lib.Dec.{ltb}
 use lib.ListN.{length}
 use borrow.Author.Tests.{le-ltb, lt-ltb, ltb-false}
 use Rattle.model.specs.Base.{placeOf}
-use Rattle.model.specs.Edges.{Loc, Edge, sameLoc}
-use Rattle.model.specs.Records.{locRecord}
+use Rattle.model.specs.Edges.{Loc, Edge, sameLoc, at, failed}
+use Rattle.model.specs.Records.{locRecord, byte}
 use Rattle.model.specs.Translate.{Link, Listing, linkRecord, places, grown}
 use Rattle.model.proofs.EdgeBack.{edge-length}
 use Rattle.model.proofs.Listings.{WritableLoc}
@@ -105,3 +105,11 @@ module _ (t : Listing) (i : ℕ) (e : Edge) (ls es r us : List ℕ) (b g v m nl 
       rw (p, q, s) (holds-both (grown i j e t) (targetKept ls nl j r) (placed es ne (edgeBytes b i j g v us m)) (length ls) (length es) (countKept nl j) (ne + 1) K L) in
       subst (λ x. (ltb x (places 1024 (length ls′)) ≡ true) × (ltb (length (t .links)) (places 2048 (length es′)) ≡ true) × Holds (grown i x e t) ls′ es′ n (ne + 1)) number-is
       (rw sl (lt-ltb j (places 1024 (length ls)) h), rw (se, ← num) (lt-ltb ne (places 2048 (length es)) k), X)
+
+-- the record of an edge's target is that of a location
+location-tag : (l : Loc) → byte (locRecord l) 0 ≡ 0x4c
+location-tag (at s h) = refl
+location-tag (failed s f) = refl
+
+pub target-tag : {e : Edge} {r us : List ℕ} {b g v m : ℕ} → EdgeBytes e r us b g v m → byte r 0 ≡ 0x4c
+target-tag {e} B = ap (λ x. byte x 0) (B .target) ∙ location-tag (e .to)

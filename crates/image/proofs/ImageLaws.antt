@@ -1,16 +1,18 @@
 -- The checks of a heap image, what an image that passes them is, and folding one.
 use Prim.Native.Nat.{ℕ, suc, _-_, _≤_}
+use Rattle.model.proofs.Checks.{given-failed, pass-none}
+use Rattle.record.proofs.ListLaws.{drop-zeros}
 use native.Mathlib.Omega.{arith}
-use mathlib.Core.Path.{_≡_, refl, sym, ap₂, _∙_}
-use mathlib.Core.Bool.{Bool, true, false, _&&_, cond, not}
-use mathlib.Core.List.{List, _∷_, _++_, map}
+use mathlib.Core.Path.{_≡_, refl, sym, ap₂, _∙_, ap}
+use mathlib.Core.Bool.{Bool, true, false, _&&_, not}
+use mathlib.Core.List.{List, _∷_, _++_, map, [], append-nil}
 use lib.Dec.{eqb, leb}
-use lib.ListN.{length, getD, take, drop, replicate, getD-replicate, length-map}
+use lib.ListN.{length, getD, drop, replicate, getD-replicate, length-map, take-append-drop}
 use borrow.Author.Tests.{leb-true}
 use borrow.Rule.Slice.PartMut.{putMid}
 use Rattle.model.specs.Heap.{closed, eachUsed, kept}
-use Rattle.model.specs.Image.{cellSlot, foldImage, heapOf, lengths, refusalImage}
-use Rattle.model.specs.Records.{filled, shapeRecord, valOf}
+use Rattle.model.specs.Image.{cellSlot, foldImage, heapOf, lengths, refusalImage, checksImage}
+use Rattle.model.specs.Records.{filled, shapeRecord, valOf, isAccepted, isRefused, refusal}
 use Rattle.model.specs.Shape.{counters, segments, shape, size}
 use Rattle.model.proofs.Images.{fold-suc, fold-zero, image-accepted, number-case}
 use Rattle.model.proofs.Logic.{and-r}
@@ -20,24 +22,9 @@ use Rattle.record.proofs.Bytes.{headed-is}
 use Rattle.machine.specs.Run.{IsShape}
 use Rattle.image.specs.Checks.{ImageChecked}
 use Rattle.image.specs.Parts.{FoldReady, foldedHeap}
+use mathlib.Core.Logic.{inl, inr}
 
 -- ---- the checks
-
--- the refusal of an image by the tests of its lengths, of its values and of its reachable cells
-abbrev byTests : Bool → Bool → Bool → ℕ
-byTests a b c = elim (a && b) [ false ↦ 13 | true ↦ cond c 0 14 ]
-
-bad-lengths : (a b c : Bool) → a ≡ false → 13 ≡ byTests a b c
-bad-lengths a b c e = rw e
-
-bad-values : (a b c : Bool) → a ≡ true → b ≡ false → 13 ≡ byTests a b c
-bad-values a b c e f = rw (e, f)
-
-bad-cells : (a b c : Bool) → a ≡ true → b ≡ true → c ≡ false → 14 ≡ byTests a b c
-bad-cells a b c e f g = rw (e, f, g)
-
-all-well : (a b c : Bool) → a ≡ true → b ≡ true → c ≡ true → 0 ≡ byTests a b c
-all-well a b c e f g = rw (e, f, g)
 
 module _ (ps cs : List ℕ) where
   -- no order is given with a refusal
@@ -46,7 +33,7 @@ module _ (ps cs : List ℕ) where
       record { refusal = e; visited = λ z. absurd (omega arith); few = λ z. absurd (omega arith); held = λ z. absurd (omega arith) }
 
   pub check-lengths : (o m : List ℕ) (b : Bool) → b ≡ lengths ps cs → b ≡ false → ImageChecked ps cs o m 13 0
-  check-lengths o m b e f = refused-with o m 12 0 (bad-lengths (lengths ps cs) (closed (heapOf ps cs)) (kept (heapOf ps cs)) (sym e ∙ f))
+  check-lengths o m b e f = refused-with o m 12 0 (sym (given-failed (checksImage ps cs) 13 (inl (refl, ap (λ x. x && closed (heapOf ps cs)) (sym e ∙ f)))))
 
   module _ {b : Bool} (e : b ≡ lengths ps cs) (t : b ≡ true) where
     long : lengths ps cs ≡ true
@@ -56,7 +43,7 @@ module _ (ps cs : List ℕ) where
     lengths-few = leb-true (length cs) 240 (and-r (eqb (length ps) 6) (leb (length cs) 240) long)
 
     pub check-open : (o m : List ℕ) (k : Bool) → k ≡ closed (heapOf ps cs) → k ≡ false → ImageChecked ps cs o m 13 0
-    check-open o m k q f = refused-with o m 12 0 (bad-values (lengths ps cs) (closed (heapOf ps cs)) (kept (heapOf ps cs)) long (sym q ∙ f))
+    check-open o m k q f = refused-with o m 12 0 (sym (given-failed (checksImage ps cs) 13 (inl (refl, rw long (sym q ∙ f)))))
 
     module _ {k : Bool} (q : k ≡ closed (heapOf ps cs)) (u : k ≡ true) where
       pub check-ready : (o m : List ℕ) → length o ≡ 240 → m ≡ replicate 240 0 → VisitReady ps cs o m
@@ -69,22 +56,22 @@ module _ (ps cs : List ℕ) where
           (w : x ≡ eachUsed (λ c. not (eqb (getD m c 0) 0)) 0 (map cellSlot cs)) where
         pub check-lost : x ≡ false → ImageChecked ps cs o m 14 0
         check-lost f =
-            let h = heapOf ps cs in
-            refused-with o m 13 0 (bad-cells (lengths ps cs) (closed h) (kept h) long (sym q ∙ u) (sym (kept-marked d) ∙ sym w ∙ f))
+            refused-with o m 13 0 (sym (given-failed (checksImage ps cs) 14 (inr (rw long (sym q ∙ u), inl (refl, sym (kept-marked d) ∙ sym w ∙ f)))))
 
         pub check-done : x ≡ true → ImageChecked ps cs o m 0 n
         check-done f =
             let h = heapOf ps cs in
             let i : kept h ≡ true = sym (kept-marked d) ∙ sym w ∙ f in
-            let e = all-well (lengths ps cs) (closed h) (kept h) long (sym q ∙ u) i in
+            let e = sym (pass-none (checksImage ps cs) (rw long (sym q ∙ u), (i, tt))) in
             record { refusal = e; visited = λ _. d .visited; few = λ _. d .few; held = λ _. d .held i }
 
 -- ---- folding
 
 pub fold-refused : (ps cs : List ℕ) (n : ℕ) → n ≡ refusalImage ps cs → (n ≡ 0 → ⊥)
-    → record { refusal = n; shapeBytes = replicate 32 0; counts = replicate 12 0 } ≡ foldImage ps cs
+    → record { verdict = isRefused (refusal n 0); recordBytes = replicate 32 0; counts = replicate 12 0 } ≡ foldImage ps cs
 fold-refused ps cs n e z = number-case n (λ q. absurd (z q))
-    (λ m q. (λ i. record { refusal = q i; shapeBytes = replicate 32 0; counts = replicate 12 0 }) ∙ sym (fold-suc ps cs m (sym e ∙ q)))
+    (λ m q. (λ i. record { verdict = isRefused (refusal (q i) 0); recordBytes = replicate 32 0; counts = replicate 12 0 })
+    ∙ sym (fold-suc ps cs m (sym e ∙ q)))
 
 -- an image that passes is folded as its heap is
 pub fold-passed : (ps cs : List ℕ) → refusalImage ps cs ≡ 0 → foldedHeap (heapOf ps cs) ≡ foldImage ps cs
@@ -100,16 +87,20 @@ fold-ready {ps} {cs} {o} {m} {r} {n} d z l w =
     let k = d .few z in
     record { isHeap = A .2; six = A .0; few = f; visited = d .visited z; long = omega arith; holders = omega arith; held = d .held z }
 
+zeros-left : (k : ℕ) → k ≤ 12 → drop {A = ℕ} k (replicate 12 0) ≡ replicate (12 - k) 0
+zeros-left k h = drop-zeros k 12 [] h ∙ append-nil {A = ℕ} (replicate (12 - k) 0)
+
 module _ {ps cs o : List ℕ} {n : ℕ} {h : List ℕ} (x : FoldReady ps cs o n h) where
-  -- the record of k nodes in t, and the counters v cleared past them
-  pub fold-is : (m z q : List ℕ) (k : ℕ) → IsShape ps cs m z (replicate 28 0) q k → (t v : List ℕ) → length z ≡ 12
-      → t ≡ 0x48 ∷ 0 ∷ 0 ∷ k ∷ drop 4 (putMid 4 28 (replicate 32 0) q) → v ≡ take k z ++ replicate (length z - k) 0
-      → record { refusal = 0; shapeBytes = t; counts = v } ≡ foldedHeap (heapOf ps cs)
+  -- the record of k nodes in t, and the counters z, which stay zero past them
+  pub fold-is : (m z q : List ℕ) (k : ℕ) → IsShape ps cs m z (replicate 28 0) q k → (t : List ℕ)
+      → t ≡ 0x48 ∷ 0 ∷ 0 ∷ k ∷ drop 4 (putMid 4 28 (replicate 32 0) q) → drop k z ≡ drop k (replicate 12 0)
+      → record { verdict = isAccepted; recordBytes = t; counts = z } ≡ foldedHeap (heapOf ps cs)
   unfolding foldedHeap
-  fold-is m z q k d t v l a b =
+  fold-is m z q k d t a b =
       let h = heapOf ps cs in
       let s : t ≡ shapeRecord (shape h) =
       a ∙ headed-is 0x48 0 k h (replicate 32 0) q refl (length-map ps valOf ∙ x .six) (d .number) (d .twelve) (d .bytes) in
-      let n : length z - k ≡ 12 - length (counters h) = ap₂ _-_ l (d .number ∙ sym (length-map (segments h) size)) in
-      let c : v ≡ filled 12 (counters h) = b ∙ ap₂ (λ y i. y ++ replicate i 0) (d .sizes) n in
-      λ i. record { refusal = 0; shapeBytes = s i; counts = c i }
+      let n : 12 - k ≡ 12 - length (counters h) = ap (λ i. 12 - i) (d .number ∙ sym (length-map (segments h) size)) in
+      let c : z ≡ filled 12 (counters h) =
+      sym (take-append-drop k z) ∙ ap₂ _++_ (d .sizes) (b ∙ zeros-left k (d .twelve) ∙ ap (λ i. replicate i 0) n) in
+      λ i. record { verdict = isAccepted; recordBytes = s i; counts = c i }

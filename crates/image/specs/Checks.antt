@@ -1,12 +1,10 @@
--- What the checks give: of a heap image, and of the entry that a step is fed. Assumes nothing.
+-- What the checks of a heap image give. Assumes nothing.
 use Prim.Native.Nat.{ℕ, _≤_}
 use mathlib.Core.Path.{_≡_}
-use mathlib.Core.Bool.{Bool, not, _&&_}
 use mathlib.Core.List.{List}
 use lib.ListN.{length, take}
 use Rattle.model.specs.Heap.{order}
-use Rattle.model.specs.Machine.{Kind, accepts}
-use Rattle.model.specs.Image.{heapOf, refusalImage, pastEnd}
+use Rattle.model.specs.Image.{heapOf, refusalImage}
 use Rattle.visit.specs.Visit.{Held}
 
 -- the refusal r of the image ps, cs; without one the first n numbers of o are the cells in order of first visit, and the
@@ -16,7 +14,3 @@ pub record ImageChecked (ps cs o s : List ℕ) (r n : ℕ) : Type 0 where
   pub visited : r ≡ 0 → take n o ≡ order (heapOf ps cs)
   pub few : r ≡ 0 → n ≤ length cs
   pub held : r ≡ 0 → Held ps cs s
-
--- the entry of pick p and cell c is not refused, at a statement of kind k
-abbrev pub accepted : Kind → ℕ → ℕ → List ℕ → List ℕ → Bool
-accepted k p c ps cs = not (pastEnd k c (length cs)) && accepts k (record { pick = p; cellNo = c }) (heapOf ps cs)

@@ -1,14 +1,14 @@
 -- Folding and the step by their parts, once the checks are passed. Assumes nothing.
 use Prim.Native.Nat.{ℕ, _≤_}
 use mathlib.Core.Path.{_≡_}
-use mathlib.Core.Bool.{true, false}
+use mathlib.Core.Bool.{false}
 use mathlib.Core.List.{List}
 use lib.ListN.{length, take}
 use Rattle.model.specs.Heap.{Heap, IsHeap, inUse, next, order}
 use Rattle.model.specs.Shape.{shape, counters}
-use Rattle.model.specs.Machine.{kind, run, step}
-use Rattle.model.specs.Records.{filled, shapeRecord, opOf, stmtOf}
-use Rattle.model.specs.Image.{Folding, Stepping, heapOf, pastEnd, stays, answered}
+use Rattle.model.specs.Machine.{carryOut}
+use Rattle.model.specs.Records.{filled, isAccepted, shapeRecord, opOf}
+use Rattle.model.specs.Image.{Folding, heapOf, stays}
 use Rattle.effect.specs.Effect.{EffectReady, effectOf}
 use Rattle.visit.specs.Visit.{Held}
 
@@ -27,7 +27,7 @@ pub record FoldReady (ps cs o : List ℕ) (n : ℕ) (h : List ℕ) : Type 0 wher
 
 -- the record and the counters of a heap
 unfoldable pub foldedHeap : Heap → Folding
-foldedHeap h = record { refusal = 0; shapeBytes = shapeRecord (shape h); counts = filled 12 (counters h) }
+foldedHeap h = record { verdict = isAccepted; recordBytes = shapeRecord (shape h); counts = filled 12 (counters h) }
 
 -- ---- the step
 
@@ -38,18 +38,10 @@ pub record StepReady (op u w x : ℕ) (ps cs : List ℕ) : Type 0 where
 
 -- the fault r and the image qs, ds afterwards are what the machine's run of the image ps, cs gives
 pub record RunOn (op u w x : ℕ) (ps cs : List ℕ) (r : ℕ) (qs ds : List ℕ) : Type 0 where
-  pub outcome : effectOf r (heapOf qs ds) ≡ run (opOf op u w) x (heapOf ps cs)
+  pub outcome : effectOf r (heapOf qs ds) ≡ carryOut (opOf op u w) x (heapOf ps cs)
   pub low : r ≤ 3
 
 -- and a fault leaves the image
 pub record Finished (op u w x : ℕ) (ps cs : List ℕ) (r : ℕ) (qs ds : List ℕ) : Type 0 where
   pub ran : RunOn op u w x ps cs r qs ds
   pub stays : (r ≡ 0 → ⊥) → (qs ≡ ps) × (ds ≡ cs)
-
--- the step of record r, pick p and cell c on the image ps, cs, once the image and the record are checked
-unfoldable pub stepped : List ℕ → ℕ → ℕ → List ℕ → List ℕ → Stepping
-stepped r p c ps cs =
-    elim (pastEnd (kind (stmtOf r .op)) c (length cs)) [
-      | true ↦ stays 16 0 0 ps cs
-      | false ↦ answered (step (stmtOf r) (record { pick = p; cellNo = c }) (heapOf ps cs)) ps cs
-    ]

@@ -5,10 +5,10 @@ ghost use mathlib.Core.List.{List};
 ghost use mathlib.Core.Path.{_≡_};
 ghost use lib.Dec.{eqb};
 ghost use lib.ListN.{length, replicate};
-ghost use Rattle.model.specs.Image.{lengths, refusalUnfold, refusalStep};
-ghost use Rattle.model.specs.Machine.{kind};
-ghost use Rattle.model.specs.Records.{layoutH, opOf};
-ghost use Rattle.image.specs.Checks.{ImageChecked, accepted};
+ghost use Rattle.model.specs.Image.{lengths, refusalUnfold, checksStatement, entryFits, heapOf};
+ghost use Rattle.model.specs.Machine.{entry, kind};
+ghost use Rattle.model.specs.Records.{firstFailed, layoutH, opOf};
+ghost use Rattle.image.specs.Checks.{ImageChecked};
 
 // Whether there are six pointers and at most 240 cells.
 pub fn lengths_ok(pointers: &[u8], cells: &[u8]) -> bool
@@ -69,7 +69,6 @@ pub fn is_shape(rec: &[u8]) -> bool
 
 // The refusal of an unfolding (0 for none): the lengths of pointers and cells, then the record, then the counters.
 pub fn unfold_refusal(rec: &[u8], counters: &[u32], pointers: usize, cells: usize) -> u8
-    requires { ⌜ length (now counters) ≡ 12 ⌝ }
     ensures { λ r. ⌜ r ≡ refusalUnfold (now (rec .entry)) (now (counters .entry)) pointers cells ⌝ }
 {
     if pointers != 6 {
@@ -93,9 +92,9 @@ pub fn unfold_refusal(rec: &[u8], counters: &[u32], pointers: usize, cells: usiz
     }
 }
 
-// The refusal of a step (0 for none) by its image and its record.
+// The refusal of a step (0 for none) by its image and its record; 16 comes after these.
 pub fn step_refusal(rec: &[u8], pointers: &[u8], cells: &[u8]) -> u8
-    ensures { λ r. ⌜ r ≡ refusalStep (now (rec .entry)) (now (pointers .entry)) (now (cells .entry)) ⌝ }
+    ensures { λ r. ⌜ r ≡ firstFailed (checksStatement (now (rec .entry)) (now (pointers .entry)) (now (cells .entry))) ⌝ }
 {
     let mut order = [0u8; 240];
     let mut seen = [0u8; 240];
@@ -115,7 +114,7 @@ pub fn step_refusal(rec: &[u8], pointers: &[u8], cells: &[u8]) -> u8
 // Whether the pick at choose is 0 or 1, and the cell at new is one of the image that is not in use.
 pub fn entry_ok(op: u8, pick: u8, cell: usize, cells: &[u8]) -> bool
     requires { ⌜ op ≤ 11 ⌝ }
-    ensures { λ r. ⌜ ((u w : ℕ) (ps : List ℕ) → r ≡ accepted (kind (opOf op u w)) pick cell ps (now (cells .entry))) ⌝ }
+    ensures { λ r. ⌜ ((u w : ℕ) (ps : List ℕ) → r ≡ entryFits (kind (opOf op u w)) (entry pick cell) (heapOf ps (now (cells .entry)))) ⌝ }
 {
     if op == 10 {
         return pick <= 1;

@@ -6,32 +6,18 @@ mod steps;
 use checks::check_image;
 use checks::step_refusal;
 use checks::unfold_refusal;
+use model::Ended;
 use model::Folded;
 use model::Statement;
 use model::Stepped;
-use model::Unfolded;
 use steps::take_step;
-ghost use Prim.Native.Nat.{_-_, _≤_};
-ghost use mathlib.Core.List.{_++_};
+ghost use Prim.Native.Nat.{_-_};
 ghost use mathlib.Core.Path.{_≡_};
-ghost use lib.ListN.{length, take, replicate};
 ghost use Rattle.model.specs.Answers.{foldingOf, unfoldingOf, steppingOf};
 ghost use Rattle.model.specs.Image.{heapOf, foldImage, unfoldImage, stepImage};
 ghost use Rattle.image.specs.Parts.{FoldReady, foldedHeap};
 
-// The counters past the first k become 0.
-fn clear_past(counters: &mut [u32], k: usize)
-    requires { ⌜ k ≤ length (now counters) ⌝ }
-    ensures { λ _. ⌜ now (counters .exit) ≡ take k (now (counters .entry)) ++ replicate (length (now (counters .entry)) - k) 0 ⌝ }
-{
-    let mut i = k;
-    while i < counters.len() {
-        counters[i] = 0;
-        i += 1;
-    }
-}
-
-// Folds a heap whose visit order and counts of holders are given.
+// Folds a heap whose visit order and counts of holders are given. Sizes past the nodes stay zero.
 fn fold_heap(pointers: &[u8], cells: &[u8], order: &[u8], n: usize, held: &[u8]) -> Folded
     requires { ⌜ FoldReady (now pointers) (now cells) (now order) n (now held) ⌝ }
     ensures { λ r. ⌜ foldingOf r ≡ foldedHeap (heapOf (now (pointers .entry)) (now (cells .entry))) ⌝ }
@@ -52,9 +38,8 @@ fn fold_heap(pointers: &[u8], cells: &[u8], order: &[u8], n: usize, held: &[u8])
         &mut shape[4..],
     );
     record::write_head(&mut shape, 0x48, Statement(0), k);
-    clear_past(&mut size, k);
     Folded {
-        refusal: 0,
+        ended: Ended::Accepted,
         shape: shape,
         counters: size,
     }
@@ -69,7 +54,10 @@ pub fn fold(pointers: &[u8], cells: &[u8]) -> Folded
     let checked = check_image(pointers, cells, &mut order, &mut seen);
     if checked.refusal != 0 {
         return Folded {
-            refusal: checked.refusal,
+            ended: Ended::Refused {
+                number: checked.refusal,
+                place: 0,
+            },
             shape: [0u8; 32],
             counters: [0u32; 12],
         };
@@ -78,15 +66,18 @@ pub fn fold(pointers: &[u8], cells: &[u8]) -> Folded
 }
 
 // Writes the heap image of a shape with counters; a refused unfolding leaves pointers and cells.
-pub fn unfold(rec: &[u8], counters: [u32; 12], pointers: &mut [u8], cells: &mut [u8]) -> Unfolded
-    ensures { λ r. ⌜ unfoldingOf r (now (pointers .exit)) (now (cells .exit)) ≡ unfoldImage (now (rec .entry)) counters (now (pointers .entry)) (now (cells .entry)) ⌝ }
+pub fn unfold(rec: &[u8], counters: &[u32], pointers: &mut [u8], cells: &mut [u8]) -> Ended
+    ensures { λ r. ⌜ unfoldingOf r (now (pointers .exit)) (now (cells .exit)) ≡ unfoldImage (now (rec .entry)) (now (counters .entry)) (now (pointers .entry)) (now (cells .entry)) ⌝ }
 {
-    let refusal = unfold_refusal(rec, &counters, pointers.len(), cells.len());
+    let refusal = unfold_refusal(rec, counters, pointers.len(), cells.len());
     if refusal != 0 {
-        return Unfolded::Refused { number: refusal };
+        return Ended::Refused {
+            number: refusal,
+            place: 0,
+        };
     }
-    spread::spread(rec, &counters, pointers, cells);
-    Unfolded::Done
+    spread::spread(rec, counters, pointers, cells);
+    Ended::Accepted
 }
 
 // One step of the plain machine; at a fault, a stop or a refusal pointers and cells stay.
@@ -95,7 +86,10 @@ pub fn step(pointers: &mut [u8], cells: &mut [u8], rec: &[u8], pick: u8, cell: u
 {
     let refusal = step_refusal(rec, &pointers[..], &cells[..]);
     if refusal != 0 {
-        return Stepped::Refused { number: refusal };
+        return Stepped::Refused {
+            number: refusal,
+            place: 0,
+        };
     }
     take_step(pointers, cells, rec, pick, cell)
 }

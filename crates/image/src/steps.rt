@@ -8,9 +8,10 @@ ghost use mathlib.Core.Path.{_≡_};
 ghost use lib.Dec.{eqb};
 ghost use lib.ListN.{length};
 ghost use Rattle.model.specs.Answers.{steppingOf};
-ghost use Rattle.model.specs.Image.{refusalStep};
+ghost use Rattle.model.specs.Image.{checksStatement, stepImage};
+ghost use Rattle.model.specs.Records.{firstFailed};
 ghost use Rattle.model.specs.Machine.{Op, target};
-ghost use Rattle.image.specs.Parts.{StepReady, RunOn, Finished, stepped};
+ghost use Rattle.image.specs.Parts.{StepReady, RunOn, Finished};
 
 // Copies a list over another of its length.
 pub fn copy(from: &[u8], to: &mut [u8])
@@ -83,13 +84,13 @@ pub fn run_statement(
 }
 
 // The next statement: the first target for branch 0, else the second.
-pub fn next_of(first: u8, second: u8, branch: u8) -> Statement
-    ensures { λ r. ⌜ ((op : Op) → r .0 ≡ target (record { op = op; first = first; second = second }) branch) ⌝ }
+pub fn next_of(first: Statement, second: Statement, branch: u8) -> Statement
+    ensures { λ r. ⌜ ((op : Op) → r .0 ≡ target (record { op = op; firstTarget = first .0; secondTarget = second .0 }) branch) ⌝ }
 {
     if branch == 0 {
-        return Statement(first);
+        return first;
     }
-    Statement(second)
+    second
 }
 
 // Takes a step whose image and record passed the checks.
@@ -100,14 +101,17 @@ pub fn take_step(
     pick: u8,
     cell: usize,
 ) -> Stepped
-    requires { ⌜ refusalStep (now rec) (now pointers) (now cells) ≡ 0 ⌝ }
-    ensures { λ r. ⌜ steppingOf r (now (pointers .exit)) (now (cells .exit)) ≡ stepped (now (rec .entry)) pick cell (now (pointers .entry)) (now (cells .entry)) ⌝ }
+    requires { ⌜ firstFailed (checksStatement (now rec) (now pointers) (now cells)) ≡ 0 ⌝ }
+    ensures { λ r. ⌜ steppingOf r (now (pointers .exit)) (now (cells .exit)) ≡ stepImage (now (rec .entry)) pick cell (now (pointers .entry)) (now (cells .entry)) ⌝ }
 {
     let op = rec[1];
     let u = Pointer(rec[2]);
     let w = Pointer(rec[3]);
     if !entry_ok(op, pick, cell, &cells[..]) {
-        return Stepped::Refused { number: 16 };
+        return Stepped::Refused {
+            number: 16,
+            place: 0,
+        };
     }
     if op == 0 {
         return Stepped::Stopped;
@@ -119,6 +123,6 @@ pub fn take_step(
     }
     Stepped::Went {
         branch: branch,
-        next: next_of(rec[4], rec[5], branch),
+        next: next_of(Statement(rec[4]), Statement(rec[5]), branch),
     }
 }

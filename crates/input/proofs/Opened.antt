@@ -10,8 +10,8 @@ use lib.Dec.{eqb}
 use lib.ListN.{length, take, drop}
 use borrow.Author.Tests.{eqb-true, not-false}
 use Rattle.model.specs.Base.{count}
-use Rattle.model.specs.Records.{isH, isS, shapeOf, stmtOf}
-use Rattle.model.specs.Translate.{Refusal, Routine, good, badKind, badRecord, between, check, checkCounts, checkKinds, checkRecords}
+use Rattle.model.specs.Records.{Refusal, isH, isS, shapeOf, stmtOf}
+use Rattle.model.specs.Translate.{Routine, good, badKind, badRecord, between, check, checkCounts, checkKinds, checkRecords}
 use Rattle.model.proofs.Checked.{bad-good, good-inj}
 use Rattle.model.proofs.Listings.{recordsOf}
 use Rattle.model.proofs.Lists.{some-none}

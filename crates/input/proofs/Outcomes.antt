@@ -7,8 +7,8 @@ use mathlib.Core.List.{List, [], map}
 use lib.Dec.{eqb}
 use lib.ListN.{length, take, drop}
 use Rattle.model.specs.Base.{count}
-use Rattle.model.specs.Records.{isH, isS, stmtOf, shapeOf}
-use Rattle.model.specs.Translate.{Refusal, bad, good, refusal, badKind, badRecord, between, check, checkCounts, checkKinds, checkRecords}
+use Rattle.model.specs.Records.{Refusal, isH, isS, refusal, shapeOf, stmtOf}
+use Rattle.model.specs.Translate.{bad, good, badKind, badRecord, between, check, checkCounts, checkKinds, checkRecords}
 use Rattle.model.proofs.Listings.{recordsOf}
 
 module _ (n : ℕ) (rs : List (List ℕ)) where

@@ -11,8 +11,8 @@ use lib.Dec.{eqb}
 use lib.ListN.{length, getD, take, drop, drop-of-length-le, length-drop}
 use lib.Seq.{drop-cons, drop-drop, getD-drop, getD-take, length-take-le}
 use Rattle.model.specs.Base.{any, count}
-use Rattle.model.specs.Records.{byte, isH, isS, recordAt, refusalH, refusalS}
-use Rattle.model.specs.Translate.{badKind, badRecord, chunks, refusal}
+use Rattle.model.specs.Records.{byte, isH, isS, recordAt, refusal, refusalH, refusalS}
+use Rattle.model.specs.Translate.{badKind, badRecord, chunks}
 use Rattle.model.proofs.Sorted.{kinds-sorted}
 use Rattle.model.proofs.Listings.{recordsOf}
 use Rattle.model.proofs.Logic.{bool-case, clash, or-l}

@@ -1,18 +1,21 @@
 -- The shape of an H record that keeps the layout, as the heap image of its pointer and successor bytes; the refusals' numbers.
 use Prim.Native.Nat.{ℕ, _≤_}
+use Rattle.model.proofs.Checks.{given-failed, pass-none}
 use native.Mathlib.Omega.{arith}
-use mathlib.Core.Path.{_≡_, sym, ap, _∙_}
-use mathlib.Core.Bool.{Bool, true, false, cond}
-use mathlib.Core.List.{List}
-use lib.Dec.{eqb, ltb}
+use mathlib.Core.Path.{_≡_, sym, ap, _∙_, refl}
+use mathlib.Core.Bool.{true, false, cond, not}
+use mathlib.Core.List.{List, [], _∷_}
+use lib.Dec.{eqb, leb}
 use lib.ListN.{length, take, drop}
-use Rattle.model.specs.Base.{any, sameList}
+use Rattle.model.specs.Base.{any, sameList, all}
 use Rattle.model.specs.Heap.{closed}
 use Rattle.model.specs.Image.{heapOf}
-use Rattle.model.specs.Records.{byte, fieldsS, isS, layoutH, refusalH, refusalS, shapeOf, targetsS}
+use Rattle.model.specs.Records.{byte, isS, layoutH, refusalH, refusalS, shapeOf, Row, checksS, checksH, firstFailed}
 use Rattle.model.specs.Shape.{canonical}
-use Rattle.model.proofs.Logic.{bool-case}
+use Rattle.model.proofs.Logic.{bool-case, and-l, and-r}
 use Rattle.model.proofs.ShapeBack.{layout-closed, shape-image}
+use mathlib.Core.Logic.{inl, inr}
+use borrow.Author.Tests.{leb-true}
 
 module _ (r : List ℕ) (l : length r ≡ 32) (h : layoutH r ≡ true) where
   pub image-closed : closed (heapOf (take 6 (drop 4 r)) (take (byte r 3) (drop 10 r))) ≡ true
@@ -22,16 +25,16 @@ module _ (r : List ℕ) (l : length r ≡ 32) (h : layoutH r ≡ true) where
 
 module _ (e : List (List ℕ)) (r : List ℕ) where
   pub refusal-8 : layoutH r ≡ false → 8 ≡ refusalH e r
-  refusal-8 l = rw (l, refusalH)
+  refusal-8 l = sym (given-failed (checksH e r) 8 (inl (refl, l)))
 
   pub refusal-9 : layoutH r ≡ true → canonical (shapeOf r) ≡ false → 9 ≡ refusalH e r
-  refusal-9 l c = rw (l, refusalH) (rw (c, refusalH))
+  refusal-9 l c = sym (given-failed (checksH e r) 9 (inr (l, inl (refl, c))))
 
   pub refusal-10 : layoutH r ≡ true → canonical (shapeOf r) ≡ true → any (sameList eqb r) e ≡ true → 10 ≡ refusalH e r
-  refusal-10 l c a = rw (l, refusalH) (rw (c, refusalH) (rw a))
+  refusal-10 l c a = sym (given-failed (checksH e r) 10 (inr (l, inr (c, inl (refl, ap not a)))))
 
   pub refusal-none : layoutH r ≡ true → canonical (shapeOf r) ≡ true → any (sameList eqb r) e ≡ false → 0 ≡ refusalH e r
-  refusal-none l c a = rw (l, refusalH) (rw (c, refusalH) (rw a))
+  refusal-none l c a = sym (pass-none (checksH e r) (l, (c, (ap not a, tt))))
 
   -- and of any record, by its kind
   pub refusal-by-s : (n : ℕ) → isS r ≡ true → refusalS n r ≡ cond (isS r) (refusalS n r) (refusalH e r)
@@ -42,16 +45,12 @@ module _ (e : List (List ℕ)) (r : List ℕ) where
 
 -- ---- no number is above 10
 
-number-s : (a b c : Bool) → cond a 5 (cond b (cond c 0 7) 6) ≤ 10
-number-s true b c = omega arith
-number-s false true true = omega arith
-number-s false true false = omega arith
-number-s false false c = omega arith
-
-number-h : (e : List (List ℕ)) (r : List ℕ) → refusalH e r ≤ 10
-number-h e r = bool-case (layoutH r)
-    (λ a. rw (a, refusalH) (bool-case (canonical (shapeOf r)) (λ b. rw (b, refusalH) (bool-case (any (sameList eqb r) e) (λ c. rw c (omega arith)) (λ c. rw c (omega arith)))) (λ b. rw (b, refusalH) (omega arith))))
-    (λ a. rw (a, refusalH) (omega arith))
+-- no check of a record has a number above 10
+number-low : (cs : List Row) → all (λ (c : Row). leb (c .number) 10) cs ≡ true → firstFailed cs ≤ 10
+number-low [] h = omega arith
+number-low (c ∷ cs) h = bool-case (c .passes)
+    (λ p. rw (p, firstFailed) (number-low cs (and-r (leb (c .number) 10) (all (λ (x : Row). leb (x .number) 10) cs) h)))
+    (λ p. rw (p, firstFailed) (leb-true (c .number) 10 (and-l (leb (c .number) 10) (all (λ (x : Row). leb (x .number) 10) cs) h)))
 
 pub number-few : (n : ℕ) (e : List (List ℕ)) (r : List ℕ) → cond (isS r) (refusalS n r) (refusalH e r) ≤ 10
-number-few n e r = bool-case (isS r) (λ a. rw a (number-s (ltb 11 (byte r 1)) (fieldsS r) (targetsS n r))) (λ a. rw a (number-h e r))
+number-few n e r = bool-case (isS r) (λ a. rw a (number-low (checksS n r) refl)) (λ a. rw a (number-low (checksH e r) refl))

@@ -3,8 +3,8 @@ use Prim.Native.Nat.{ℕ, _+_, _*_, _≤_}
 use mathlib.Core.Path.{_≡_}
 use mathlib.Core.List.{List, map}
 use lib.ListN.{length, take, drop}
-use Rattle.model.specs.Records.{stmtOf, shapeOf}
-use Rattle.model.specs.Translate.{Checked as CheckedInput, bad, good, Routine, refusal}
+use Rattle.model.specs.Records.{refusal, shapeOf, stmtOf}
+use Rattle.model.specs.Translate.{Checked as CheckedInput, bad, good, Routine}
 use Rattle.model.proofs.Listings.{recordsOf}
 use Rattle.input.specs.declared.Checked.{Checked}
 use Rattle.input.specs.declared.Checked.the-variants.{Good, Bad}

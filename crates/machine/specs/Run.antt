@@ -7,7 +7,7 @@ use lib.ListN.{length, getD, take, drop}
 use Rattle.model.specs.Base.{mem}
 use Rattle.model.specs.Heap.{IsHeap, inUse, next, order}
 use Rattle.model.specs.Image.{heapOf}
-use Rattle.model.specs.Machine.{run}
+use Rattle.model.specs.Machine.{carryOut}
 use Rattle.model.specs.Records.{opOf, valByte, slotByte}
 use Rattle.model.specs.Shape.{cells, segments, shape, counters}
 use Rattle.model.proofs.Notions.{segAt}
@@ -25,7 +25,7 @@ pub record RunReady (op u w x : ℕ) (ps cs o s : List ℕ) : Type 0 where
 -- the fault f and the image qs, ds afterwards are what the machine's run gives; without a fault o holds the n cells in visit order, and the
 -- marks s tell the core cells
 pub record IsRun (op u w x : ℕ) (ps cs qs ds o s : List ℕ) (f n : ℕ) : Type 0 where
-  pub outcome : effectOf f (heapOf qs ds) ≡ run (opOf op u w) x (heapOf ps cs)
+  pub outcome : effectOf f (heapOf qs ds) ≡ carryOut (opOf op u w) x (heapOf ps cs)
   pub isHeap : f ≡ 0 → IsHeap (heapOf qs ds)
   pub visited : f ≡ 0 → take n o ≡ order (heapOf qs ds)
   pub few : f ≡ 0 → n ≤ length ds

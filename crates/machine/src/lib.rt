@@ -5,7 +5,7 @@ ghost use mathlib.Core.Bool.{not, _||_};
 ghost use mathlib.Core.List.{map};
 ghost use Prim.Native.Nat.{_≤_};
 ghost use lib.Dec.{eqb};
-ghost use lib.ListN.{length, getD};
+ghost use lib.ListN.{drop, length, getD};
 ghost use Rattle.model.specs.Heap.{eachUsed};
 ghost use Rattle.model.specs.Image.{cellSlot};
 ghost use Rattle.machine.specs.Run.{RunReady, IsRun, ShapeReady, IsShape};
@@ -76,6 +76,7 @@ pub fn shape_of(
 ) -> usize
     requires { ⌜ ShapeReady (now pointers) (now cells) (now order) n (now held) (now node) (now last) (now size) (now shape) ⌝ }
     ensures { λ r. ⌜ IsShape (now (pointers .entry)) (now (cells .entry)) (now (node .exit)) (now (size .exit)) (now (shape .entry)) (now (shape .exit)) r ⌝ }
+    ensures past { λ r. ⌜ drop r (now (size .exit)) ≡ drop r (now (size .entry)) ⌝ }
 {
     let k = segment::cut(order, n, held, node, last, size);
     segment::fold_values(pointers, &node[..], shape);

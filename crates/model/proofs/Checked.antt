@@ -1,5 +1,6 @@
 -- What the checks of the input say of an accepted one: its starting shapes are shapes with six pointers, and no two are equal.
 use Prim.Native.Nat.{_%_, _*_, _/_, suc, zero, ℕ}
+use Rattle.model.proofs.Checks.{none-failed}
 use mathlib.Core.Path.{_∙_, _≡_, ap, refl, subst, sym}
 use mathlib.Core.Logic.{inl, inr}
 use mathlib.Core.Option.{Option, none, some}
@@ -9,12 +10,12 @@ use native.Mathlib.Omega.{arith}
 use lib.Dec.{eqb}
 use lib.ListN.{drop, length, length-drop}
 use lib.Seq.{length-take-le}
-use borrow.Author.Tests.{eqb-true}
+use borrow.Author.Tests.{eqb-true, not-true}
 use Rattle.model.specs.Base.{all, any, count, sameList}
 use Rattle.model.specs.Heap.{Heap}
-use Rattle.model.specs.Records.{isH, isS, layoutH, refusalH, refusalS, shapeOf, shapeRecord}
+use Rattle.model.specs.Records.{Refusal, isH, isS, layoutH, refusal, refusalH, refusalS, shapeOf, shapeRecord, checksH}
 use Rattle.model.specs.Shape.{canonical}
-use Rattle.model.specs.Translate.{Refusal, Routine, bad, badKind, badRecord, between, check, checkCounts, checkKinds, checkRecords, chunks, good, refusal}
+use Rattle.model.specs.Translate.{Routine, bad, badKind, badRecord, between, check, checkCounts, checkKinds, checkRecords, chunks, good}
 use Rattle.model.proofs.Canon.{Canon}
 use Rattle.model.proofs.Canonical.{canonical-canon}
 use Rattle.model.proofs.Facts.{test-closed}
@@ -32,12 +33,9 @@ pub record GoodH (r : List ℕ) : Type 0 where
 
 pub accepted-h : (earlier : List (List ℕ)) (r : List ℕ) → refusalH earlier r ≡ 0
     → (layoutH r ≡ true) × (canonical (shapeOf r) ≡ true) × (any (sameList eqb r) earlier ≡ false)
-accepted-h earlier r e = bool-case (layoutH r)
-    (λ l. bool-case (canonical (shapeOf r))
-    (λ c. bool-case (any (sameList eqb r) earlier)
-    (λ a. absurd (let z = rw (l, refusalH) at e in let y = rw (c, refusalH) at z in let x = rw a at y in omega arith)) (λ a. (l, c, a)))
-    (λ c. absurd (let z = rw (l, refusalH) at e in let y = rw (c, refusalH) at z in omega arith)))
-    (λ l. absurd (let z = rw (l, refusalH) at e in omega arith))
+accepted-h earlier r e =
+    let p = none-failed (checksH earlier r) refl e in
+    (p .0, p .1 .0, not-true (any (sameList eqb r) earlier) (p .1 .1 .0))
 
 -- each record of the list is accepted after those before it
 abbrev Accepted : ℕ → List (List ℕ) → List (List ℕ) → Type 0

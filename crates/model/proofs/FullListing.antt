@@ -8,7 +8,7 @@ use lib.ListN.{getD, length, length-map, replicate}
 use Rattle.model.specs.Base.{mem, sum}
 use Rattle.model.specs.Edges.{Edge, Loc, Way, at, edgeBy, edgesOf, failed, stepBy, stmtAt, ways}
 use Rattle.model.specs.Heap.{Heap, Slot, Val, cell, holds, null, undef, unused}
-use Rattle.model.specs.Machine.{Answer, Effect, Entry, Fault, Kind, Stmt, accepts, allocates, answerOf, atNull, atUndef, branch, done, fault, faultNumber, faulted, kind, leak, other, picks, refused, run, step, stop, stopped, stops, target, unlessStop, went}
+use Rattle.model.specs.Machine.{Answer, Effect, Entry, Fault, Kind, Stmt, accepts, allocates, answerOf, atNull, atUndef, branch, done, fault, faultNumber, faulted, kind, leak, other, picks, refused, carryOut, step, stop, stopped, stops, target, unlessStop, went}
 use Rattle.model.specs.Records.{locRecord, slotByte, valByte}
 use Rattle.model.specs.Translate.{Listing, Routine, check, good}
 use Rattle.model.proofs.Checked.{GoodStarts, check-good}
@@ -110,7 +110,7 @@ module _ (c : ℕ) (b : 256 ≤ c) (ls : List Loc) (d : Distinct ls) (g : (l : L
 
 -- a number above every byte and every target
 radix : List Stmt → ℕ
-radix sts = 256 + sum (λ (st : Stmt). st .first + st .second) sts
+radix sts = 256 + sum (λ (st : Stmt). st .firstTarget + st .secondTarget) sts
 
 sum-at : {A : Type 0} (f : A → ℕ) (l : List A) (i : ℕ) (d : A) → f d ≡ 0 → f (getD l i d) ≤ sum f l
 sum-at f [] i d e = omega arith
@@ -121,9 +121,9 @@ radix-byte : (sts : List Stmt) → 256 ≤ radix sts
 unfolding radix
 radix-byte sts = omega arith
 
-radix-target : (sts : List Stmt) (s : ℕ) → stmtAt sts s .first + stmtAt sts s .second < radix sts
+radix-target : (sts : List Stmt) (s : ℕ) → stmtAt sts s .firstTarget + stmtAt sts s .secondTarget < radix sts
 unfolding radix
-radix-target sts s = omega (arith, sum-at (λ (st : Stmt). st .first + st .second) sts s (record { op = stop; first = 0; second = 0 }) refl)
+radix-target sts s = omega (arith, sum-at (λ (st : Stmt). st .firstTarget + st .secondTarget) sts s (record { op = stop; firstTarget = 0; secondTarget = 0 }) refl)
 
 -- the statement that a step goes to is below c
 abbrev GoesBelow : ℕ → Answer → Type 0
@@ -132,11 +132,11 @@ GoesBelow c stopped = Unit {0}
 GoesBelow c (faulted f) = Unit {0}
 GoesBelow c (went b t h) = t < c
 
-target-below : (c : ℕ) (st : Stmt) (b : ℕ) → st .first + st .second < c → target st b < c
+target-below : (c : ℕ) (st : Stmt) (b : ℕ) → st .firstTarget + st .secondTarget < c → target st b < c
 target-below c st zero h = omega arith
 target-below c st (suc b) h = omega arith
 
-answer-below : (c : ℕ) (st : Stmt) (b : ℕ) (x : Effect) → st .first + st .second < c → GoesBelow c (answerOf st b x)
+answer-below : (c : ℕ) (st : Stmt) (b : ℕ) (x : Effect) → st .firstTarget + st .secondTarget < c → GoesBelow c (answerOf st b x)
 answer-below c st b (fault f) h = tt
 answer-below c st b (done g) h = target-below c st b h
 
@@ -146,10 +146,10 @@ unless-below c picks a h = h
 unless-below c allocates a h = h
 unless-below c other a h = h
 
-step-below : (c : ℕ) (st : Stmt) (e : Entry) (h : Heap) → st .first + st .second < c → GoesBelow c (step st e h)
+step-below : (c : ℕ) (st : Stmt) (e : Entry) (h : Heap) → st .firstTarget + st .secondTarget < c → GoesBelow c (step st e h)
 step-below c st e h q =
-    let a = answerOf st (branch (st .op) (e .pick) h) (run (st .op) (e .cellNo) h) in
-    let p = unless-below c (kind (st .op)) a (answer-below c st (branch (st .op) (e .pick) h) (run (st .op) (e .cellNo) h) q) in
+    let a = answerOf st (branch (st .op) (e .pick) h) (carryOut (st .op) (e .cellNo) h) in
+    let p = unless-below c (kind (st .op)) a (answer-below c st (branch (st .op) (e .pick) h) (carryOut (st .op) (e .cellNo) h) q) in
     bool-case (accepts (kind (st .op)) e h) (λ z. rw z p) (λ z. rw z tt)
 
 way-below : (c s k : ℕ) (y : Way) (a : Answer) → s < c → GoesBelow c a → (E : Edge) → In E (edgeBy s k y a) → stmtNo (E .to) < c

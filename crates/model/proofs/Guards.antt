@@ -11,7 +11,7 @@ use borrow.Author.Tests.{eqb-false, eqb-true, le-leb, leb-true}
 use Rattle.model.specs.Base.{joined}
 use Rattle.model.specs.Edges.{Edge, Way, access, always, edgeBy, edgesAt, isMore, isOne, picksOf, split, splitHeap, stepBy, waysAt, whole}
 use Rattle.model.specs.Heap.{Heap, Val, cell, kept, null, undef}
-use Rattle.model.specs.Machine.{Answer, Effect, Kind, Stmt, accepts, allocates, answerOf, branch, choose, done, fault, faulted, kind, other, picks, refused, run, stopped, stops, went}
+use Rattle.model.specs.Machine.{Answer, Effect, Kind, Stmt, accepts, allocates, answerOf, branch, choose, done, fault, faulted, kind, other, picks, refused, carryOut, stopped, stops, went}
 use Rattle.model.specs.Runs.{isStop}
 use Rattle.model.proofs.Lists.{In, Pairs, in-append-cases, in-append-l, in-append-r, in-joined, in-map, in-single, pairs-append, pairs-few}
 use Rattle.model.proofs.Location.{choose-edge, way-guard}
@@ -50,11 +50,11 @@ module _ (s : ℕ) (st : Stmt) (h : Heap) (kp : kept h ≡ true) where
       differ : (x y : Edge) → In x (edges-by (whole always 0 h)) → In y (edges-by (whole always 1 h)) → x .branchNo ≡ y .branchNo → ⊥
       differ x y i j e =
           let c = choose-is (st .op) q in
-          let z : st ≡ record { op = choose; first = st .first; second = st .second } = λ t. record { op = c t; first = st .first; second = st .second } in
+          let z : st ≡ record { op = choose; firstTarget = st .firstTarget; secondTarget = st .secondTarget } = λ t. record { op = c t; firstTarget = st .firstTarget; secondTarget = st .secondTarget } in
           let k = length (h .slots) in
-          let p = choose-edge s k (st .first) (st .second) h kp (whole always 0 h) x (inl refl)
+          let p = choose-edge s k (st .firstTarget) (st .secondTarget) h kp (whole always 0 h) x (inl refl)
           (subst (λ (w : Stmt). In x (edgeBy s k (whole always 0 h) (stepBy w k (whole always 0 h)))) z i) in
-          let r = choose-edge s k (st .first) (st .second) h kp (whole always 1 h) y (inr (inl refl))
+          let r = choose-edge s k (st .firstTarget) (st .secondTarget) h kp (whole always 1 h) y (inr (inl refl))
           (subst (λ (w : Stmt). In y (edgeBy s k (whole always 1 h) (stepBy w k (whole always 1 h)))) z j) in
           omega arith
   plain-exclude allocates q a = one-way (whole always 0 h)
@@ -76,7 +76,7 @@ module _ (s : ℕ) (st : Stmt) (h : Heap) (kp : kept h ≡ true) where
   way-edge : (y : Way) → isStop (kind (st .op)) ≡ false → accepts (kind (st .op)) (record { pick = y .pick; cellNo = length (h .slots) }) (y .heap) ≡ true
       → (E : Edge) × In E (edges-by y) × (branch (st .op) (y .pick) (y .heap) ≡ 0 → E .branchNo ≡ 0)
   way-edge y g a = rw (step-go st (record { pick = y .pick; cellNo = length (h .slots) }) (y .heap) g a)
-      (by-run (run (st .op) (length (h .slots)) (y .heap)))
+      (by-run (carryOut (st .op) (length (h .slots)) (y .heap)))
     where
       by-run : (x : Effect)
           → (E : Edge) × In E (edgeBy s (length (h .slots)) y (answerOf st (branch (st .op) (y .pick) (y .heap)) x))
@@ -90,7 +90,7 @@ module _ (s : ℕ) (st : Stmt) (h : Heap) (kp : kept h ≡ true) where
       let f = access-facts (st .op) h n a in
       let g : isStop (kind (st .op)) ≡ false = rw (f .0) in
       let ac : accepts (kind (st .op)) (record { pick = y .pick; cellNo = length (h .slots) }) (y .heap) ≡ true = rw (f .0) in
-      by-run (run (st .op) (length (h .slots)) (y .heap)) (f .1 (y .pick) (y .heap))
+      by-run (carryOut (st .op) (length (h .slots)) (y .heap)) (f .1 (y .pick) (y .heap))
       (rw (step-go st (record { pick = y .pick; cellNo = length (h .slots) }) (y .heap) g ac) at i)
     where
       by-run : (x : Effect) → branch (st .op) (y .pick) (y .heap) ≡ 0

@@ -1,8 +1,10 @@
 -- What folding and unfolding leave, for all inputs: which refusals they have, that a refusal leaves zeros or what stood, that lengths are kept,
 -- and what an accepted fold gives.
 use Prim.Native.Nat.{_+_, _-_, _≤_, suc, zero, ℕ}
+use Rattle.model.proofs.Checks.{accepted-zero, checked-by, none-failed, not-both, pass-none}
+use Rattle.model.proofs.Notions.{CheckedBy}
 use mathlib.Core.Path.{_∙_, _≡_, ap, refl, sym}
-use mathlib.Core.Logic.{_↔_, inl, inr}
+use mathlib.Core.Logic.{_↔_}
 use mathlib.Core.Bool.{_&&_, true}
 use mathlib.Core.List.{List, [], _∷_, map}
 use native.Mathlib.Omega.{arith}
@@ -10,16 +12,15 @@ use lib.Dec.{eqb, leb}
 use lib.ListN.{drop, length, length-append, length-map, length-replicate, replicate, take}
 use borrow.Author.Tests.{eq-eqb, eqb-true, le-leb, leb-true}
 use Rattle.model.specs.Base.{all, sum}
-use Rattle.model.specs.Heap.{Heap, IsHeap, Slot, closed, kept}
-use Rattle.model.specs.Image.{Folding, Unfolding, cellBytesOf, countersFit, foldImage, heapOf, lengths, refusalImage, refusalUnfold, spread, spreadSlot, strand, strands, unfoldHeap, unfoldImage}
-use Rattle.model.specs.Records.{byte, filled, isZero, layoutH, shapeOf, shapeRecord, slotByte, valByte, valOf}
+use Rattle.model.specs.Heap.{Heap, IsHeap, Slot, closed}
+use Rattle.model.specs.Image.{Folding, Unfolding, cellBytesOf, countersFit, foldImage, heapOf, lengths, refusalImage, refusalUnfold, spread, spreadSlot, strand, strands, unfoldHeap, unfoldImage, checksImage, checksUnfold, verdictBy}
+use Rattle.model.specs.Records.{byte, filled, isZero, layoutH, shapeOf, shapeRecord, slotByte, valByte, valOf, Refusal, isAccepted, isRefused}
 use Rattle.model.specs.Shape.{canonical, counters, nodeVal, segments, shape}
 use Rattle.model.proofs.Bytes.{filled-length}
 use Rattle.model.proofs.Canon.{fold-canon}
 use Rattle.model.proofs.Facts.{heap-closed, heap-kept}
 use Rattle.model.proofs.Listings.{Writable}
-use Rattle.model.proofs.Lists.{In}
-use Rattle.model.proofs.Logic.{and-both, and-l, and-r, bool-case}
+use Rattle.model.proofs.Logic.{and-both, and-l, and-r}
 use Rattle.model.proofs.ReadBack.{canon-writable, shape-length, shape-shape}
 use Rattle.model.proofs.ShapeBack.{layout-pointers}
 use Rattle.model.proofs.Slices.{sum-take}
@@ -28,40 +29,30 @@ use Rattle.model.proofs.Ways.{count-length}
 
 -- ---- the heap image
 
-pub image-number : (ps cs : List ℕ) → In (refusalImage ps cs) (0 ∷ 13 ∷ 14 ∷ [])
-image-number ps cs = bool-case (lengths ps cs && closed (heapOf ps cs))
-    (λ e. rw (e, refusalImage) (bool-case (kept (heapOf ps cs)) (λ k. rw k (inl refl)) (λ k. rw k (inr (inr (inl refl))))))
-    (λ e. rw (e, refusalImage) (inr (inl refl)))
-
 -- an image is accepted exactly when it is six pointers and at most 240 cells, and a heap
 pub image-accepted : (ps cs : List ℕ) → (refusalImage ps cs ≡ 0) ↔ ((length ps ≡ 6) × (length cs ≤ 240) × IsHeap (heapOf ps cs))
 image-accepted ps cs = (
-  (λ z. bool-case (lengths ps cs && closed (heapOf ps cs))
-      (λ e. let l = and-l (lengths ps cs) (closed (heapOf ps cs)) e in
-      let z1 = rw (e, refusalImage) at z in
-      bool-case (kept (heapOf ps cs))
-      (λ k. (
+  (λ z. let p = none-failed (checksImage ps cs) refl z in
+      let l = and-l (lengths ps cs) (closed (heapOf ps cs)) (p .0) in (
         eqb-true (length ps) 6 (and-l (eqb (length ps) 6) (leb (length cs) 240) l),
         leb-true (length cs) 240 (and-r (eqb (length ps) 6) (leb (length cs) 240) l),
-        record { isClosed = and-r (lengths ps cs) (closed (heapOf ps cs)) e; isKept = k },
-      ))
-      (λ k. absurd (let z2 = rw k at z1 in omega arith)))
-      (λ e. absurd (let z1 = rw (e, refusalImage) at z in omega arith))),
+        record { isClosed = and-r (lengths ps cs) (closed (heapOf ps cs)) (p .0); isKept = p .1 .0 },
+      )),
   λ q. let e : (lengths ps cs && closed (heapOf ps cs)) ≡ true =
       and-both (lengths ps cs) (closed (heapOf ps cs))
       (and-both (eqb (length ps) 6) (leb (length cs) 240) (eq-eqb (length ps) 6 (q .0)) (le-leb (length cs) 240 (q .1))) (q .2 .isClosed) in
-      rw (e, refusalImage) (rw (q .2 .isKept)),
+      pass-none (checksImage ps cs) (e, (q .2 .isKept, tt)),
 )
 
 -- ---- folding
 
 pub fold-zero : (ps cs : List ℕ) → refusalImage ps cs ≡ 0
-    → foldImage ps cs ≡ record { refusal = 0; shapeBytes = shapeRecord (shape (heapOf ps cs)); counts = filled 12 (counters (heapOf ps cs)) }
+    → foldImage ps cs ≡ record { verdict = isAccepted; recordBytes = shapeRecord (shape (heapOf ps cs)); counts = filled 12 (counters (heapOf ps cs)) }
 unfolding foldImage
 fold-zero ps cs e = rw (e, foldImage)
 
 pub fold-suc : (ps cs : List ℕ) (n : ℕ) → refusalImage ps cs ≡ suc n
-    → foldImage ps cs ≡ record { refusal = suc n; shapeBytes = replicate 32 0; counts = replicate 12 0 }
+    → foldImage ps cs ≡ record { verdict = verdictBy (suc n); recordBytes = replicate 32 0; counts = replicate 12 0 }
 unfolding foldImage
 fold-suc ps cs n e = rw (e, foldImage)
 
@@ -69,14 +60,23 @@ pub number-case {ℓ} : {C : Type ℓ} (n : ℕ) → (n ≡ 0 → C) → ((m : �
 number-case zero f g = f refl
 number-case (suc m) f g = g m refl
 
-pub fold-number : (ps cs : List ℕ) → foldImage ps cs .refusal ≡ refusalImage ps cs
-fold-number ps cs = number-case (refusalImage ps cs) (λ e. ap (λ (f : Folding). f .refusal) (fold-zero ps cs e) ∙ sym e)
-    (λ n e. ap (λ (f : Folding). f .refusal) (fold-suc ps cs n e) ∙ sym e)
+pub fold-verdict : (ps cs : List ℕ) → foldImage ps cs .verdict ≡ verdictBy (refusalImage ps cs)
+fold-verdict ps cs = number-case (refusalImage ps cs) (λ e. ap (λ (f : Folding). f .verdict) (fold-zero ps cs e) ∙ ap verdictBy (sym e))
+    (λ n e. ap (λ (f : Folding). f .verdict) (fold-suc ps cs n e) ∙ ap verdictBy (sym e))
 
-pub fold-refused : (ps cs : List ℕ) → (foldImage ps cs .refusal ≡ 0 → ⊥)
-    → (foldImage ps cs .shapeBytes ≡ replicate 32 0) × (foldImage ps cs .counts ≡ replicate 12 0)
-fold-refused ps cs z = number-case (refusalImage ps cs) (λ e. absurd (z (fold-number ps cs ∙ e)))
-    (λ n e. let q = fold-suc ps cs n e in (ap (λ (f : Folding). f .shapeBytes) q, ap (λ (f : Folding). f .counts) q))
+-- it is refused by the checks of an image, in their order
+pub fold-checked : (ps cs : List ℕ) → CheckedBy (checksImage ps cs) (foldImage ps cs .verdict)
+fold-checked ps cs = checked-by (checksImage ps cs) (foldImage ps cs .verdict) refl (fold-verdict ps cs)
+
+-- an accepted fold is of a heap
+pub fold-accepted : (ps cs : List ℕ) → foldImage ps cs .verdict ≡ isAccepted → refusalImage ps cs ≡ 0
+fold-accepted ps cs z = accepted-zero (refusalImage ps cs) (sym (fold-verdict ps cs) ∙ z)
+
+pub fold-refused : (ps cs : List ℕ) (x : Refusal) → foldImage ps cs .verdict ≡ isRefused x
+    → (foldImage ps cs .recordBytes ≡ replicate 32 0) × (foldImage ps cs .counts ≡ replicate 12 0)
+fold-refused ps cs x z = number-case (refusalImage ps cs)
+    (λ e. not-both (foldImage ps cs .verdict) x (fold-verdict ps cs ∙ ap verdictBy e) z)
+    (λ n e. let q = fold-suc ps cs n e in (ap (λ (f : Folding). f .recordBytes) q, ap (λ (f : Folding). f .counts) q))
 
 -- a shape can be written, and has at most twelve counters
 module _ (h : Heap) (x : IsHeap h) (six : length (h .ptrs) ≡ 6) where
@@ -87,36 +87,36 @@ module _ (h : Heap) (x : IsHeap h) (six : length (h .ptrs) ≡ 6) where
   counters-few = omega (arith, count-length h (heap-closed h x) (heap-kept h x), fold-writable .few)
 
 -- what an accepted fold gives: the record is read back as the shape, and its counters stand first
-pub fold-gives : (ps cs : List ℕ) → foldImage ps cs .refusal ≡ 0
-    → (foldImage ps cs .shapeBytes ≡ shapeRecord (shape (heapOf ps cs))) × (foldImage ps cs .counts ≡ filled 12 (counters (heapOf ps cs)))
-    × (shapeOf (foldImage ps cs .shapeBytes) ≡ shape (heapOf ps cs)) × (length (counters (heapOf ps cs)) ≤ 12)
+pub fold-gives : (ps cs : List ℕ) → foldImage ps cs .verdict ≡ isAccepted
+    → (foldImage ps cs .recordBytes ≡ shapeRecord (shape (heapOf ps cs))) × (foldImage ps cs .counts ≡ filled 12 (counters (heapOf ps cs)))
+    × (shapeOf (foldImage ps cs .recordBytes) ≡ shape (heapOf ps cs)) × (length (counters (heapOf ps cs)) ≤ 12)
 fold-gives ps cs z =
-    let e = sym (fold-number ps cs) ∙ z in
+    let e = fold-accepted ps cs z in
     let A = image-accepted ps cs .0 e in
     let h = heapOf ps cs in
     let six : length (h .ptrs) ≡ 6 = length-map ps valOf ∙ A .0 in
-    let q = ap (λ (f : Folding). f .shapeBytes) (fold-zero ps cs e) in (
+    let q = ap (λ (f : Folding). f .recordBytes) (fold-zero ps cs e) in (
       q,
       ap (λ (f : Folding). f .counts) (fold-zero ps cs e),
       ap shapeOf q ∙ shape-shape (shape h) (fold-writable h (A .2) six),
       counters-few h (A .2) six,
     )
 
-pub fold-lengths : (ps cs : List ℕ) → (length (foldImage ps cs .shapeBytes) ≡ 32) × (length (foldImage ps cs .counts) ≡ 12)
+pub fold-lengths : (ps cs : List ℕ) → (length (foldImage ps cs .recordBytes) ≡ 32) × (length (foldImage ps cs .counts) ≡ 12)
 fold-lengths ps cs = number-case (refusalImage ps cs)
     (λ e. let A = image-accepted ps cs .0 e in
     let h = heapOf ps cs in
     let six : length (h .ptrs) ≡ 6 = length-map ps valOf ∙ A .0 in (
-      ap (λ (f : Folding). length (f .shapeBytes)) (fold-zero ps cs e) ∙ shape-length (shape h) (fold-writable h (A .2) six),
+      ap (λ (f : Folding). length (f .recordBytes)) (fold-zero ps cs e) ∙ shape-length (shape h) (fold-writable h (A .2) six),
       ap (λ (f : Folding). length (f .counts)) (fold-zero ps cs e) ∙ filled-length 12 (counters h) (counters-few h (A .2) six),
     ))
-    (λ n e. (ap (λ (f : Folding). length (f .shapeBytes)) (fold-suc ps cs n e), ap (λ (f : Folding). length (f .counts)) (fold-suc ps cs n e)))
+    (λ n e. (ap (λ (f : Folding). length (f .recordBytes)) (fold-suc ps cs n e), ap (λ (f : Folding). length (f .counts)) (fold-suc ps cs n e)))
 
 -- ---- unfolding
 
 pub unfold-zero : (r vs ps cs : List ℕ) → refusalUnfold r vs (length ps) (length cs) ≡ 0 → unfoldImage r vs ps cs
     ≡ record {
-      refusal = 0;
+      verdict = isAccepted;
       ptrBytes = map valByte (unfoldHeap (shapeOf r) (take (byte r 3) vs) .ptrs);
       cellBytes = cellBytesOf (length cs) (unfoldHeap (shapeOf r) (take (byte r 3) vs));
     }
@@ -124,54 +124,60 @@ unfolding unfoldImage
 unfold-zero r vs ps cs e = rw (e, unfoldImage)
 
 pub unfold-suc : (r vs ps cs : List ℕ) (n : ℕ) → refusalUnfold r vs (length ps) (length cs) ≡ suc n
-    → unfoldImage r vs ps cs ≡ record { refusal = suc n; ptrBytes = ps; cellBytes = cs }
+    → unfoldImage r vs ps cs ≡ record { verdict = verdictBy (suc n); ptrBytes = ps; cellBytes = cs }
 unfolding unfoldImage
 unfold-suc r vs ps cs n e = rw (e, unfoldImage)
 
-pub unfold-number : (r vs ps cs : List ℕ) → unfoldImage r vs ps cs .refusal ≡ refusalUnfold r vs (length ps) (length cs)
-unfold-number r vs ps cs = number-case (refusalUnfold r vs (length ps) (length cs)) (λ e. ap (λ (f : Unfolding). f .refusal) (unfold-zero r vs ps cs e) ∙ sym e)
-    (λ n e. ap (λ (f : Unfolding). f .refusal) (unfold-suc r vs ps cs n e) ∙ sym e)
+pub unfold-verdict : (r vs ps cs : List ℕ) → unfoldImage r vs ps cs .verdict ≡ verdictBy (refusalUnfold r vs (length ps) (length cs))
+unfold-verdict r vs ps cs = number-case (refusalUnfold r vs (length ps) (length cs))
+    (λ e. ap (λ (f : Unfolding). f .verdict) (unfold-zero r vs ps cs e) ∙ ap verdictBy (sym e))
+    (λ n e. ap (λ (f : Unfolding). f .verdict) (unfold-suc r vs ps cs n e) ∙ ap verdictBy (sym e))
 
-pub unfold-refused : (r vs ps cs : List ℕ) → (unfoldImage r vs ps cs .refusal ≡ 0 → ⊥)
+-- it is refused by its checks, in their order
+pub unfold-checked : (r vs ps cs : List ℕ) → CheckedBy (checksUnfold r vs (length ps) (length cs)) (unfoldImage r vs ps cs .verdict)
+unfold-checked r vs ps cs =
+    checked-by (checksUnfold r vs (length ps) (length cs)) (unfoldImage r vs ps cs .verdict) refl (unfold-verdict r vs ps cs)
+
+pub unfold-granted : (r vs ps cs : List ℕ) → unfoldImage r vs ps cs .verdict ≡ isAccepted → refusalUnfold r vs (length ps) (length cs) ≡ 0
+unfold-granted r vs ps cs z = accepted-zero (refusalUnfold r vs (length ps) (length cs)) (sym (unfold-verdict r vs ps cs) ∙ z)
+
+pub unfold-refused : (r vs ps cs : List ℕ) (x : Refusal) → unfoldImage r vs ps cs .verdict ≡ isRefused x
     → (unfoldImage r vs ps cs .ptrBytes ≡ ps) × (unfoldImage r vs ps cs .cellBytes ≡ cs)
-unfold-refused r vs ps cs z = number-case (refusalUnfold r vs (length ps) (length cs)) (λ e. absurd (z (unfold-number r vs ps cs ∙ e)))
+unfold-refused r vs ps cs x z = number-case (refusalUnfold r vs (length ps) (length cs))
+    (λ e. not-both (unfoldImage r vs ps cs .verdict) x (unfold-verdict r vs ps cs ∙ ap verdictBy e) z)
     (λ n e. let q = unfold-suc r vs ps cs n e in (ap (λ (f : Unfolding). f .ptrBytes) q, ap (λ (f : Unfolding). f .cellBytes) q))
 
 -- when an unfolding is accepted: 13 for the lengths, then 8, 9 and 15
 pub unfold-accepted : (r vs : List ℕ) (np nc : ℕ) → (refusalUnfold r vs np nc ≡ 0)
     ↔ ((np ≡ 6) × (nc ≤ 240) × (length r ≡ 32) × (layoutH r ≡ true) × (canonical (shapeOf r) ≡ true) × (countersFit (byte r 3) vs nc ≡ true))
-unfold-accepted r vs np nc =
-    let L = eqb np 6 && leb nc 240 in
-    let W = eqb (length r) 32 && layoutH r in (
-      (λ z. bool-case L
-          (λ l. let z1 = rw (l, refusalUnfold) at z in bool-case W
-          (λ w. let z2 = rw (w, refusalUnfold) at z1 in bool-case (canonical (shapeOf r))
-          (λ c. let z3 = rw (c, refusalUnfold) at z2 in bool-case (countersFit (byte r 3) vs nc)
-          (λ f. (
-            eqb-true np 6 (and-l (eqb np 6) (leb nc 240) l),
-            leb-true nc 240 (and-r (eqb np 6) (leb nc 240) l),
-            eqb-true (length r) 32 (and-l (eqb (length r) 32) (layoutH r) w),
-            and-r (eqb (length r) 32) (layoutH r) w,
-            c,
-            f,
-          ))
-          (λ f. absurd (let z4 = rw f at z3 in omega arith)))
-          (λ c. absurd (let z3 = rw (c, refusalUnfold) at z2 in omega arith)))
-          (λ w. absurd (let z2 = rw (w, refusalUnfold) at z1 in omega arith)))
-          (λ l. absurd (let z1 = rw (l, refusalUnfold) at z in omega arith))),
-      λ q. let l : L ≡ true = and-both (eqb np 6) (leb nc 240) (eq-eqb np 6 (q .0)) (le-leb nc 240 (q .1)) in
-          let w : W ≡ true = and-both (eqb (length r) 32) (layoutH r) (eq-eqb (length r) 32 (q .2)) (q .3) in
-          rw (l, refusalUnfold) (rw (w, refusalUnfold) (rw (q .4, refusalUnfold) (rw (q .5)))),
-    )
+unfold-accepted r vs np nc = (
+  (λ z. let p = none-failed (checksUnfold r vs np nc) refl z in (
+    eqb-true np 6 (and-l (eqb np 6) (leb nc 240) (p .0)),
+    leb-true nc 240 (and-r (eqb np 6) (leb nc 240) (p .0)),
+    eqb-true (length r) 32 (and-l (eqb (length r) 32) (layoutH r) (p .1 .0)),
+    and-r (eqb (length r) 32) (layoutH r) (p .1 .0),
+    p .1 .1 .0,
+    p .1 .1 .1 .0,
+  )),
+  λ q. pass-none (checksUnfold r vs np nc) (
+    and-both (eqb np 6) (leb nc 240) (eq-eqb np 6 (q .0)) (le-leb nc 240 (q .1)),
+    (and-both (eqb (length r) 32) (layoutH r) (eq-eqb (length r) 32 (q .2)) (q .3), (q .4, (q .5, tt))),
+  ),
+)
 
-pub unfold-numbers : (r vs : List ℕ) (np nc : ℕ) → In (refusalUnfold r vs np nc) (0 ∷ 13 ∷ 8 ∷ 9 ∷ 15 ∷ [])
-unfold-numbers r vs np nc = bool-case (eqb np 6 && leb nc 240)
-    (λ l. rw (l, refusalUnfold) (bool-case (eqb (length r) 32 && layoutH r)
-    (λ w. rw (w, refusalUnfold) (bool-case (canonical (shapeOf r))
-    (λ c. rw (c, refusalUnfold) (bool-case (countersFit (byte r 3) vs nc) (λ f. rw f (inl refl)) (λ f. rw f (inr (inr (inr (inr (inl refl))))))))
-    (λ c. rw (c, refusalUnfold) (inr (inr (inr (inl refl)))))))
-    (λ w. rw (w, refusalUnfold) (inr (inr (inl refl))))))
-    (λ l. rw (l, refusalUnfold) (inr (inl refl)))
+-- counters that fit are twelve, positive for the nodes and 0 past them, and there is room for what they count
+pub counters-fit : (k : ℕ) (vs : List ℕ) (n : ℕ) → countersFit k vs n ≡ true
+    → (length vs ≡ 12) × (all (leb 1) (take k vs) ≡ true) × (all isZero (drop k vs) ≡ true) × (sum (λ v. v) vs ≤ n)
+counters-fit k vs n e =
+    let p = all (leb 1) (take k vs) in
+    let o = all isZero (drop k vs) in
+    let t = leb (sum (λ v. v) vs) n in
+    let q = and-r (eqb (length vs) 12) (p && o && t) e in (
+      eqb-true (length vs) 12 (and-l (eqb (length vs) 12) (p && o && t) e),
+      and-l p o (and-l (p && o) t q),
+      and-r p o (and-l (p && o) t q),
+      leb-true (sum (λ v. v) vs) n (and-r (p && o) t q),
+    )
 
 strands-short : (vs : List ℕ) (b : ℕ) (ss : List Slot) (cs : List ℕ) → length (strands vs b ss cs) ≤ sum (λ c. c) cs
 strands-short vs b [] cs = omega arith
@@ -191,8 +197,7 @@ unfold-lengths r vs ps cs = number-case (refusalUnfold r vs (length ps) (length 
     let k = byte r 3 in
     let g = unfoldHeap (shapeOf r) (take k vs) in
     let q = unfold-zero r vs ps cs e in
-    let t = all (leb 1) (take k vs) && all isZero (drop k vs) in
-    let room : sum (λ v. v) vs ≤ length cs = leb-true (sum (λ v. v) vs) (length cs) (and-r t (leb (sum (λ v. v) vs) (length cs)) (A .5)) in
+    let room : sum (λ v. v) vs ≤ length cs = counters-fit k vs (length cs) (A .5) .3 in
     let few : length (map slotByte (g .slots)) ≤ length cs =
     omega (arith, length-map (g .slots) slotByte, strands-short (take k vs) 0 (shapeOf r .slots) (take k vs), sum-take k vs) in
     let ptrs6 : length (map valByte (g .ptrs)) ≡ 6 =

@@ -11,8 +11,8 @@ use borrow.Author.Tests.{le-leb}
 use Rattle.model.specs.Base.{sum}
 use Rattle.model.specs.Edges.{Edge, Loc, Update, Way, Weight, at, edgeBy, failed, stepBy, updateOf}
 use Rattle.model.specs.Heap.{Heap, inUse, next}
-use Rattle.model.specs.Machine.{Answer, Effect, Entry, Kind, Stmt, accepts, allocates, answerOf, branch, done, fault, faulted, kind, other, picks, refused, run, step, stopped, stops, went}
-use Rattle.model.specs.Runs.{State, Status, Step, isStop, made, past, running, taken}
+use Rattle.model.specs.Machine.{Answer, Effect, Entry, Kind, Stmt, accepts, allocates, answerOf, branch, done, fault, faulted, kind, other, picks, refused, carryOut, step, stopped, stops, went}
+use Rattle.model.specs.Runs.{State, Status, Advance, isStop, made, past, running, taken}
 use Rattle.model.specs.Shape.{Seg, cells, counters, foldBy, last, nodeSlot, segments, shape, size}
 use Rattle.model.proofs.Facts.{unused-of}
 use Rattle.model.proofs.Folds.{Alls, Kept, counters-grow, fold-same, large-closed}
@@ -67,7 +67,7 @@ smalls k cs w len F (s ∷ ss) a u (inr i) = smalls k cs w len F ss (a .1) u i
 
 -- an edge and the routine's step, side by side
 pub record Landed (q : State) (a : Answer) (E : Edge) (cs : List ℕ) : Type 0 where
-  pub taken : Step State
+  pub taken : Advance State
   pub isMade : made q a ≡ some taken
   pub branches : taken .branchNo ≡ E .branchNo
   pub fits : Fit (taken .after) (E .to) (map (worth cs) (E .updates))
@@ -131,5 +131,5 @@ module _ (s : ℕ) (st : Stmt) (H : Heap) (cl : ClosedHeap H) (kp : Kept H) wher
       landed s k-of y H (counters H) (sg-after (kind (st .op)) k-of (e .cellNo) (F .sg)) (stepBy st k-of y) (step st e H) (count-length H cl kp) (F .fair)
       (F .weighs)
       (step-agree st d e (y .heap) (F .sg) H (F .expansion) g aw a (F .single) (F .room) (room-accept (kind (st .op)) e H a) b)
-      (rw (step-go st d (y .heap) g aw) (answer-short (suc k-of) st (branch (st .op) (y .pick) (y .heap)) (run (st .op) k-of (y .heap))
+      (rw (step-go st d (y .heap) g aw) (answer-short (suc k-of) st (branch (st .op) (y .pick) (y .heap)) (carryOut (st .op) k-of (y .heap))
       (run-short (st .op) k-of (suc k-of) (y .heap) (F .expansion .closed, F .expansion .body .closed) (F .short) (omega arith))))

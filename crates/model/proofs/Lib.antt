@@ -1,4 +1,4 @@
--- The laws about the definitions, each file below those that it cites. The last three state what is claimed.
+-- The laws about the definitions, each file below those that it cites. The last four state what is claimed.
 pub mod Logic
 pub mod Lists
 pub mod Numbers
@@ -6,6 +6,7 @@ pub mod Slices
 pub mod Ops
 pub mod Walks
 pub mod Notions
+pub mod Checks
 pub mod Listings
 pub mod Order
 pub mod Expand
@@ -59,6 +60,8 @@ pub mod Whole
 pub mod Demand
 pub mod Digits
 pub mod FullListing
+pub mod OneToOne
 pub mod Promises
 pub mod PromisesShapes
 pub mod PromisesListings
+pub mod PromisesRuns

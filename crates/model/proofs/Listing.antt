@@ -12,7 +12,8 @@ use Rattle.model.specs.Base.{any, placeOf}
 use Rattle.model.specs.Edges.{Edge, Loc, at, edgesOf, failed, sameLoc}
 use Rattle.model.specs.Heap.{Heap}
 use Rattle.model.specs.Machine.{Stmt, leak}
-use Rattle.model.specs.Translate.{Explored, Listing, Refusal, Routine, addEdges, explore, full, listed, listing}
+use Rattle.model.specs.Records.{Refusal}
+use Rattle.model.specs.Translate.{Explored, Listing, Routine, addEdges, explore, full, listed, listing}
 use Rattle.model.proofs.Listings.{Placed, addEdge, addLoc, explored, extend, locAt}
 use Rattle.model.proofs.Lists.{Distinct, In, any-find, any-in, in-append-cases, in-append-r}
 use Rattle.model.proofs.Logic.{bool-case, clash, eq-case}

@@ -11,9 +11,9 @@ use Rattle.model.specs.Base.{any, count, joined, numbers, placeOf}
 use Rattle.model.specs.Edges.{Edge, Loc, always, at, edgesOf, failed, sameLoc}
 use Rattle.model.specs.Heap.{Heap, Slot, Val, cell, holds, null, order, undef, unused}
 use Rattle.model.specs.Machine.{Op, Stmt, choose, clear, copy, free, isNull, leak, load, new, same, setNull, skip, stop, store}
-use Rattle.model.specs.Records.{isH, isS, refusalH, refusalS, shapeOf, stmtOf, usesFirst, usesSecond}
+use Rattle.model.specs.Records.{Refusal, isH, isS, refusal, refusalH, refusalS, shapeOf, stmtOf, usesFirst, usesSecond}
 use Rattle.model.specs.Runs.{added}
-use Rattle.model.specs.Translate.{Link, Listing, Refusal, Routine, addEdges, between, chunks, explore, full, grown, listed, refusal}
+use Rattle.model.specs.Translate.{Link, Listing, Routine, addEdges, between, chunks, explore, full, grown, listed}
 use Rattle.model.proofs.Lists.{Distinct, In}
 
 -- ---- what a listing holds
@@ -240,9 +240,9 @@ field used b = cond used b 0
 abbrev pub stmtRecord : Stmt → List ℕ
 stmtRecord st =
     let n = opNumber (st .op) in
-    0x53 ∷ n ∷ pointerU (st .op) ∷ pointerW (st .op) ∷ field (usesFirst n) (st .first) ∷ field (usesSecond n) (st .second) ∷ replicate 26 0
+    0x53 ∷ n ∷ pointerU (st .op) ∷ pointerW (st .op) ∷ field (usesFirst n) (st .firstTarget) ∷ field (usesSecond n) (st .secondTarget) ∷ replicate 26 0
 
 -- the targets that the op does not use are zero
 pub record UnusedZero (st : Stmt) : Type 0 where
-  pub first : usesFirst (opNumber (st .op)) ≡ false → st .first ≡ 0
-  pub second : usesSecond (opNumber (st .op)) ≡ false → st .second ≡ 0
+  pub first : usesFirst (opNumber (st .op)) ≡ false → st .firstTarget ≡ 0
+  pub second : usesSecond (opNumber (st .op)) ≡ false → st .secondTarget ≡ 0

@@ -11,8 +11,8 @@ use lib.ListN.{getD, length}
 use borrow.Author.Tests.{eqb-false, eqb-true, le-leb, leb-true}
 use Rattle.model.specs.Edges.{Edge, Way, access, always, edgeBy, edgesAt, isOne, picksOf, split, splitHeap, stepBy, ways, waysAt, whole}
 use Rattle.model.specs.Heap.{Heap, Val, cell, inUse, kept, next, null, undef}
-use Rattle.model.specs.Machine.{Answer, Entry, Kind, Op, Stmt, accepts, allocates, answerOf, branch, choose, faulted, kind, other, picks, refused, run, step, stopped, stops, unlessStop, went}
-use Rattle.model.specs.Runs.{State, Step, isStop, made}
+use Rattle.model.specs.Machine.{Answer, Entry, Kind, Op, Stmt, accepts, allocates, answerOf, branch, choose, faulted, kind, other, picks, refused, carryOut, step, stopped, stops, unlessStop, went}
+use Rattle.model.specs.Runs.{State, Advance, isStop, made}
 use Rattle.model.specs.Shape.{counters, segments, shape}
 use Rattle.model.specs.Translate.{listed}
 use Rattle.model.proofs.Facts.{kept-test}
@@ -54,15 +54,15 @@ edge-goes s k y st E i = bool-case (isStop (kind (st .op))) (λ e. absurd (none-
     none-left : isStop (kind (st .op)) ≡ true → ⊥
     none-left e =
         let d : Entry = record { pick = y .pick; cellNo = k } in
-        stop-case (kind (st .op)) d (y .heap) (answerOf st (branch (st .op) (y .pick) (y .heap)) (run (st .op) k (y .heap))) e i
+        stop-case (kind (st .op)) d (y .heap) (answerOf st (branch (st .op) (y .pick) (y .heap)) (carryOut (st .op) k (y .heap))) e i
 
 pub choose-edge : (s k f t : ℕ) (h : Heap) → kept h ≡ true → (y : Way) (E : Edge) → In y (ways choose h)
-    → In E (edgeBy s k y (stepBy (record { op = choose; first = f; second = t }) k y)) → E .branchNo ≡ y .pick
+    → In E (edgeBy s k y (stepBy (record { op = choose; firstTarget = f; secondTarget = t }) k y)) → E .branchNo ≡ y .pick
 choose-edge s k f t h kt y E (inl e) j =
-    let j′ = subst (λ z. In E (edgeBy s k z (stepBy (record { op = choose; first = f; second = t }) k z))) e j in
+    let j′ = subst (λ z. In E (edgeBy s k z (stepBy (record { op = choose; firstTarget = f; secondTarget = t }) k z))) e j in
     ap (λ (x : Edge). x .branchNo) (in-single E _ (rw kt at j′)) ∙ ap (λ (z : Way). z .pick) (sym e)
 choose-edge s k f t h kt y E (inr (inl e)) j =
-    let j′ = subst (λ z. In E (edgeBy s k z (stepBy (record { op = choose; first = f; second = t }) k z))) e j in
+    let j′ = subst (λ z. In E (edgeBy s k z (stepBy (record { op = choose; firstTarget = f; secondTarget = t }) k z))) e j in
     ap (λ (x : Edge). x .branchNo) (in-single E _ (rw kt at j′)) ∙ ap (λ (z : Way). z .pick) (sym e)
 choose-edge s k f t h kt y E (inr (inr x)) j = absurd x
 
@@ -141,7 +141,7 @@ module _ (s : ℕ) (st : Stmt) (H : Heap) (cl : ClosedHeap H) (kp : Kept H) wher
       (map-in (λ z. edgeBy s nodes z (stepBy st nodes z)) y (ways op-of (shape H)) i) (rw e (inl refl))
 
   -- each step that the routine makes is an edge of the location
-  pub leave-forward : (e : Entry) (x : Step State) → made (begin s H) (step st e H) ≡ some x
+  pub leave-forward : (e : Entry) (x : Advance State) → made (begin s H) (step st e H) ≡ some x
       → (E : Edge) × In E (edgesAt s st (shape H)) × (guardOn (E .guard) (counters H) ≡ true) × (x .branchNo ≡ E .branchNo)
       × Fit (x .after) (E .to) (map (worth (counters H)) (E .updates))
   leave-forward e x m =
@@ -153,8 +153,8 @@ module _ (s : ℕ) (st : Stmt) (H : Heap) (cl : ClosedHeap H) (kp : Kept H) wher
         r .0,
         edge-in (T .way) (r .0) (T .listed) (r .1),
         ap (λ y. guardOn y (counters H)) (r .2) ∙ T .on,
-        ap (λ (y : Step State). y .branchNo) (sym z) ∙ L .branches,
-        subst (λ (y : Step State). Fit (y .after) (r .0 .to) (map (worth (counters H)) (r .0 .updates))) z (L .fits),
+        ap (λ (y : Advance State). y .branchNo) (sym z) ∙ L .branches,
+        subst (λ (y : Advance State). Fit (y .after) (r .0 .to) (map (worth (counters H)) (r .0 .updates))) z (L .fits),
       )
 
   plain-branch : (p q : ℕ) → (kind op-of ≡ picks → p ≡ q) → branch op-of p H ≡ branch op-of q (shape H)
@@ -206,14 +206,14 @@ module _ (s : ℕ) (st : Stmt) (H : Heap) (cl : ClosedHeap H) (kp : Kept H) wher
   choose-branch : (y : Way) (E : Edge) → kind op-of ≡ picks → In y (ways op-of (shape H)) → In E (edgeBy s nodes y (stepBy st nodes y)) → E .branchNo ≡ y .pick
   choose-branch y E q i j =
       let e = choose-is op-of q in
-      let z : st ≡ record { op = choose; first = st .first; second = st .second } = λ x. record { op = e x; first = st .first; second = st .second } in
-      choose-edge s nodes (st .first) (st .second) (shape H) (kept-test (shape H) (kept-down (shape H) (segAt (segments H)) H (start H cl kp) kp)) y E
+      let z : st ≡ record { op = choose; firstTarget = st .firstTarget; secondTarget = st .secondTarget } = λ x. record { op = e x; firstTarget = st .firstTarget; secondTarget = st .secondTarget } in
+      choose-edge s nodes (st .firstTarget) (st .secondTarget) (shape H) (kept-test (shape H) (kept-down (shape H) (segAt (segments H)) H (start H cl kp) kp)) y E
       (subst (λ (w : Stmt). In y (ways (w .op) (shape H))) z i) (subst (λ (w : Stmt). In E (edgeBy s nodes y (stepBy w nodes y))) z j)
 
   -- each enabled edge is a step of the routine, fed the edge's branch and whichever cell that is not in use
   pub leave-backward : (E : Edge) → In E (edgesAt s st (shape H)) → guardOn (E .guard) (counters H) ≡ true → (e : Entry) → e .pick ≡ E .branchNo
       → inUse (next H (e .cellNo)) ≡ false
-      → (x : Step State) × (made (begin s H) (step st e H) ≡ some x) × (x .branchNo ≡ E .branchNo)
+      → (x : Advance State) × (made (begin s H) (step st e H) ≡ some x) × (x .branchNo ≡ E .branchNo)
       × Fit (x .after) (E .to) (map (worth (counters H)) (E .updates))
       × SmallEdge nodes E
   leave-backward E i on e p u =

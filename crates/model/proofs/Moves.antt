@@ -12,7 +12,7 @@ use Rattle.model.specs.Base.{numbers}
 use Rattle.model.specs.Edges.{Guard, Loc, always, at, failed, isMore, isOne}
 use Rattle.model.specs.Machine.{leak}
 use Rattle.model.specs.Records.{byte, edgeRecord, guardBytes, locRecord, recordAt, updateCode, word}
-use Rattle.model.specs.Runs.{Config, Step, applied, enabled, guardHolds, leaves, moveOf, nodesAt, taken, updatesOf}
+use Rattle.model.specs.Runs.{Config, Advance, applied, enabled, guardHolds, leaves, moveOf, nodesAt, taken, updatesOf}
 use Rattle.model.specs.Translate.{Link, Listing, Routine, Tables, linkRecord, tablesOf}
 use Rattle.model.proofs.Bytes.{applied-code, records-wide, table-record}
 use Rattle.model.proofs.Checked.{GoodStarts}
@@ -27,7 +27,7 @@ use Rattle.model.proofs.Reached.{GoodLoc, good-edge, reached-good}
 use Rattle.model.proofs.ReadBack.{canon-writable, record-length}
 
 -- the move by an edge
-abbrev pub by-link : Config → Link → Step Config
+abbrev pub by-link : Config → Link → Advance Config
 by-link c k = record { branchNo = k .edge .branchNo; after = record { loc = k .dest; values = map (worth (c .values)) (k .edge .updates) } }
 
 pub good-writable : (l : Loc) → GoodLoc l → WritableLoc l
@@ -121,7 +121,7 @@ module _ (r : Routine) (t : Listing) (X : Exact r t) (G : GoodStarts r) (a b : �
       (edge-on n (c .values) h ∙ g) in
       rw e (ap some (taken-along n c h))
 
-  pub move-some : (n : ℕ) (c : Config) (y : Step Config) → moveOf T c n ≡ some y
+  pub move-some : (n : ℕ) (c : Config) (y : Advance Config) → moveOf T c n ≡ some y
       → (n < length (t .links)) × (linkAt t n .from ≡ c .loc) × (guardOn (linkAt t n .edge .guard) (c .values) ≡ true) × (y ≡ by-link c (linkAt t n))
   move-some n c y m = bool-case (enabled T c n)
       (λ e.

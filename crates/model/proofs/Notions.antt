@@ -1,7 +1,9 @@
 -- What the promises about heaps, shapes and edges speak of, beside specs/: reachable cells, segments, merging, renaming, one heap as the
 -- expansion of another, guards and updates on counters.
 use Prim.Native.Nat.{_+_, _-_, _<_, _≤_, ℕ}
+use Rattle.model.specs.Image.{StepAnswer, noStep, toFault, toNext, toStop}
 use mathlib.Core.Path.{_≡_}
+use mathlib.Core.Logic.{_↔_, _⊎_}
 use mathlib.Core.Bool.{Bool, cond, false, true}
 use mathlib.Core.List.{List, [], _++_, _∷_, map}
 use lib.Dec.{eqb, leb}
@@ -10,6 +12,7 @@ use Rattle.model.specs.Base.{mem, sum}
 use Rattle.model.specs.Edges.{Edge, Guard, Loc, Update, always, at, failed, isMore, isOne}
 use Rattle.model.specs.Heap.{Heap, IsHeap, Slot, Val, cell, closed, holds, next, null, undef, unused}
 use Rattle.model.specs.Machine.{Effect, Fault, Kind, allocates, done, fault, other, picks, putSlot, stops}
+use Rattle.model.specs.Records.{Row, Verdict, isAccepted, isRefused, refusal}
 use Rattle.model.specs.Shape.{Seg, cells, core, segments, size}
 use Rattle.model.proofs.Lists.{In}
 use Rattle.model.proofs.Logic.{NoDup}
@@ -190,3 +193,27 @@ SmallUpdates k us = (u : Update) → In u us → (u .plus ≤ 2) × (length (u .
 pub record SmallEdge (k : ℕ) (E : Edge) : Type 0 where
   pub number : length (E .updates) ≡ nodesOf (E .to)
   pub small : SmallUpdates k (E .updates)
+
+-- ---- the checks of a call, in their order
+
+-- every check passes
+abbrev pub Pass : List Row → Type 0
+Pass [] = Unit {0}
+Pass (c ∷ cs) = (c .passes ≡ true) × Pass cs
+
+-- number n is given: its check does not pass, and every check before it does
+abbrev pub Given : List Row → ℕ → Type 0
+Given [] n = ⊥
+Given (c ∷ cs) n = ((c .number ≡ n) × (c .passes ≡ false)) ⊎ ((c .passes ≡ true) × Given cs n)
+
+-- a step that does not go on to a next statement
+abbrev pub Halted : StepAnswer → Type 0
+Halted (toNext b n) = ⊥
+Halted (toFault f) = Unit {0}
+Halted toStop = Unit {0}
+Halted (noStep x) = Unit {0}
+
+-- A call is accepted exactly when every check passes; it is refused with a number, at place 0, exactly when that number is given.
+pub record CheckedBy (cs : List Row) (v : Verdict) : Type 0 where
+  pub accepts : (v ≡ isAccepted) ↔ Pass cs
+  pub refuses : (n p : ℕ) → (v ≡ isRefused (refusal n p)) ↔ ((p ≡ 0) × Given cs n)

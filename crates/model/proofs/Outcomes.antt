@@ -1,5 +1,7 @@
 -- What a translation leaves, for all inputs: how it can end, its tables and counts, when it is accepted, and which refusal it gives.
 use Prim.Native.Nat.{_*_, _+_, _-_, _/_, _<_, _≤_, ℕ}
+use Rattle.model.proofs.Checks.{not-both, refused-inj}
+use Rattle.model.specs.Answers.{refusalOf}
 use mathlib.Core.Path.{_∙_, _≡_, ap, refl, subst, sym}
 use mathlib.Core.Logic.{_↔_, _⊎_, inl, inr, ⊎-elim}
 use mathlib.Core.List.{List, [], map}
@@ -8,8 +10,8 @@ use native.Mathlib.Omega.{arith}
 use lib.ListN.{drop, length, length-map, replicate}
 use Rattle.model.specs.Edges.{failed}
 use Rattle.model.specs.Machine.{leak}
-use Rattle.model.specs.Records.{locRecord, recordAt}
-use Rattle.model.specs.Translate.{Checked, Explored, Listing, Outcome, Refusal, Routine, Tables, bad, check, full, good, linkRecord, listed, listedWith, listing, places, refusal, refusedWith, tableOf, tablesOf, translate}
+use Rattle.model.specs.Records.{Refusal, locRecord, recordAt, refusal, isAccepted, isRefused, Verdict}
+use Rattle.model.specs.Translate.{Checked, Explored, Listing, Outcome, Routine, Tables, bad, check, full, good, linkRecord, listed, listedWith, listing, places, refusedWith, tableOf, tablesOf, translate}
 use Rattle.model.proofs.Bytes.{table-empty, table-length, table-rest}
 use Rattle.model.proofs.Checked.{GoodStarts, check-good, good-inj}
 use Rattle.model.proofs.Exact.{listing-exact}
@@ -46,39 +48,55 @@ Cleared a b t = (t .locBytes ≡ replicate a 0) × (t .edgeBytes ≡ replicate b
 cleared : (a b : ℕ) (x : Refusal) → Cleared a b (refusedWith a b x .tables)
 cleared a b x = (table-empty a, table-empty b, refl, refl)
 
-pub refused-tables : (s : List ℕ) (a b : ℕ) → (translate s a b .refused .number ≡ 0 → ⊥) → Cleared a b (translate s a b .tables)
-refused-tables s a b z = by-case (translate-cases s a b)
+pub refused-tables : (s : List ℕ) (a b : ℕ) (x : Refusal) → translate s a b .verdict ≡ isRefused x → Cleared a b (translate s a b .tables)
+refused-tables s a b y z = by-case (translate-cases s a b)
   where
     by-case : TranslateCases s a b → Cleared a b (translate s a b .tables)
     by-case (inl (x, e, q)) = subst (λ (o : Outcome). Cleared a b (o .tables)) (sym q) (cleared a b x)
     by-case (inr (inl (r, x, e, p, q))) = subst (λ (o : Outcome). Cleared a b (o .tables)) (sym q) (cleared a b x)
-    by-case (inr (inr (r, t, e, p, q))) = absurd (z (ap (λ (o : Outcome). o .refused .number) q))
+    by-case (inr (inr (r, t, e, p, q))) = not-both (translate s a b .verdict) y (ap (λ (o : Outcome). o .verdict) q) z
 
--- the number is at most 12; 0, and the place 0, where nothing is refused
-pub translate-number : (s : List ℕ) (a b : ℕ) → translate s a b .refused .number ≤ 12
-translate-number s a b = by-case (translate-cases s a b)
+-- the number is 1 to 12, and for 1 to 3 the place is 0
+pub translate-number : (s : List ℕ) (a b : ℕ) (x : Refusal) → translate s a b .verdict ≡ isRefused x
+    → (1 ≤ x .number) × (x .number ≤ 12) × (x .number ≤ 3 → x .place ≡ 0)
+translate-number s a b y z = by-case (translate-cases s a b)
   where
-    by-case : TranslateCases s a b → translate s a b .refused .number ≤ 12
-    by-case (inl (x, e, q)) = omega (arith, ap (λ (o : Outcome). o .refused .number) q, bad-number s x (refused-input s x e) .1)
-    by-case (inr (inl (r, x, e, p, q))) = let w = ap (λ (o : Outcome). o .refused .number) q in
-        ⊎-elim (λ (f : x .number ≡ 11). omega arith) (λ (f : x .number ≡ 12). omega arith) (full-number r (places 1024 a) (places 2048 b) x p)
-    by-case (inr (inr (r, t, e, p, q))) = omega (arith, ap (λ (o : Outcome). o .refused .number) q)
+    is-refused : (x : Refusal) → translate s a b ≡ refusedWith a b x → x ≡ y
+    is-refused x q = refused-inj (sym (ap (λ (o : Outcome). o .verdict) q) ∙ z)
+
+    Small : Refusal → Type 0
+    Small x = (1 ≤ x .number) × (x .number ≤ 12) × (x .number ≤ 3 → x .place ≡ 0)
+
+    by-case : TranslateCases s a b → Small y
+    by-case (inl (x, e, q)) = let n = bad-number s x (refused-input s x e) in subst Small (is-refused x q) (n .0, omega arith, n .2)
+    by-case (inr (inl (r, x, e, p, q))) = subst Small (is-refused x q) (⊎-elim
+        (λ (f : x .number ≡ 11). (omega arith, omega arith, λ (l : x .number ≤ 3). absurd (omega arith)))
+        (λ (f : x .number ≡ 12). (omega arith, omega arith, λ (l : x .number ≤ 3). absurd (omega arith)))
+        (full-number r (places 1024 a) (places 2048 b) x p))
+    by-case (inr (inr (r, t, e, p, q))) = not-both (translate s a b .verdict) y (ap (λ (o : Outcome). o .verdict) q) z
+
+-- in numbers: 0 is no refusal
+pub zero-accepted : (s : List ℕ) (a b : ℕ) → refusalOf (translate s a b .verdict) .number ≡ 0 → translate s a b .verdict ≡ isAccepted
+zero-accepted s a b = by-verdict (translate s a b .verdict) refl
+  where
+    by-verdict : (v : Verdict) → translate s a b .verdict ≡ v → refusalOf v .number ≡ 0 → v ≡ isAccepted
+    by-verdict isAccepted e z = refl
+    by-verdict (isRefused x) e z = absurd (omega (arith, translate-number s a b x e .0))
 
 -- an accepted translation is a listing of a checked routine
 abbrev pub Accepted : List ℕ → ℕ → ℕ → Type 0
 Accepted s a b = (r : Routine) × (t : Listing) × (check s ≡ good r)
     × (listing r (places 1024 a) (places 2048 b) ≡ listed t) × (translate s a b ≡ listedWith a b t)
 
-pub is-accepted : (s : List ℕ) (a b : ℕ) → translate s a b .refused .number ≡ 0 → Accepted s a b
+pub is-accepted : (s : List ℕ) (a b : ℕ) → translate s a b .verdict ≡ isAccepted → Accepted s a b
 is-accepted s a b z = by-case (translate-cases s a b)
   where
     by-case : TranslateCases s a b → Accepted s a b
-    by-case (inl (x, e, q)) = absurd (omega (arith, z, ap (λ (o : Outcome). o .refused .number) q, bad-number s x (refused-input s x e) .0))
-    by-case (inr (inl (r, x, e, p, q))) = let w = ap (λ (o : Outcome). o .refused .number) q in
-        absurd (⊎-elim (λ (f : x .number ≡ 11). omega arith) (λ (f : x .number ≡ 12). omega arith) (full-number r (places 1024 a) (places 2048 b) x p))
+    by-case (inl (x, e, q)) = not-both (translate s a b .verdict) x z (ap (λ (o : Outcome). o .verdict) q)
+    by-case (inr (inl (r, x, e, p, q))) = not-both (translate s a b .verdict) x z (ap (λ (o : Outcome). o .verdict) q)
     by-case (inr (inr v)) = v
 
-pub accepted : (s : List ℕ) (a b : ℕ) (r : Routine) → check s ≡ good r → translate s a b .refused .number ≡ 0
+pub accepted : (s : List ℕ) (a b : ℕ) (r : Routine) → check s ≡ good r → translate s a b .verdict ≡ isAccepted
     → (t : Listing) × (listing r (places 1024 a) (places 2048 b) ≡ listed t) × (translate s a b ≡ listedWith a b t)
 accepted s a b r e z =
     let A = is-accepted s a b z in
@@ -138,7 +156,7 @@ fitting s a b = by-case (translate-cases s a b)
 -- ---- accepted and refused by the places
 
 -- a refused input gives its refusal
-pub bad-translate : (s : List ℕ) (a b : ℕ) (x : Refusal) → check s ≡ bad x → translate s a b .refused ≡ x
+pub bad-translate : (s : List ℕ) (a b : ℕ) (x : Refusal) → check s ≡ bad x → translate s a b .verdict ≡ isRefused x
 unfolding translate
 bad-translate s a b x e = rw (e, translate)
 
@@ -146,18 +164,6 @@ good-translate : (s : List ℕ) (a b : ℕ) (r : Routine) (o : Explored) → che
     → translate s a b ≡ elim o [ full x ↦ refusedWith a b x | listed t ↦ listedWith a b t ]
 unfolding translate
 good-translate s a b r o e p = rw (e, translate) (rw (p, translate))
-
--- for 0 to 3 the place is 0
-pub translate-place : (s : List ℕ) (a b : ℕ) → translate s a b .refused .number ≤ 3 → translate s a b .refused .place ≡ 0
-translate-place s a b z = by-case (translate-cases s a b)
-  where
-    by-case : TranslateCases s a b → translate s a b .refused .place ≡ 0
-    by-case (inl (x, e, q)) =
-        let w = ap (λ (o : Outcome). o .refused) q in
-        ap (λ (y : Refusal). y .place) w ∙ bad-number s x (refused-input s x e) .2 (subst (λ (y : Refusal). y .number ≤ 3) w z)
-    by-case (inr (inl (r, x, e, p, q))) = let w = ap (λ (o : Outcome). o .refused .number) q in
-        absurd (⊎-elim (λ (f : x .number ≡ 11). omega arith) (λ (f : x .number ≡ 12). omega arith) (full-number r (places 1024 a) (places 2048 b) x p))
-    by-case (inr (inr (r, t, e, p, q))) = ap (λ (o : Outcome). o .refused .place) q
 
 -- there is one full listing
 pub full-one : (r : Routine) (t u : Listing) → IsFull r t → IsFull r u → t ≡ u
@@ -168,27 +174,27 @@ full-one r t u e f =
 
 -- a checked routine is translated exactly when its full listing fits
 pub fits-accepted : (s : List ℕ) (a b : ℕ) (r : Routine) (t : Listing) → check s ≡ good r → IsFull r t
-    → (translate s a b .refused .number ≡ 0) ↔ Placed (places 1024 a) (places 2048 b) t
+    → (translate s a b .verdict ≡ isAccepted) ↔ Placed (places 1024 a) (places 2048 b) t
 fits-accepted s a b r t e f = (
   (λ z. let A = accepted s a b r e z in
       let w = listing-whole r (places 1024 a) (places 2048 b) (A .0) (A .1) in
       subst (Placed (places 1024 a) (places 2048 b)) (full-one r (A .0) t (w .0) f) (w .1)),
-  λ P. ap (λ (o : Outcome). o .refused .number) (good-translate s a b r (listed t) e (whole-listing r (places 1024 a) (places 2048 b) t f P)),
+  λ P. ap (λ (o : Outcome). o .verdict) (good-translate s a b r (listed t) e (whole-listing r (places 1024 a) (places 2048 b) t f P)),
 )
 
 -- and where it is refused, it is for want of a place: for a starting shape, or for an edge of the location whose number is given
-pub refused-says : (s : List ℕ) (a b : ℕ) (r : Routine) → check s ≡ good r → (translate s a b .refused .number ≡ 0 → ⊥)
-    → ((places 1024 a < length (r .starts)) × (translate s a b .refused ≡ refusal 11 (places 1024 a)))
-    ⊎ Refused (r .stmts) (r .starts) (places 1024 a) (places 2048 b) (translate s a b .refused)
-refused-says s a b r e z = outcome-case (listing r (places 1024 a) (places 2048 b))
-    (λ x p. let q : translate s a b .refused ≡ x = ap (λ (o : Outcome). o .refused) (good-translate s a b r (full x) e p) in
-    full-says r (places 1024 a) (places 2048 b) (translate s a b .refused) (p ∙ ap full (sym q)))
-    (λ t p. absurd (z (ap (λ (o : Outcome). o .refused .number) (good-translate s a b r (listed t) e p))))
+pub refused-says : (s : List ℕ) (a b : ℕ) (r : Routine) (y : Refusal) → check s ≡ good r → translate s a b .verdict ≡ isRefused y
+    → ((places 1024 a < length (r .starts)) × (y ≡ refusal 11 (places 1024 a)))
+    ⊎ Refused (r .stmts) (r .starts) (places 1024 a) (places 2048 b) y
+refused-says s a b r y e z = outcome-case (listing r (places 1024 a) (places 2048 b))
+    (λ x p. let q : x ≡ y = refused-inj (sym (ap (λ (o : Outcome). o .verdict) (good-translate s a b r (full x) e p)) ∙ z) in
+    full-says r (places 1024 a) (places 2048 b) y (p ∙ ap full q))
+    (λ t p. not-both (translate s a b .verdict) y (ap (λ (o : Outcome). o .verdict) (good-translate s a b r (listed t) e p)) z)
 
 -- ---- the tables of an accepted translation
 
 -- the listing that the tables hold
-pub accepted-exact : (s : List ℕ) (a b : ℕ) (r : Routine) → check s ≡ good r → translate s a b .refused .number ≡ 0
+pub accepted-exact : (s : List ℕ) (a b : ℕ) (r : Routine) → check s ≡ good r → translate s a b .verdict ≡ isAccepted
     → (t : Listing) × Exact r t × (translate s a b .tables ≡ tablesOf a b t)
 accepted-exact s a b r e z =
     let A = accepted s a b r e z in
@@ -201,7 +207,7 @@ pub tables-hold : (s : List ℕ) (r : Routine) (a b : ℕ) (t : Listing) → che
 tables-hold s r a b t e X = (loc-record r t X (check-good s r e) a b, edge-record r t X (check-good s r e) a b)
 
 -- no two records of locations are equal
-pub records-distinct : (s : List ℕ) (a b i j : ℕ) → translate s a b .refused .number ≡ 0
+pub records-distinct : (s : List ℕ) (a b i j : ℕ) → translate s a b .verdict ≡ isAccepted
     → i < translate s a b .tables .locCount → j < translate s a b .tables .locCount
     → recordAt (translate s a b .tables .locBytes) i ≡ recordAt (translate s a b .tables .locBytes) j → i ≡ j
 records-distinct s a b i j z =

@@ -9,8 +9,8 @@ use native.Mathlib.Omega.{arith}
 use borrow.Author.Tests.{leb-true}
 use Rattle.model.specs.Edges.{picksOf}
 use Rattle.model.specs.Heap.{Heap}
-use Rattle.model.specs.Machine.{Answer, Entry, Kind, Op, Stmt, accepts, allocates, answerOf, branch, choose, clear, copy, free, isNull, kind, load, new, other, picks, run, same, setNull, skip, step, stop, stops, store, unlessStop}
-use Rattle.model.specs.Runs.{State, Step, isStop, made}
+use Rattle.model.specs.Machine.{Answer, Entry, Kind, Op, Stmt, accepts, allocates, answerOf, branch, choose, clear, copy, free, isNull, kind, load, new, other, picks, carryOut, same, setNull, skip, step, stop, stops, store, unlessStop}
+use Rattle.model.specs.Runs.{State, Advance, isStop, made}
 use Rattle.model.proofs.Lists.{In, some-none}
 use Rattle.model.proofs.Logic.{bool-case, clash}
 
@@ -77,11 +77,11 @@ pick-in op other q e h a =
     (0, inl refl, λ g. branch-pick op (e .pick) 0 g (λ r. let z : other ≡ picks = cc in absurd (let y : _≡_ {A = ℕ} 0 1 = cc in omega arith)))
 
 -- only an accepted entry at a statement that is no stop makes a step
-pub made-goes : (q : State) (st : Stmt) (e : Entry) (h : Heap) (x : Step State) → made q (step st e h) ≡ some x
+pub made-goes : (q : State) (st : Stmt) (e : Entry) (h : Heap) (x : Advance State) → made q (step st e h) ≡ some x
     → (isStop (kind (st .op)) ≡ false) × (accepts (kind (st .op)) e h ≡ true)
 made-goes q st e h x m = bool-case (accepts (kind (st .op)) e h)
     (λ a. bool-case (isStop (kind (st .op))) (λ s. some-none
-    (sym (stop-none (kind (st .op)) (answerOf st (branch (st .op) (e .pick) h) (run (st .op) (e .cellNo) h)) s) ∙ (rw a at m))) (λ s. (s, a)))
+    (sym (stop-none (kind (st .op)) (answerOf st (branch (st .op) (e .pick) h) (carryOut (st .op) (e .cellNo) h)) s) ∙ (rw a at m))) (λ s. (s, a)))
     (λ a. some-none (rw a at m))
   where
     stop-none : (kd : Kind) (a : Answer) → isStop kd ≡ true → made q (unlessStop kd a) ≡ none

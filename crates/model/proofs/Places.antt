@@ -11,7 +11,8 @@ use Rattle.model.specs.Base.{any, placeOf}
 use Rattle.model.specs.Edges.{Edge, Loc, at, edgesOf, sameLoc}
 use Rattle.model.specs.Heap.{Heap}
 use Rattle.model.specs.Machine.{Stmt}
-use Rattle.model.specs.Translate.{Listing, Refusal, Routine, addEdges, explore, full, listed, listing, refusal}
+use Rattle.model.specs.Records.{Refusal, refusal}
+use Rattle.model.specs.Translate.{Listing, Routine, addEdges, explore, full, listed, listing}
 use Rattle.model.proofs.Listing.{add-found, add-listed, any-loc, edge-locs, explore-end, explore-full, explore-next, explored-end, explored-prefix, extend-links, extend-prefix, full-listed, listing-whole, loc-place, outcome-case, placed-edge}
 use Rattle.model.proofs.Listings.{NoPlace, Placed, Refused, Why, addEdge, explored, extend, locAt, no-edge, no-location}
 use Rattle.model.proofs.Lists.{In}

@@ -1,29 +1,43 @@
 -- The promises: each is a type, and under it stands its proof, which cites a law. This page has demand 1; demand 2 is in PromisesShapes and
--- PromisesListings, and demand 3 at the end of PromisesListings. The words are those of specs/, Notions and Listings.
+-- PromisesListings, and demand 3 in PromisesRuns. The words are those of specs/, Notions and Listings.
 use Prim.Native.Nat.{_*_, _-_, _/_, _<_, _≤_, suc, ℕ}
-use mathlib.Core.Path.{_≡_}
+use mathlib.Core.Path.{_∙_, _≡_, ap}
 use mathlib.Core.Logic.{_↔_, _⊎_}
 use mathlib.Core.Bool.{false, true}
 use mathlib.Core.List.{List, [], _∷_}
 use native.Mathlib.Omega.{arith}
 use lib.ListN.{drop, getD, length, replicate}
+use Rattle.model.specs.Answers.{outcomeOf, stepAnswerOf, stepNumbers, verdictOf}
 use Rattle.model.specs.Heap.{IsHeap}
-use Rattle.model.specs.Image.{countersFit, foldImage, heapOf, stepImage, unfoldImage}
-use Rattle.model.specs.Records.{byte, filled, isS, layoutH, shapeOf, shapeRecord}
-use Rattle.model.specs.Shape.{canonical, counters, shape}
-use Rattle.model.specs.Translate.{Refusal, Routine, bad, check, good, translate}
-use Rattle.model.proofs.Images.{fold-gives, fold-lengths, fold-number, fold-refused, image-accepted, image-number, unfold-accepted, unfold-lengths, unfold-number, unfold-numbers, unfold-refused}
+use Rattle.model.specs.Image.{answered, checksImage, checksStep, checksUnfold, foldImage, heapOf, stepImage, stepVerdict, toFault, unfoldImage, verdictBy}
+use Rattle.model.specs.Machine.{entry, step}
+use Rattle.model.specs.Records.{Refusal, filled, isAccepted, isRefused, isS, shapeOf, shapeRecord, stmtOf}
+use Rattle.model.specs.Shape.{counters, shape}
+use Rattle.model.specs.Translate.{Routine, bad, check, good, translate}
+use Rattle.model.specs.declared.Ended.{Ended}
+use Rattle.model.specs.declared.Stepped.{Stepped}
+use Rattle.model.specs.declared.Translated.{Translated}
+use Rattle.model.proofs.Images.{fold-accepted, fold-checked, fold-gives, fold-lengths, fold-refused, fold-verdict, image-accepted, unfold-checked, unfold-lengths, unfold-refused}
 use Rattle.model.proofs.Listings.{BadInput, GoodInput, recordRefusal, recordsOf}
-use Rattle.model.proofs.Lists.{In}
-use Rattle.model.proofs.Outcomes.{bad-translate, fitting, places-most, refused-tables, translate-number, translate-place}
+use Rattle.model.proofs.Notions.{CheckedBy, Halted}
+use Rattle.model.proofs.OneToOne.{halted-numbers, outcome-one, step-one, verdict-one}
+use Rattle.model.proofs.Outcomes.{bad-translate, fitting, places-most, refused-tables, translate-number}
 use Rattle.model.proofs.Refusals.{accepted-input, bad-number, good-accepted, record-number, refused-input}
-use Rattle.model.proofs.Stepping.{step-lengths, step-number, step-stays}
+use Rattle.model.proofs.Stepping.{step-answers, step-checked, step-faults, step-lengths, step-stays}
 
 -- ==== demand 1: every call states its outcome for all inputs
 
+-- no two answers say the same: a finished call is never told as a refusal, nor a fault as a step
+abbrev pub AnswersDiffer : Type 0
+AnswersDiffer = ((a b : Ended) → verdictOf a ≡ verdictOf b → a ≡ b) × ((a b : Stepped) → stepAnswerOf a ≡ stepAnswerOf b → a ≡ b)
+    × ((a b : Translated) (ls es : List ℕ) → outcomeOf a ls es ≡ outcomeOf b ls es → a ≡ b)
+
+pub answers-differ : AnswersDiffer
+answers-differ = (verdict-one, step-one, outcome-one)
+
 -- "The two record counts are reported, both 0 on a refusal." A refused translation leaves both tables all zero.
 abbrev pub RefusalClears : Type 0
-RefusalClears = (s : List ℕ) (a b : ℕ) → (translate s a b .refused .number ≡ 0 → ⊥)
+RefusalClears = (s : List ℕ) (a b : ℕ) (x : Refusal) → translate s a b .verdict ≡ isRefused x
     → (translate s a b .tables .locBytes ≡ replicate a 0) × (translate s a b .tables .edgeBytes ≡ replicate b 0)
     × (translate s a b .tables .locCount ≡ 0) × (translate s a b .tables .edgeCount ≡ 0)
 
@@ -58,17 +72,17 @@ RestIsZero = (s : List ℕ) (a b : ℕ)
 pub rest-is-zero : RestIsZero
 rest-is-zero s a b = let f = fitting s a b in (f .locRest, f .edgeRest)
 
--- the numbers of the table are 1 to 12, 0 for none; "for 1, 2 and 3 it is 0", and so it is where nothing is refused
+-- the numbers are 1 to 12; "for 1, 2 and 3 it is 0"
 abbrev pub TranslateNumbers : Type 0
-TranslateNumbers = (s : List ℕ) (a b : ℕ) → (translate s a b .refused .number ≤ 12)
-    × (translate s a b .refused .number ≤ 3 → translate s a b .refused .place ≡ 0)
+TranslateNumbers = (s : List ℕ) (a b : ℕ) (x : Refusal) → translate s a b .verdict ≡ isRefused x
+    → (1 ≤ x .number) × (x .number ≤ 12) × (x .number ≤ 3 → x .place ≡ 0)
 
 pub translate-numbers : TranslateNumbers
-translate-numbers s a b = (translate-number s a b, translate-place s a b)
+translate-numbers = translate-number
 
 -- "Refusals by place of check", 1 to 10: a refused input has that wrong with it which the number says, at the place given, and nothing before it
 abbrev pub InputRefused : Type 0
-InputRefused = (s : List ℕ) (x : Refusal) → check s ≡ bad x → BadInput s x × ((a b : ℕ) → translate s a b .refused ≡ x)
+InputRefused = (s : List ℕ) (x : Refusal) → check s ≡ bad x → BadInput s x × ((a b : ℕ) → translate s a b .verdict ≡ isRefused x)
 
 pub input-refused : InputRefused
 input-refused s x e = (refused-input s x e, λ a b. bad-translate s a b x e)
@@ -95,63 +109,84 @@ RecordNumbers = (rs : List (List ℕ)) (i m : ℕ) → recordRefusal rs i ≡ su
 pub record-numbers : RecordNumbers
 record-numbers = record-number
 
--- 13 and 14, 0 for none: "pointers not six bytes, over 240 cells, or a value naming no cell in use", "a used cell unreachable"
-abbrev pub FoldNumbers : Type 0
-FoldNumbers = (ps cs : List ℕ) → In (foldImage ps cs .refusal) (0 ∷ 13 ∷ 14 ∷ [])
-    × ((foldImage ps cs .refusal ≡ 0) ↔ ((length ps ≡ 6) × (length cs ≤ 240) × IsHeap (heapOf ps cs)))
+-- 13, then 14: each exactly when its condition is met and none before it; the place is 0
+abbrev pub FoldRefusals : Type 0
+FoldRefusals = (ps cs : List ℕ) → CheckedBy (checksImage ps cs) (foldImage ps cs .verdict)
 
-pub fold-numbers : FoldNumbers
-fold-numbers ps cs = rw (fold-number ps cs) (image-number ps cs, image-accepted ps cs)
+pub fold-refusals : FoldRefusals
+fold-refusals = fold-checked
+
+-- an image is accepted exactly when it is six pointers and at most 240 cells, and a heap
+abbrev pub FoldAccepts : Type 0
+FoldAccepts = (ps cs : List ℕ) → (foldImage ps cs .verdict ≡ isAccepted) ↔ ((length ps ≡ 6) × (length cs ≤ 240) × IsHeap (heapOf ps cs))
+
+pub fold-accepts : FoldAccepts
+fold-accepts ps cs =
+    ((λ z. image-accepted ps cs .0 (fold-accepted ps cs z)), λ q. fold-verdict ps cs ∙ ap verdictBy (image-accepted ps cs .1 q))
 
 -- "A refused fold gives a zero record and zero counters"; a record has 32 bytes, and there are twelve counters
 abbrev pub FoldLeaves : Type 0
-FoldLeaves = (ps cs : List ℕ) → (length (foldImage ps cs .shapeBytes) ≡ 32) × (length (foldImage ps cs .counts) ≡ 12)
-    × ((foldImage ps cs .refusal ≡ 0 → ⊥) → (foldImage ps cs .shapeBytes ≡ replicate 32 0) × (foldImage ps cs .counts ≡ replicate 12 0))
+FoldLeaves = (ps cs : List ℕ) → (length (foldImage ps cs .recordBytes) ≡ 32) × (length (foldImage ps cs .counts) ≡ 12)
+    × ((x : Refusal) → foldImage ps cs .verdict ≡ isRefused x → (foldImage ps cs .recordBytes ≡ replicate 32 0) × (foldImage ps cs .counts ≡ replicate 12 0))
 
 pub fold-leaves : FoldLeaves
 fold-leaves ps cs = let l = fold-lengths ps cs in (l .0, l .1, fold-refused ps cs)
 
 -- "Folding gives an H record and twelve counters of 32 bits (0 past k)."
 abbrev pub FoldGives : Type 0
-FoldGives = (ps cs : List ℕ) → foldImage ps cs .refusal ≡ 0
-    → (foldImage ps cs .shapeBytes ≡ shapeRecord (shape (heapOf ps cs))) × (foldImage ps cs .counts ≡ filled 12 (counters (heapOf ps cs)))
-    × (shapeOf (foldImage ps cs .shapeBytes) ≡ shape (heapOf ps cs)) × (length (counters (heapOf ps cs)) ≤ 12)
+FoldGives = (ps cs : List ℕ) → foldImage ps cs .verdict ≡ isAccepted
+    → (foldImage ps cs .recordBytes ≡ shapeRecord (shape (heapOf ps cs))) × (foldImage ps cs .counts ≡ filled 12 (counters (heapOf ps cs)))
+    × (shapeOf (foldImage ps cs .recordBytes) ≡ shape (heapOf ps cs)) × (length (counters (heapOf ps cs)) ≤ 12)
 
 pub fold-is : FoldGives
 fold-is = fold-gives
 
--- "Unfolding checks the lengths (13), then 8, 9, 15"
-abbrev pub UnfoldNumbers : Type 0
-UnfoldNumbers = (r vs ps cs : List ℕ) → In (unfoldImage r vs ps cs .refusal) (0 ∷ 13 ∷ 8 ∷ 9 ∷ 15 ∷ [])
-    × ((unfoldImage r vs ps cs .refusal ≡ 0) ↔ ((length ps ≡ 6) × (length cs ≤ 240) × (length r ≡ 32) × (layoutH r ≡ true)
-    × (canonical (shapeOf r) ≡ true) × (countersFit (byte r 3) vs (length cs) ≡ true)))
+-- "Unfolding checks the lengths (13), then 8, 9, 15": each exactly when its condition is met and none before it; the place is 0
+abbrev pub UnfoldRefusals : Type 0
+UnfoldRefusals = (r vs ps cs : List ℕ) → CheckedBy (checksUnfold r vs (length ps) (length cs)) (unfoldImage r vs ps cs .verdict)
 
-pub unfold-refusals : UnfoldNumbers
-unfold-refusals r vs ps cs = rw (unfold-number r vs ps cs) (unfold-numbers r vs (length ps) (length cs), unfold-accepted r vs (length ps) (length cs))
+pub unfold-refusals : UnfoldRefusals
+unfold-refusals = unfold-checked
 
 -- "a refused unfolding or step leaves pointers and cells as they stood"; lengths are kept
 abbrev pub UnfoldLeaves : Type 0
 UnfoldLeaves = (r vs ps cs : List ℕ)
     → (length (unfoldImage r vs ps cs .ptrBytes) ≡ length ps) × (length (unfoldImage r vs ps cs .cellBytes) ≡ length cs)
-    × ((unfoldImage r vs ps cs .refusal ≡ 0 → ⊥) → (unfoldImage r vs ps cs .ptrBytes ≡ ps) × (unfoldImage r vs ps cs .cellBytes ≡ cs))
+    × ((x : Refusal) → unfoldImage r vs ps cs .verdict ≡ isRefused x → (unfoldImage r vs ps cs .ptrBytes ≡ ps) × (unfoldImage r vs ps cs .cellBytes ≡ cs))
 
 pub unfold-leaves : UnfoldLeaves
 unfold-leaves r vs ps cs = let l = unfold-lengths r vs ps cs in (l .0, l .1, unfold-refused r vs ps cs)
 
--- "a plain step 13, 14, 4 (its record is no S), 5, 6, 7, 16"
-abbrev pub StepNumbers : Type 0
-StepNumbers = (r : List ℕ) (p c : ℕ) (ps cs : List ℕ) → In (stepImage r p c ps cs .refusal) (0 ∷ 13 ∷ 14 ∷ 4 ∷ 5 ∷ 6 ∷ 7 ∷ 16 ∷ [])
+-- "a plain step 13, 14, 4 (its record is no S), 5, 6, 7, 16": each exactly when its condition is met and none before it; the place is 0
+abbrev pub StepRefusals : Type 0
+StepRefusals = (r : List ℕ) (p c : ℕ) (ps cs : List ℕ) → CheckedBy (checksStep r (entry p c) ps cs) (stepVerdict (stepImage r p c ps cs .answer))
 
-pub step-numbers : StepNumbers
-step-numbers = step-number
+pub step-refusals : StepRefusals
+step-refusals = step-checked
+
+-- a step that is not refused is the plain machine's
+abbrev pub StepAnswers : Type 0
+StepAnswers = (r : List ℕ) (p c : ℕ) (ps cs : List ℕ) → stepVerdict (stepImage r p c ps cs .answer) ≡ isAccepted
+    → stepImage r p c ps cs ≡ answered (step (stmtOf r) (entry p c) (heapOf ps cs)) ps cs
+
+pub step-is : StepAnswers
+step-is = step-answers
+
+-- "fault 1; .. fault 2 .. fault 3 (a leak)"
+abbrev pub StepFaults : Type 0
+StepFaults = (r : List ℕ) (p c : ℕ) (ps cs : List ℕ) (f : ℕ) → stepImage r p c ps cs .answer ≡ toFault f → (1 ≤ f) × (f ≤ 3)
+
+pub step-faults-known : StepFaults
+step-faults-known = step-faults
 
 -- "at a fault, a stop or a refusal both numbers are 0 and the heap stays"; lengths are kept
 abbrev pub StepLeaves : Type 0
 StepLeaves = (r : List ℕ) (p c : ℕ) (ps cs : List ℕ)
     → (length (stepImage r p c ps cs .ptrBytes) ≡ length ps) × (length (stepImage r p c ps cs .cellBytes) ≡ length cs)
-    × ((stepImage r p c ps cs .refusal ≡ 0 → ⊥) ⊎ ((stepImage r p c ps cs .faultNo ≡ 0 → ⊥) ⊎ (stepImage r p c ps cs .stop ≡ 0 → ⊥))
-    → (stepImage r p c ps cs .ptrBytes ≡ ps) × (stepImage r p c ps cs .cellBytes ≡ cs)
-    × (stepImage r p c ps cs .branchNo ≡ 0) × (stepImage r p c ps cs .nextNo ≡ 0))
+    × (Halted (stepImage r p c ps cs .answer)
+    → (stepImage r p c ps cs .ptrBytes ≡ ps) × (stepImage r p c ps cs .cellBytes ≡ cs) × (drop 2 (stepNumbers (stepImage r p c ps cs .answer)) ≡ 0 ∷ 0 ∷ []))
 
 pub step-leaves : StepLeaves
-step-leaves r p c ps cs = let l = step-lengths r p c ps cs in (l .0, l .1, step-stays r p c ps cs)
+step-leaves r p c ps cs =
+    let l = step-lengths r p c ps cs in
+    (l .0, l .1, λ h. let q = step-stays r p c ps cs h in (q .0, q .1, halted-numbers (stepImage r p c ps cs .answer) h))

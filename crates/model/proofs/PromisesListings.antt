@@ -1,4 +1,4 @@
--- The promises of demand 2 about edges, listings, places, records and expansions, and demand 3. Each is a type; its proof under it cites a law.
+-- The promises of demand 2 about edges, listings, places, records and expansions. Each is a type; its proof under it cites a law.
 use Prim.Native.Nat.{_+_, _-_, _<_, _≤_, ℕ}
 use mathlib.Core.Path.{_≡_, refl}
 use mathlib.Core.Logic.{_↔_, _⊎_}
@@ -9,14 +9,13 @@ use Rattle.model.specs.Base.{mem}
 use Rattle.model.specs.Edges.{Edge, Loc, Update, access, at, edgesOf, failed, splitHeap}
 use Rattle.model.specs.Heap.{Heap, IsHeap, cell, inUse, kept, next, order}
 use Rattle.model.specs.Machine.{Fault, Op, Stmt, effect, faultNumber, kind}
-use Rattle.model.specs.Records.{byte, edgeRecord, guardBytes, isS, layoutH, locRecord, recordAt, refusalS, shapeOf, shapeRecord, stmtOf, updateCode, word}
-use Rattle.model.specs.Runs.{Demand3, applied, updatesOf}
+use Rattle.model.specs.Records.{byte, edgeRecord, guardBytes, isS, layoutH, locRecord, recordAt, refusal, refusalS, shapeOf, shapeRecord, stmtOf, updateCode, word, Refusal, isAccepted, isRefused}
+use Rattle.model.specs.Runs.{applied, updatesOf}
 use Rattle.model.specs.Shape.{Seg, cells, core, counters, segments, shape}
-use Rattle.model.specs.Translate.{Listing, Routine, check, good, linkRecord, places, refusal, tablesOf, translate}
+use Rattle.model.specs.Translate.{Listing, Routine, check, good, linkRecord, places, tablesOf, translate}
 use Rattle.model.proofs.Bytes.{applied-code}
 use Rattle.model.proofs.Checked.{check-good}
 use Rattle.model.proofs.Cores.{core-head, core-inner}
-use Rattle.model.proofs.Demand.{demand-three}
 use Rattle.model.proofs.EdgeBack.{edge-branch, edge-from, edge-guard, edge-length, edge-node, edge-to, edge-updates}
 use Rattle.model.proofs.Effects.{effect-alike, exp-split}
 use Rattle.model.proofs.Facts.{heap-closed, heap-kept, kept-same, unused-of, used-of}
@@ -72,7 +71,7 @@ guards-cover s r e l p = good-cover (r .stmts) l (reached-good r (check-good s r
 
 -- an accepted translation is one of an accepted input
 abbrev pub AcceptedIsChecked : Type 0
-AcceptedIsChecked = (s : List ℕ) (a b : ℕ) → translate s a b .refused .number ≡ 0 → (r : Routine) × (check s ≡ good r)
+AcceptedIsChecked = (s : List ℕ) (a b : ℕ) → translate s a b .verdict ≡ isAccepted → (r : Routine) × (check s ≡ good r)
 
 pub accepted-is-checked : AcceptedIsChecked
 accepted-is-checked s a b z = let A = is-accepted s a b z in (A .0, A .2)
@@ -80,7 +79,7 @@ accepted-is-checked s a b z = let A = is-accepted s a b z in (A .0, A .2)
 -- "The starting shapes are locations 0 on, in input order. Locations are explored by number; each new target takes the next number; edges stand in
 -- the order found." The tables hold every location that is reached, no other, each once, and every edge of each; and the counts are theirs.
 abbrev pub ListingExact : Type 0
-ListingExact = (s : List ℕ) (a b : ℕ) (r : Routine) → check s ≡ good r → translate s a b .refused .number ≡ 0
+ListingExact = (s : List ℕ) (a b : ℕ) (r : Routine) → check s ≡ good r → translate s a b .verdict ≡ isAccepted
     → (t : Listing) × Exact r t × (translate s a b .tables ≡ tablesOf a b t)
 
 pub listing-is-exact : ListingExact
@@ -89,7 +88,7 @@ listing-is-exact = accepted-exact
 -- 11 and 12: a routine is translated exactly when its full listing has places; the full listing is one, whatever the places
 abbrev pub FitsIsAccepted : Type 0
 FitsIsAccepted = (s : List ℕ) (a b : ℕ) (r : Routine) (t : Listing) → check s ≡ good r → IsFull r t
-    → (translate s a b .refused .number ≡ 0) ↔ ((length (t .locs) ≤ places 1024 a) × (length (t .links) ≤ places 2048 b))
+    → (translate s a b .verdict ≡ isAccepted) ↔ ((length (t .locs) ≤ places 1024 a) × (length (t .links) ≤ places 2048 b))
 
 pub fits-is-accepted : FitsIsAccepted
 fits-is-accepted = fits-accepted
@@ -103,9 +102,9 @@ one-full-listing s r e = let f = full-exists s r e in (f .0, f .1, λ u k. full-
 -- "for 11 and 12 the number of the location being explored, or, while starting shapes are entered, the number, from 0 among them, of the shape
 -- that found no place"; "For each edge, its target's place comes before its own."
 abbrev pub NoPlaceSays : Type 0
-NoPlaceSays = (s : List ℕ) (a b : ℕ) (r : Routine) → check s ≡ good r → (translate s a b .refused .number ≡ 0 → ⊥)
-    → ((places 1024 a < length (r .starts)) × (translate s a b .refused ≡ refusal 11 (places 1024 a)))
-    ⊎ Refused (r .stmts) (r .starts) (places 1024 a) (places 2048 b) (translate s a b .refused)
+NoPlaceSays = (s : List ℕ) (a b : ℕ) (r : Routine) (x : Refusal) → check s ≡ good r → translate s a b .verdict ≡ isRefused x
+    → ((places 1024 a < length (r .starts)) × (x ≡ refusal 11 (places 1024 a)))
+    ⊎ Refused (r .stmts) (r .starts) (places 1024 a) (places 2048 b) x
 
 pub no-place-says : NoPlaceSays
 no-place-says = refused-says
@@ -123,7 +122,7 @@ tables-hold-records = tables-hold
 
 -- no two locations of a table have equal records
 abbrev pub RecordsDistinct : Type 0
-RecordsDistinct = (s : List ℕ) (a b i j : ℕ) → translate s a b .refused .number ≡ 0
+RecordsDistinct = (s : List ℕ) (a b i j : ℕ) → translate s a b .verdict ≡ isAccepted
     → i < translate s a b .tables .locCount → j < translate s a b .tables .locCount
     → recordAt (translate s a b .tables .locBytes) i ≡ recordAt (translate s a b .tables .locBytes) j → i ≡ j
 
@@ -242,9 +241,3 @@ ExpansionEffects = (W : Heap) (sg : ℕ → Seg) (H : Heap) → Expansion W sg H
 
 pub expansion-effects : ExpansionEffects
 expansion-effects = effect-alike
-
--- ==== demand 3
-
--- "Demand 3 is a single claim about the whole list, in either direction, and not one for each step."
-pub automaton-is-routine : Demand3
-automaton-is-routine = demand-three

@@ -1,6 +1,7 @@
 -- The promises of demand 2 about heaps and shapes: the visit, lost cells, core cells, segments, folding as merging, shapes, unfolding. Each is a
 -- type, and under it stands its proof, which cites a law.
 use Prim.Native.Nat.{_<_, _≤_, ℕ}
+use Rattle.model.specs.Records.{isAccepted}
 use mathlib.Core.Path.{_≡_, sym}
 use mathlib.Core.Logic.{_↔_, _⊎_}
 use mathlib.Core.Bool.{false, true}
@@ -197,8 +198,8 @@ unfold-then-fold h k e cs len pos = let C = canonical-canon h (test-closed h k) 
 
 -- the same for the calls, on bytes: what an accepted unfolding leaves folds to what was unfolded,
 abbrev pub UnfoldThenFoldBytes : Type 0
-UnfoldThenFoldBytes = (r vs ps cs : List ℕ) → length vs ≡ 12 → unfoldImage r vs ps cs .refusal ≡ 0
-    → foldImage (unfoldImage r vs ps cs .ptrBytes) (unfoldImage r vs ps cs .cellBytes) ≡ record { refusal = 0; shapeBytes = r; counts = vs }
+UnfoldThenFoldBytes = (r vs ps cs : List ℕ) → unfoldImage r vs ps cs .verdict ≡ isAccepted
+    → foldImage (unfoldImage r vs ps cs .ptrBytes) (unfoldImage r vs ps cs .cellBytes) ≡ record { verdict = isAccepted; recordBytes = r; counts = vs }
 
 pub unfold-then-fold-bytes : UnfoldThenFoldBytes
 unfold-then-fold-bytes = unfold-fold-bytes
@@ -206,12 +207,12 @@ unfold-then-fold-bytes = unfold-fold-bytes
 -- and what an accepted fold gives unfolds, into as many cells as its counters add up to, or more, to the heap with its cells renamed; the cells
 -- of the image are room enough
 abbrev pub FoldThenUnfoldBytes : Type 0
-FoldThenUnfoldBytes = (ps cs : List ℕ) → foldImage ps cs .refusal ≡ 0
+FoldThenUnfoldBytes = (ps cs : List ℕ) → foldImage ps cs .verdict ≡ isAccepted
     → let F = foldImage ps cs in
     (sum (λ v. v) (F .counts) ≤ length cs)
     × ((qs ds : List ℕ) → length qs ≡ 6 → sum (λ v. v) (F .counts) ≤ length ds → length ds ≤ 240
-    → let U = unfoldImage (F .shapeBytes) (F .counts) qs ds in
-    (U .refusal ≡ 0) × ((f : ℕ → ℕ) × Renames f (heapOf ps cs) (heapOf (U .ptrBytes) (U .cellBytes))))
+    → let U = unfoldImage (F .recordBytes) (F .counts) qs ds in
+    (U .verdict ≡ isAccepted) × ((f : ℕ → ℕ) × Renames f (heapOf ps cs) (heapOf (U .ptrBytes) (U .cellBytes))))
 
 pub fold-then-unfold-bytes : FoldThenUnfoldBytes
 fold-then-unfold-bytes ps cs e = (fold-room ps cs e, λ qs ds. fold-unfold-bytes ps cs qs ds e)

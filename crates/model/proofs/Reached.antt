@@ -11,8 +11,8 @@ use borrow.Author.Tests.{eq-eqb, le-leb}
 use Rattle.model.specs.Edges.{Edge, Guard, Loc, Way, access, always, at, edgeBy, edgesAt, edgesOf, failed, isMore, isOne, picksOf, stepBy, stmtAt, ways, waysAt, whole}
 use Rattle.model.specs.Heap.{Heap, Val, cell, holds, inUse, kept, next, null, ptr, undef, unused}
 use Rattle.model.specs.Image.{spread, unfoldHeap}
-use Rattle.model.specs.Machine.{Effect, Entry, Op, Stmt, answerOf, branch, choose, clear, copy, done, effect, fault, free, freeVal, held, isNull, kind, load, new, putSlot, run, same, setNull, setPtr, skip, step, stop, store, through, wipe}
-use Rattle.model.specs.Runs.{State, Status, Step, made, past, running}
+use Rattle.model.specs.Machine.{Effect, Entry, Op, Stmt, answerOf, branch, choose, clear, copy, done, effect, fault, free, freeVal, held, isNull, kind, load, new, putSlot, carryOut, same, setNull, setPtr, skip, step, stop, store, through, wipe}
+use Rattle.model.specs.Runs.{State, Status, Advance, made, past, running}
 use Rattle.model.specs.Shape.{counters, nodeVal, segments}
 use Rattle.model.specs.Translate.{Routine}
 use Rattle.model.proofs.Canon.{Canon, fold-canon}
@@ -60,17 +60,17 @@ effect-ptrs (same u w) n h = refl
 effect-ptrs choose n h = refl
 effect-ptrs skip n h = refl
 
-pub made-ptrs : (s : ℕ) (st : Stmt) (e : Entry) (h : Heap) (x : Step State) → made (begin s h) (step st e h) ≡ some x
+pub made-ptrs : (s : ℕ) (st : Stmt) (e : Entry) (h : Heap) (x : Advance State) → made (begin s h) (step st e h) ≡ some x
     → length (x .after .heap .ptrs) ≡ length (h .ptrs)
 made-ptrs s st e h x m =
     let g = made-goes (begin s h) st e h x m in
-    by-run (run (st .op) (e .cellNo) h) (keep-any (PtrsAre (length (h .ptrs))) (λ f. tt) (effect (st .op) (e .cellNo) h) (effect-ptrs (st .op) (e .cellNo) h))
+    by-run (carryOut (st .op) (e .cellNo) h) (keep-any (PtrsAre (length (h .ptrs))) (λ f. tt) (effect (st .op) (e .cellNo) h) (effect-ptrs (st .op) (e .cellNo) h))
     (rw (step-go st e h (g .0) (g .1)) at m)
   where
     by-run : (r : Effect) → PtrsAre (length (h .ptrs)) r → made (begin s h) (answerOf st (branch (st .op) (e .pick) h) r) ≡ some x
         → length (x .after .heap .ptrs) ≡ length (h .ptrs)
-    by-run (done k) p q = ap (λ (y : Step State). length (y .after .heap .ptrs)) (sym (some-inj q)) ∙ p
-    by-run (fault f) p q = ap (λ (y : Step State). length (y .after .heap .ptrs)) (sym (some-inj q))
+    by-run (done k) p q = ap (λ (y : Advance State). length (y .after .heap .ptrs)) (sym (some-inj q)) ∙ p
+    by-run (fault f) p q = ap (λ (y : Advance State). length (y .after .heap .ptrs)) (sym (some-inj q))
 
 -- a guard's node is one of k
 abbrev GuardBelow : ℕ → Guard → Type 0

@@ -1,5 +1,7 @@
 -- The refusals of an input are those of 01's table, each at its place: what is wrong with a refused input, and that nothing is with an accepted one.
 use Prim.Native.Nat.{_+_, _<_, _≤_, suc, zero, ℕ}
+use Rattle.model.proofs.Checks.{failed-given}
+use Rattle.model.proofs.Notions.{Given}
 use mathlib.Core.Path.{_∙_, _≡_, ap, refl, subst, sym}
 use mathlib.Core.Logic.{_⊎_, inl, inr, ⊎-elim}
 use mathlib.Core.Option.{none, some}
@@ -7,13 +9,13 @@ use mathlib.Core.Bool.{Bool, _&&_, _||_, cond, false, not, or-false, true}
 use mathlib.Core.List.{List, [], _++_, _∷_, append-nil}
 use native.Mathlib.Nat.{zero-add}
 use native.Mathlib.Omega.{arith}
-use lib.Dec.{eqb, ltb}
+use lib.Dec.{eqb}
 use lib.ListN.{getD, length, take}
 use Rattle.model.specs.Base.{any, count, sameList}
 use Rattle.model.specs.Heap.{next}
-use Rattle.model.specs.Records.{byte, fieldsS, isH, isS, layoutH, refusalH, refusalS, shapeOf, targetsS}
+use Rattle.model.specs.Records.{Refusal, isH, isS, layoutH, refusal, refusalH, refusalS, shapeOf, checksS, checksH, firstFailed, unless}
 use Rattle.model.specs.Shape.{canonical}
-use Rattle.model.specs.Translate.{Refusal, Routine, bad, badKind, badRecord, between, check, checkCounts, checkKinds, checkRecords, good, refusal}
+use Rattle.model.specs.Translate.{Routine, bad, badKind, badRecord, between, check, checkCounts, checkKinds, checkRecords, good}
 use Rattle.model.proofs.Checked.{bad-good, good-inj}
 use Rattle.model.proofs.Listings.{BadInput, GoodInput, bad-kind, bad-length, bad-record, bad-shapes, bad-statements, noRecords, recordRefusal, recordsOf, routineOf, wrongKind}
 use Rattle.model.proofs.Logic.{and-l, and-r, bool-case, clash, or-r}
@@ -85,7 +87,7 @@ earlier-same : (n : ℕ) (earlier rs : List (List ℕ)) (r : List ℕ) (k : ℕ)
 earlier-same n earlier rs r k =
     let x = getD rs k [] in
     ap (λ (b : Bool). cond (isS x) (refusalS n x)
-    (elim (layoutH x) [ false ↦ 8 | true ↦ elim (canonical (shapeOf x)) [ false ↦ 9 | true ↦ cond b 10 0 ] ]))
+    (firstFailed (unless 8 (layoutH x) ∷ unless 9 (canonical (shapeOf x)) ∷ unless 10 (not b) ∷ [])))
     (sym (any-swap (sameList eqb x) (take k rs) earlier r))
 
 record-cases : (n i : ℕ) (earlier rs : List (List ℕ)) → RecordCases n i earlier rs
@@ -198,17 +200,22 @@ good-accepted s r G = ⊎-elim
 -- ---- numbers and places
 
 statement-number : (n : ℕ) (r : List ℕ) (m : ℕ) → refusalS n r ≡ suc m → (5 ≤ suc m) × (suc m ≤ 7)
-statement-number n r m e = bool-case (ltb 11 (byte r 1)) (λ a. let z = rw a at e in omega arith)
-    (λ a. bool-case (fieldsS r) (λ b. bool-case (targetsS n r) (λ c. let z = rw (a, b, c) at e in omega arith) (λ c. let z = rw (a, b, c) at e in omega arith))
-    (λ b. let z = rw (a, b) at e in omega arith))
+statement-number n r m e = by-check (failed-given (checksS n r) m e)
+  where
+    by-check : Given (checksS n r) (suc m) → (5 ≤ suc m) × (suc m ≤ 7)
+    by-check (inl (z, p)) = (omega arith, omega arith)
+    by-check (inr (p, inl (z, q))) = (omega arith, omega arith)
+    by-check (inr (p, inr (q, inl (z, w)))) = (omega arith, omega arith)
+    by-check (inr (p, inr (q, inr (w, x)))) = absurd x
 
 shape-number : (earlier : List (List ℕ)) (r : List ℕ) (m : ℕ) → refusalH earlier r ≡ suc m → (8 ≤ suc m) × (suc m ≤ 10)
-shape-number earlier r m e = bool-case (layoutH r)
-    (λ a. let e1 = rw (a, refusalH) at e in bool-case (canonical (shapeOf r))
-    (λ b. let e2 = rw (b, refusalH) at e1 in
-    bool-case (any (sameList eqb r) earlier) (λ c. let z = rw c at e2 in omega arith) (λ c. let z = rw c at e2 in omega arith))
-    (λ b. let z = rw (b, refusalH) at e1 in omega arith))
-    (λ a. let z = rw (a, refusalH) at e in omega arith)
+shape-number earlier r m e = by-check (failed-given (checksH earlier r) m e)
+  where
+    by-check : Given (checksH earlier r) (suc m) → (8 ≤ suc m) × (suc m ≤ 10)
+    by-check (inl (z, p)) = (omega arith, omega arith)
+    by-check (inr (p, inl (z, q))) = (omega arith, omega arith)
+    by-check (inr (p, inr (q, inl (z, w)))) = (omega arith, omega arith)
+    by-check (inr (p, inr (q, inr (w, x)))) = absurd x
 
 -- 5 to 7 are an S record's, 8 to 10 an H record's
 pub record-number : (rs : List (List ℕ)) (i m : ℕ) → recordRefusal rs i ≡ suc m

@@ -2,27 +2,26 @@
 use Prim.Native.Nat.{_+_, _-_, _<_, _≤_, suc, zero, ℕ}
 use mathlib.Core.Path.{_∙_, _≡_, ap, refl, subst, sym}
 use mathlib.Core.Logic.{inl, inr}
-use mathlib.Core.Bool.{_&&_, true}
+use mathlib.Core.Bool.{true}
 use mathlib.Core.List.{List, [], _++_, _∷_, map}
 use native.Mathlib.Omega.{arith}
 use lib.Dec.{leb}
 use lib.ListN.{drop, getD, length, length-append, length-drop, length-map, replicate, take, take-append-drop}
 use lib.Seq.{drop-at, length-take-le, take-at}
-use borrow.Author.Tests.{le-leb, leb-true, ne-eqb}
+use borrow.Author.Tests.{le-leb, leb-true, ne-eqb, eq-eqb}
 use Rattle.model.specs.Base.{all, sum}
 use Rattle.model.specs.Heap.{Heap, IsHeap, Slot, Val, cell, holds, next, null, order, undef, unused}
-use Rattle.model.specs.Image.{Unfolding, cellBytesOf, cellSlot, foldImage, heapOf, unfoldHeap, unfoldImage}
-use Rattle.model.specs.Records.{byte, filled, isZero, layoutH, shapeOf, shapeRecord, slotByte, valByte, valOf}
+use Rattle.model.specs.Image.{Unfolding, cellBytesOf, cellSlot, countersFit, foldImage, heapOf, unfoldHeap, unfoldImage, verdictBy}
+use Rattle.model.specs.Records.{byte, filled, isAccepted, isZero, layoutH, shapeOf, shapeRecord, slotByte, valByte, valOf}
 use Rattle.model.specs.Shape.{Seg, canonical, counters, segments, shape, size}
 use Rattle.model.proofs.Bytes.{all-zero, filled-length, small-up, val-back}
 use Rattle.model.proofs.Canon.{fold-canon}
 use Rattle.model.proofs.Canonical.{canon-canonical, canonical-canon}
 use Rattle.model.proofs.Facts.{heap-closed, heap-kept, test-closed}
-use Rattle.model.proofs.Images.{fold-gives, fold-number, fold-writable, image-accepted, unfold-accepted, unfold-lengths, unfold-number, unfold-zero}
+use Rattle.model.proofs.Images.{counters-fit, fold-gives, fold-accepted, fold-verdict, fold-writable, image-accepted, unfold-accepted, unfold-granted, unfold-lengths, unfold-verdict, unfold-zero}
 use Rattle.model.proofs.Iso.{renamed-same}
 use Rattle.model.proofs.Listings.{SmallVal, Writable}
 use Rattle.model.proofs.Lists.{In, all-in, all-of, getD-in, in-getD, in-map, map-back, map-id}
-use Rattle.model.proofs.Logic.{and-l, and-r}
 use Rattle.model.proofs.Notions.{Positive, Renames, flat, renameVal}
 use Rattle.model.proofs.Order.{order-once, pigeon, toured, used-below}
 use Rattle.model.proofs.ReadBack.{shape-length, shape-shape}
@@ -104,24 +103,23 @@ counters-room h x =
 -- ---- unfolding, then folding
 
 -- what an accepted unfolding leaves is a heap of the shape read, with the counters given
-unfolded-heap : (r vs ps cs : List ℕ) → length vs ≡ 12 → unfoldImage r vs ps cs .refusal ≡ 0
+unfolded-heap : (r vs ps cs : List ℕ) → unfoldImage r vs ps cs .verdict ≡ isAccepted
     → let h = heapOf (unfoldImage r vs ps cs .ptrBytes) (unfoldImage r vs ps cs .cellBytes) in
     IsHeap h × (shape h ≡ shapeOf r) × (counters h ≡ take (byte r 3) vs) × (filled 12 (take (byte r 3) vs) ≡ vs)
-unfolded-heap r vs ps cs l z =
-    let e = sym (unfold-number r vs ps cs) ∙ z in
+unfolded-heap r vs ps cs z =
+    let e = unfold-granted r vs ps cs z in
     let A = unfold-accepted r vs (length ps) (length cs) .0 e in
     let S = shapeOf r in
     let ws = take (byte r 3) vs in
     let g = unfoldHeap S ws in
     let few = layout-few r (A .2) (A .3) in
-    let t = leb (sum (λ v. v) vs) (length cs) in
-    let p = all (leb 1) ws in let o = all isZero (drop (byte r 3) vs) in
-    let po = and-l (p && o) t (A .5) in
+    let K = counters-fit (byte r 3) vs (length cs) (A .5) in
+    let l = K .0 in
     let len : length ws ≡ length (S .slots) = length-take-le (byte r 3) vs (omega arith) ∙ sym (layout-slots r (A .2) (A .3)) in
     let C = canonical-canon S (test-closed S (layout-closed r (A .2) (A .3))) (A .4) in
-    let pos : Positive ws = λ n q. leb-true 1 (getD ws n 1) (all-in (leb 1) ws (getD ws n 1) (and-l p o po) (getD-in ws 1 n q)) in
-    let F : filled 12 ws ≡ vs = filled-back (byte r 3) vs l few (and-r p o po) in
-    let room = leb-true (sum (λ v. v) vs) (length cs) (and-r (p && o) t (A .5)) in
+    let pos : Positive ws = λ n q. leb-true 1 (getD ws n 1) (all-in (leb 1) ws (getD ws n 1) (K .1) (getD-in ws 1 n q)) in
+    let F : filled 12 ws ≡ vs = filled-back (byte r 3) vs l few (K .2) in
+    let room = K .3 in
     let short : length (g .slots) ≤ 240 = omega (arith, unfold-length S ws len, sum-filled ws (12 - length ws), ap (sum (λ v. v)) F, A .1) in
     let I = unfold-is-heap S C ws len pos in
     let R = renamed-same (λ c. c) g (heapOf (map valByte (g .ptrs)) (cellBytesOf (length cs) g)) I (heap-read g (heap-closed g I) short (length cs)) in
@@ -129,18 +127,18 @@ unfolded-heap r vs ps cs l z =
     (subst IsHeap (sym q) (R .0), ap shape q ∙ R .1 ∙ shape-unfold S C ws len pos, ap counters q ∙ R .2 ∙ counters-unfold S C ws len pos, F)
 
 -- folding what an accepted unfolding leaves is accepted, and gives back the record and the counters that were unfolded
-pub unfold-fold-bytes : (r vs ps cs : List ℕ) → length vs ≡ 12 → unfoldImage r vs ps cs .refusal ≡ 0
-    → foldImage (unfoldImage r vs ps cs .ptrBytes) (unfoldImage r vs ps cs .cellBytes) ≡ record { refusal = 0; shapeBytes = r; counts = vs }
-unfold-fold-bytes r vs ps cs l z =
+pub unfold-fold-bytes : (r vs ps cs : List ℕ) → unfoldImage r vs ps cs .verdict ≡ isAccepted
+    → foldImage (unfoldImage r vs ps cs .ptrBytes) (unfoldImage r vs ps cs .cellBytes) ≡ record { verdict = isAccepted; recordBytes = r; counts = vs }
+unfold-fold-bytes r vs ps cs z =
     let P = unfoldImage r vs ps cs .ptrBytes in
     let D = unfoldImage r vs ps cs .cellBytes in
-    let A = unfold-accepted r vs (length ps) (length cs) .0 (sym (unfold-number r vs ps cs) ∙ z) in
+    let A = unfold-accepted r vs (length ps) (length cs) .0 (unfold-granted r vs ps cs z) in
     let L = unfold-lengths r vs ps cs in
-    let X = unfolded-heap r vs ps cs l z in
-    let n : foldImage P D .refusal ≡ 0 = fold-number P D ∙ image-accepted P D .1 (L .0 ∙ A .0, omega (arith, L .1, A .1), X .0) in
+    let X = unfolded-heap r vs ps cs z in
+    let n : foldImage P D .verdict ≡ isAccepted = fold-verdict P D ∙ ap verdictBy (image-accepted P D .1 (L .0 ∙ A .0, omega (arith, L .1, A .1), X .0)) in
     let G = fold-gives P D n in
     let s = G .0 ∙ ap shapeRecord (X .1) ∙ shape-record-back r (A .2) (A .3) in
-    λ i. record { refusal = n i; shapeBytes = s i; counts = (G .1 ∙ ap (filled 12) (X .2) ∙ X .3) i }
+    λ i. record { verdict = n i; recordBytes = s i; counts = (G .1 ∙ ap (filled 12) (X .2) ∙ X .3) i }
 
 -- ---- folding, then unfolding
 
@@ -158,20 +156,20 @@ layout-written h W =
     rw (le-leb k 12 (W .few), values-pass h W, o)
 
 -- the counters that an accepted fold gives add up to no more than the cells of the image
-pub fold-room : (ps cs : List ℕ) → foldImage ps cs .refusal ≡ 0 → sum (λ v. v) (foldImage ps cs .counts) ≤ length cs
+pub fold-room : (ps cs : List ℕ) → foldImage ps cs .verdict ≡ isAccepted → sum (λ v. v) (foldImage ps cs .counts) ≤ length cs
 fold-room ps cs e =
-    let A = image-accepted ps cs .0 (sym (fold-number ps cs) ∙ e) in
+    let A = image-accepted ps cs .0 (fold-accepted ps cs e) in
     let h = heapOf ps cs in
     let ws = counters h in
     rw (fold-gives ps cs e .1) (omega (arith, sum-filled ws (12 - length ws), counters-room h (A .2), length-map cs cellSlot))
 
 -- unfolding what an accepted fold gives is accepted where there is room for as many cells as its counters add up to, and leaves the heap with its cells renamed
-pub fold-unfold-bytes : (ps cs qs ds : List ℕ) → foldImage ps cs .refusal ≡ 0 → length qs ≡ 6 → sum (λ v. v) (foldImage ps cs .counts) ≤ length ds
+pub fold-unfold-bytes : (ps cs qs ds : List ℕ) → foldImage ps cs .verdict ≡ isAccepted → length qs ≡ 6 → sum (λ v. v) (foldImage ps cs .counts) ≤ length ds
     → length ds ≤ 240
-    → let F = foldImage ps cs in let U = unfoldImage (F .shapeBytes) (F .counts) qs ds in
-    (U .refusal ≡ 0) × ((f : ℕ → ℕ) × Renames f (heapOf ps cs) (heapOf (U .ptrBytes) (U .cellBytes)))
+    → let F = foldImage ps cs in let U = unfoldImage (F .recordBytes) (F .counts) qs ds in
+    (U .verdict ≡ isAccepted) × ((f : ℕ → ℕ) × Renames f (heapOf ps cs) (heapOf (U .ptrBytes) (U .cellBytes)))
 fold-unfold-bytes ps cs qs ds e q6 room most =
-    let A = image-accepted ps cs .0 (sym (fold-number ps cs) ∙ e) in
+    let A = image-accepted ps cs .0 (fold-accepted ps cs e) in
     let G = fold-gives ps cs e in
     let h = heapOf ps cs in let r = shapeRecord (shape h) in let k = length (shape h .slots) in
     let ws = counters h in
@@ -185,7 +183,9 @@ fold-unfold-bytes ps cs qs ds e q6 room most =
     ap (all (leb 1)) t ∙ all-of (leb 1) ws (λ n q. le-leb 1 n (omega (arith, in-map size n (segments h) q .2))) in
     let o : all isZero (drop k (ws ++ z)) ≡ true = ap (all isZero) (drop-at ws z k l) ∙ zeros-pass (12 - length ws) in
     let s : sum (λ v. v) (ws ++ z) ≤ length ds = rw (G .1) at room in
-    let n : unfoldImage r (ws ++ z) qs ds .refusal ≡ 0 = unfold-number r (ws ++ z) qs ds ∙ unfold-accepted r (ws ++ z) (length qs) (length ds) .1
-    (q6, most, shape-length (shape h) W, layout-written (shape h) W, c, rw (p, o, le-leb (sum (λ v. v) (ws ++ z)) (length ds) s)) in
-    let X = unfolded-heap r (ws ++ z) qs ds (filled-length 12 ws (G .3)) n in
+    let f : countersFit k (ws ++ z) (length ds) ≡ true =
+    rw (eq-eqb (length (ws ++ z)) 12 (filled-length 12 ws (G .3)), p, o, le-leb (sum (λ v. v) (ws ++ z)) (length ds) s) in
+    let n : unfoldImage r (ws ++ z) qs ds .verdict ≡ isAccepted = unfold-verdict r (ws ++ z) qs ds
+    ∙ ap verdictBy (unfold-accepted r (ws ++ z) (length qs) (length ds) .1 (q6, most, shape-length (shape h) W, layout-written (shape h) W, c, f)) in
+    let X = unfolded-heap r (ws ++ z) qs ds n in
     rw (G .0, G .1) (n, same-renamed h _ (A .2) (X .0) (sym (X .1 ∙ S)) (sym (X .2 ∙ t)))

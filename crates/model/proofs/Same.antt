@@ -14,7 +14,7 @@ use Rattle.model.specs.Base.{any, placeOf, sameList}
 use Rattle.model.specs.Edges.{Loc, at, failed, sameLoc}
 use Rattle.model.specs.Heap.{Heap, Slot, Val, cell, holds, null, sameHeap, sameSlot, sameVal, undef, unused}
 use Rattle.model.specs.Machine.{Fault, atNull, atUndef, faultNumber, leak}
-use Rattle.model.proofs.Lists.{Distinct, In, getD-in, in-append-cases, in-append-l}
+use Rattle.model.proofs.Lists.{Distinct, In, getD-in, in-append-cases, in-append-l, some-inj, some-none}
 use Rattle.model.proofs.Logic.{and-both, and-l, and-r, bool-case, clash, eqb-same, or-false-l, or-false-r}
 
 pub val-same : (v w : Val) → sameVal v w ≡ true → v ≡ w
@@ -171,3 +171,8 @@ pub elem-some : {A : Type 0} (l : List A) (i : ℕ) (d : A) → i < length l →
 elem-some [] i d h = absurd (omega arith)
 elem-some (x ∷ l) zero d h = refl
 elem-some (x ∷ l) (suc i) d h = elem-some l i d (omega arith)
+
+pub elem-in : {A : Type 0} (l : List A) (i : ℕ) (x : A) → getElem? l i ≡ some x → In x l
+elem-in [] i x e = some-none (sym (elem-none [] i (omega arith)) ∙ e)
+elem-in (y ∷ l) zero x e = inl (sym (some-inj e))
+elem-in (y ∷ l) (suc i) x e = inr (elem-in l i x e)

@@ -12,7 +12,7 @@ use Rattle.model.specs.Base.{numbers}
 use Rattle.model.specs.Edges.{Edge, edgesOf, stmtAt}
 use Rattle.model.specs.Heap.{inUse, next}
 use Rattle.model.specs.Machine.{Answer, Entry, Stmt, faulted, refused, step, stopped, went}
-use Rattle.model.specs.Runs.{Config, State, Status, Step, made, moveOf, past, running, stepIn, stepOf}
+use Rattle.model.specs.Runs.{Config, State, Status, Advance, made, moveOf, past, running, stepIn, stepOf}
 use Rattle.model.specs.Translate.{Link, Listing, Routine, Tables, tablesOf}
 use Rattle.model.proofs.Checked.{GoodStarts}
 use Rattle.model.proofs.Exact.{LinkGood, edge-listed}
@@ -55,12 +55,12 @@ module _ (r : Routine) (t : Listing) (X : Exact r t) (G : GoodStarts r) (a b : �
       (good-exclude sts (locAt (t .locs) i) (loc-good r t X G a b i (omega (arith, in-numbers 0 (length (t .locs)) i q))))))
       (pairs-numbers _ (λ i j h u v p q e. absurd (let x = from-is i u p in let y = from-is j v q in omega arith)) 0 (length (t .locs))))
 
-  pub only-one : (m n : ℕ) (c : Config) (y z : Step Config) → moveOf T c m ≡ some z → moveOf T c n ≡ some y → z .branchNo ≡ y .branchNo → m ≡ n
+  pub only-one : (m n : ℕ) (c : Config) (y z : Advance Config) → moveOf T c m ≡ some z → moveOf T c n ≡ some y → z .branchNo ≡ y .branchNo → m ≡ n
   only-one m n c y z p q e =
       let M = move-some r t X G a b m c z p in
       let N = move-some r t X G a b n c y q in
       let bm : linkAt t m .edge .branchNo ≡ linkAt t n .edge .branchNo =
-      ap (λ (x : Step Config). x .branchNo) (sym (M .3)) ∙ e ∙ ap (λ (x : Step Config). x .branchNo) (N .3) in
+      ap (λ (x : Advance Config). x .branchNo) (sym (M .3)) ∙ e ∙ ap (λ (x : Advance Config). x .branchNo) (N .3) in
       eq-case m n (λ s. s) (λ s. let ne = eqb-false m n s in bool-case (ltb m n)
       (λ l. absurd (pairs-at Apart (t .links) _ m n links-apart (ltb-true m n l) (N .0) (M .1 ∙ sym (N .1)) bm (c .values) (M .2) (N .2)))
       (λ l. absurd (pairs-at Apart (t .links) _ n m links-apart (let g = ltb-false m n l in omega arith) (M .0) (N .1 ∙ sym (M .1)) (sym bm) (c .values)
@@ -74,12 +74,12 @@ module _ (r : Routine) (t : Listing) (X : Exact r t) (G : GoodStarts r) (a b : �
   link-place : (k : Link) → In k (t .links) → (n : ℕ) × (n < length (t .links)) × (linkAt t n ≡ k)
   link-place k i = in-getD (t .links) _ k i
 
-  pub forward : (q : State) (c : Config) → Both q c → (e : Entry) (x : Step State) → stepOf sts q e ≡ some x
-      → (n : ℕ) × (y : Step Config) × (moveOf T c n ≡ some y) × (x .branchNo ≡ y .branchNo) × Both (x .after) (y .after)
+  pub forward : (q : State) (c : Config) → Both q c → (e : Entry) (x : Advance State) → stepOf sts q e ≡ some x
+      → (n : ℕ) × (y : Advance Config) × (moveOf T c n ≡ some y) × (x .branchNo ≡ y .branchNo) × Both (x .after) (y .after)
   forward q c B e x p = by-status (q .status) (B .0) p
     where
       by-status : (f : Status) → MatchIn f (q .stmt) (q .heap) (locAt (t .locs) (c .loc)) (c .values) → stepIn f sts q e ≡ some x
-          → (n : ℕ) × (y : Step Config) × (moveOf T c n ≡ some y) × (x .branchNo ≡ y .branchNo) × Both (x .after) (y .after)
+          → (n : ℕ) × (y : Advance Config) × (moveOf T c n ≡ some y) × (x .branchNo ≡ y .branchNo) × Both (x .after) (y .after)
       by-status (past f) m s = some-none s
       by-status running m s =
           let st = stmtAt sts (q .stmt) in
@@ -104,9 +104,9 @@ module _ (r : Routine) (t : Listing) (X : Exact r t) (G : GoodStarts r) (a b : �
             ),
           )
 
-  pub backward : (q : State) (c : Config) → Both q c → (n : ℕ) (y : Step Config) → moveOf T c n ≡ some y → (e : Entry) → e .pick ≡ y .branchNo
+  pub backward : (q : State) (c : Config) → Both q c → (n : ℕ) (y : Advance Config) → moveOf T c n ≡ some y → (e : Entry) → e .pick ≡ y .branchNo
       → inUse (next (q .heap) (e .cellNo)) ≡ false
-      → (x : Step State) × (stepOf sts q e ≡ some x) × (x .branchNo ≡ y .branchNo) × Both (x .after) (y .after)
+      → (x : Advance State) × (stepOf sts q e ≡ some x) × (x .branchNo ≡ y .branchNo) × Both (x .after) (y .after)
   backward q c B n y p e pk u = by-status (q .status) (B .0)
     where
       M : (n < length (t .links)) × (linkAt t n .from ≡ c .loc) × (guardOn (linkAt t n .edge .guard) (c .values) ≡ true) × (y ≡ by-link c (linkAt t n))
@@ -119,15 +119,15 @@ module _ (r : Routine) (t : Listing) (X : Exact r t) (G : GoodStarts r) (a b : �
       inEdges = subst (λ i. In (linkAt t n .edge) (edgesOf sts (locAt (t .locs) i))) (M .1) (L .edge-of)
 
       by-status : (f : Status) → MatchIn f (q .stmt) (q .heap) (locAt (t .locs) (c .loc)) (c .values)
-          → (x : Step State) × (stepIn f sts q e ≡ some x) × (x .branchNo ≡ y .branchNo) × Both (x .after) (y .after)
+          → (x : Advance State) × (stepIn f sts q e ≡ some x) × (x .branchNo ≡ y .branchNo) × Both (x .after) (y .after)
       by-status (past f) m = absurd (subst (λ l. In (linkAt t n .edge) (edgesOf sts l)) (m .0) inEdges)
       by-status running m =
           let k = linkAt t n in
           let F = leave-backward (q .stmt) (stmtAt sts (q .stmt)) (q .heap) (m .2) (m .3) (k .edge) (subst (λ l. In (k .edge) (edgesOf sts l)) (m .0) inEdges)
-          (ap (guardOn (k .edge .guard)) (sym (m .1)) ∙ M .2) e (pk ∙ ap (λ (z : Step Config). z .branchNo) (M .3)) u in (
+          (ap (guardOn (k .edge .guard)) (sym (m .1)) ∙ M .2) e (pk ∙ ap (λ (z : Advance Config). z .branchNo) (M .3)) u in (
             F .0,
             sym (made-begin q (step (stmtAt sts (q .stmt)) e (q .heap))) ∙ F .1,
-            F .2 ∙ ap (λ (z : Step Config). z .branchNo) (sym (M .3)),
-            subst (λ (z : Step Config). Both (F .0 .after) (z .after)) (sym (M .3))
+            F .2 ∙ ap (λ (z : Advance Config). z .branchNo) (sym (M .3)),
+            subst (λ (z : Advance Config). Both (F .0 .after) (z .after)) (sym (M .3))
                 (subst₂ (λ l vs. Fit (F .0 .after) l vs) (sym (L .dest-is)) (ap (λ cs. map (worth cs) (k .edge .updates)) (sym (m .1))) (F .3), L .dest-below),
           )

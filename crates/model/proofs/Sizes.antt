@@ -8,7 +8,7 @@ use lib.ListN.{length, length-map}
 use Rattle.model.specs.Base.{mem}
 use Rattle.model.specs.Edges.{splitHeap}
 use Rattle.model.specs.Heap.{Heap, Slot, Val, cell, holds, next, null, order, ptr, undef, unused}
-use Rattle.model.specs.Machine.{Effect, Op, choose, clear, copy, done, effect, fault, free, freeVal, held, isNull, load, new, put, putSlot, run, same, setNull, setPtr, skip, stop, store, through, wipeSlot}
+use Rattle.model.specs.Machine.{Effect, Op, choose, clear, copy, done, effect, fault, free, freeVal, held, isNull, load, new, put, putSlot, carryOut, same, setNull, setPtr, skip, stop, store, through, wipeSlot}
 use Rattle.model.specs.Shape.{Seg, cells, core, segments}
 use Rattle.model.proofs.Cuts.{flat-cut, nodup-l, nodup-r}
 use Rattle.model.proofs.Effects.{closed-ptr}
@@ -68,7 +68,7 @@ effect-short (same u w) n b h cl l q = l
 effect-short choose n b h cl l q = l
 effect-short skip n b h cl l q = l
 
-pub run-short : (op : Op) (n b : ℕ) (h : Heap) → ClosedHeap h → length (h .slots) ≤ b → n < b → Short b (run op n h)
+pub run-short : (op : Op) (n b : ℕ) (h : Heap) → ClosedHeap h → length (h .slots) ≤ b → n < b → Short b (carryOut op n h)
 run-short op n b h cl l q = keep-any (Short b) (λ f. tt) (effect op n h) (effect-short op n b h cl l q)
 
 -- the cells of a segment are different, and below the number of slots

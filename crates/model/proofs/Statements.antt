@@ -1,15 +1,16 @@
 -- Statement records: how a statement is written, that it is read back, and that an accepted record is written again as it stood.
 use Prim.Native.Nat.{_<_, _≤_, ℕ}
+use Rattle.model.proofs.Checks.{none-failed}
+use Rattle.model.proofs.Notions.{Pass}
 use mathlib.Core.Path.{_∙_, _≡_, ap, refl, sym}
-use mathlib.Core.Bool.{Bool, _&&_, cond, false, true}
+use mathlib.Core.Bool.{Bool, _&&_, false, true}
 use mathlib.Core.List.{List, [], _∷_}
 use native.Mathlib.Omega.{arith}
-use lib.Dec.{ltb}
 use lib.ListN.{drop, length, replicate}
-use borrow.Author.Tests.{eqb-true, ltb-false, ltb-true}
+use borrow.Author.Tests.{eqb-true, ltb-true, leb-true}
 use Rattle.model.specs.Base.{all}
 use Rattle.model.specs.Machine.{Op, Stmt, choose, clear, copy, free, isNull, load, new, same, setNull, skip, stop, store}
-use Rattle.model.specs.Records.{byte, fieldsS, isS, isZero, opOf, pointerField, refusalS, stmtOf, targetField, targetsS, usesFirst, usesSecond, usesU, usesW}
+use Rattle.model.specs.Records.{byte, fieldsS, isS, isZero, opOf, pointerField, refusalS, stmtOf, targetField, usesFirst, usesSecond, usesU, usesW, checksS}
 use Rattle.model.proofs.Bytes.{all-zero}
 use Rattle.model.proofs.Listings.{UnusedZero, field, opNumber, pointerU, pointerW, stmtRecord}
 use Rattle.model.proofs.Logic.{and-l, and-r, clash}
@@ -39,8 +40,8 @@ statement-back st z =
     let n = opNumber (st .op) in
     λ i. record {
       op = op-back (st .op) i;
-      first = field-same (usesFirst n) (st .first) (z .first) i;
-      second = field-same (usesSecond n) (st .second) (z .second) i;
+      firstTarget = field-same (usesFirst n) (st .firstTarget) (z .first) i;
+      secondTarget = field-same (usesSecond n) (st .secondTarget) (z .second) i;
     }
 
 -- what an op number is read as
@@ -62,11 +63,8 @@ target-zero false b h e = eqb-true b 0 h
 
 -- ---- what the tests of a record that is not refused say
 
-pub no-refusal : (a b c : Bool) → _≡_ {A = ℕ} (cond a 5 (cond b (cond c 0 7) 6)) 0 → (a ≡ false) × (b ≡ true) × (c ≡ true)
-no-refusal true b c e = absurd (omega arith)
-no-refusal false true true e = (refl, refl, refl)
-no-refusal false true false e = absurd (omega arith)
-no-refusal false false c e = absurd (omega arith)
+pub passed-s : (n : ℕ) (r : List ℕ) → refusalS n r ≡ 0 → Pass (checksS n r)
+passed-s n r e = none-failed (checksS n r) refl e
 
 fields-hold : (r : List ℕ) → fieldsS r ≡ true
     → (pointerField (usesU (byte r 1)) (byte r 2) ≡ true) × (pointerField (usesW (byte r 1)) (byte r 3) ≡ true)
@@ -95,9 +93,9 @@ pointer-low false b h = omega (arith, eqb-true b 0 h)
 pub statement-fields : (n : ℕ) (r : List ℕ) → refusalS n r ≡ 0 → (byte r 1 ≤ 11) × (byte r 2 < 6) × (byte r 3 < 6)
 statement-fields n r e =
     let op = byte r 1 in
-    let q = no-refusal (ltb 11 op) (fieldsS r) (targetsS n r) e in
-    let f = fields-hold r (q .1) in
-    (ltb-false 11 op (q .0), pointer-low (usesU op) (byte r 2) (f .0), pointer-low (usesW op) (byte r 3) (f .1))
+    let q = passed-s n r e in
+    let f = fields-hold r (q .1 .0) in
+    (leb-true op 11 (q .0), pointer-low (usesU op) (byte r 2) (f .0), pointer-low (usesW op) (byte r 3) (f .1))
 
 -- ---- a record is written again as it stood
 
@@ -105,9 +103,9 @@ record-of : (n op u w f g : ℕ) (z : List ℕ) → length z ≡ 26 → refusalS
     → stmtRecord (stmtOf (0x53 ∷ op ∷ u ∷ w ∷ f ∷ g ∷ z)) ≡ 0x53 ∷ op ∷ u ∷ w ∷ f ∷ g ∷ z
 record-of n op u w f g z l e =
     let r : List ℕ = 0x53 ∷ op ∷ u ∷ w ∷ f ∷ g ∷ z in
-    let q = no-refusal (ltb 11 op) (fieldsS r) (targetsS n r) e in
-    let t = fields-hold r (q .1) in
-    let o = op-read op u w (ltb-false 11 op (q .0)) in
+    let q = passed-s n r e in
+    let t = fields-hold r (q .1 .0) in
+    let o = op-read op u w (leb-true op 11 (q .0)) in
     let pu = o .1 ∙ field-same (usesU op) u (pointer-zero (usesU op) u (t .0)) in
     let pw = o .2 ∙ field-same (usesW op) w (pointer-zero (usesW op) w (t .1)) in
     let pf : field (usesFirst (opNumber (opOf op u w))) f ≡ f =

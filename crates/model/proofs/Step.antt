@@ -7,7 +7,7 @@ use lib.Dec.{eqb}
 use borrow.Author.Tests.{eq-eqb, eqb-true}
 use Rattle.model.specs.Edges.{access}
 use Rattle.model.specs.Heap.{Heap, Slot, Val, cell, kept, next, null, ptr, sameVal, undef}
-use Rattle.model.specs.Machine.{Answer, Effect, Entry, Fault, Kind, Op, Stmt, accepts, allocates, answerOf, branch, choose, clear, copy, done, effect, fault, faulted, free, isNull, keep, kind, load, new, other, picks, run, same, setNull, skip, step, stop, stops, store, test, unlessStop, went}
+use Rattle.model.specs.Machine.{Answer, Effect, Entry, Fault, Kind, Op, Stmt, accepts, allocates, answerOf, branch, choose, clear, copy, done, effect, fault, faulted, free, isNull, keep, kind, load, new, other, picks, carryOut, same, setNull, skip, step, stop, stops, store, test, unlessStop, went}
 use Rattle.model.specs.Runs.{isStop}
 use Rattle.model.specs.Shape.{Seg}
 use Rattle.model.proofs.Cores.{first-inj}
@@ -81,8 +81,8 @@ unless-go allocates a h = refl
 unless-go other a h = refl
 
 pub step-go : (st : Stmt) (e : Entry) (h : Heap) → isStop (kind (st .op)) ≡ false → accepts (kind (st .op)) e h ≡ true
-    → step st e h ≡ answerOf st (branch (st .op) (e .pick) h) (run (st .op) (e .cellNo) h)
-step-go st e h g a = rw a (unless-go (kind (st .op)) (answerOf st (branch (st .op) (e .pick) h) (run (st .op) (e .cellNo) h)) g)
+    → step st e h ≡ answerOf st (branch (st .op) (e .pick) h) (carryOut (st .op) (e .cellNo) h)
+step-go st e h g a = rw a (unless-go (kind (st .op)) (answerOf st (branch (st .op) (e .pick) h) (carryOut (st .op) (e .cellNo) h)) g)
 
 -- the step of an entry d on W and that of an entry e on its expansion H
 pub step-agree : (st : Stmt) (d e : Entry) (W : Heap) (sg : ℕ → Seg) (H : Heap) → Expansion W sg H → isStop (kind (st .op)) ≡ false
@@ -93,7 +93,7 @@ pub step-agree : (st : Stmt) (d e : Entry) (W : Heap) (sg : ℕ → Seg) (H : He
     → Agree (sg-after (kind (st .op)) (d .cellNo) (e .cellNo) sg) (step st d W) (step st e H)
 step-agree st d e W sg H X g aw ah o rw′ rh b =
     rw (step-go st d W g aw, step-go st e H g ah, b)
-    (answer-agree (sg-after (kind (st .op)) (d .cellNo) (e .cellNo) sg) st (branch (st .op) (d .pick) W) (run (st .op) (d .cellNo) W)
-    (run (st .op) (e .cellNo) H)
+    (answer-agree (sg-after (kind (st .op)) (d .cellNo) (e .cellNo) sg) st (branch (st .op) (d .pick) W) (carryOut (st .op) (d .cellNo) W)
+    (carryOut (st .op) (e .cellNo) H)
     (keep-alike (sg-after (kind (st .op)) (d .cellNo) (e .cellNo) sg) (effect (st .op) (d .cellNo) W) (effect (st .op) (e .cellNo) H)
     (effect-alike W sg H X (st .op) (d .cellNo) (e .cellNo) o rw′ rh)))

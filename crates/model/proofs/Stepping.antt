@@ -1,110 +1,138 @@
 -- What a plain step on a heap image leaves, for all inputs: its refusals; that a refusal, a fault and a stop leave the heap; that lengths are kept.
-use Prim.Native.Nat.{_<_, suc, zero, ℕ}
+use Prim.Native.Nat.{_<_, suc, zero, ℕ, _≤_}
 use mathlib.Core.Path.{_∙_, _≡_, ap, refl, subst, sym}
 use mathlib.Core.Logic.{_⊎_, inl, inr}
-use mathlib.Core.Bool.{_&&_, false, true}
+use mathlib.Core.Bool.{_&&_, false, not, true}
 use mathlib.Core.List.{List, [], _∷_, map}
 use native.Mathlib.Omega.{arith}
-use lib.Dec.{eqb, ltb}
+use lib.Dec.{eqb}
 use lib.ListN.{length, length-map}
-use borrow.Author.Tests.{leb-false}
+use borrow.Author.Tests.{leb-false, not-true}
 use Rattle.model.specs.Heap.{Heap, Slot, Val, cell, holds, next, null, ptr, undef, unused}
-use Rattle.model.specs.Image.{Stepping, answered, cellSlot, heapOf, pastEnd, refusalImage, refusalStep, stays, stepImage}
-use Rattle.model.specs.Machine.{Answer, Effect, Entry, Kind, Op, Stmt, accepts, allocates, answerOf, branch, choose, clear, copy, done, effect, fault, faulted, free, freeVal, held, isNull, keep, kind, load, new, other, picks, put, putSlot, refused, run, same, setNull, setPtr, skip, step, stop, stopped, stops, store, through, unlessStop, went, wipeSlot}
-use Rattle.model.specs.Records.{byte, fieldsS, isS, slotByte, stmtOf, targetsS, valByte, valOf}
+use Rattle.model.specs.Image.{Stepping, answered, cellSlot, checksImage, checksStatement, checksStep, entryFits, heapOf, noStep, pastEnd, refusalImage, stays, stepImage, stepVerdict, verdictBy, StepAnswer, toFault, toNext, toStop}
+use Rattle.model.specs.Machine.{Answer, Effect, Entry, Kind, Op, Stmt, accepts, allocates, answerOf, branch, choose, clear, copy, done, effect, fault, faulted, free, freeVal, held, isNull, keep, kind, load, new, other, picks, put, putSlot, refused, carryOut, same, setNull, setPtr, skip, step, stop, stopped, stops, store, through, unlessStop, went, wipeSlot, entry, Fault, faultNumber, atNull, atUndef, leak}
+use Rattle.model.specs.Records.{checksS, firstFailed, isAccepted, isS, refusal, slotByte, stmtOf, unless, valByte, valOf}
+use Rattle.model.proofs.Checks.{checked-by, none-failed, not-both, pass-after, pass-before, pass-none}
 use Rattle.model.proofs.Effects.{closed-ptr}
 use Rattle.model.proofs.Facts.{heap-closed, keep-any}
-use Rattle.model.proofs.Images.{image-accepted, image-number, number-case}
-use Rattle.model.proofs.Lists.{In}
-use Rattle.model.proofs.Logic.{bool-case}
+use Rattle.model.proofs.Images.{image-accepted, number-case}
+use Rattle.model.proofs.Logic.{and-l, and-r, bool-case}
+use Rattle.model.proofs.Notions.{CheckedBy, Halted}
 use Rattle.model.proofs.Order.{used-below}
 use Rattle.model.proofs.Reached.{PtrsAre, effect-ptrs}
 use Rattle.model.proofs.Walks.{Closed, ClosedHeap}
 
--- how a step can end: refused by the checks, refused by the cell or the entry, or answered by the machine
+-- how a step can end: refused by its checks, or answered by the machine, which then takes the entry
 abbrev pub StepCases : List ℕ → ℕ → ℕ → List ℕ → List ℕ → Type 0
 StepCases r p c ps cs =
-    ((n : ℕ) × (refusalStep r ps cs ≡ suc n) × (stepImage r p c ps cs ≡ stays (suc n) 0 0 ps cs))
-    ⊎ (((refusalStep r ps cs ≡ 0) × (pastEnd (kind (stmtOf r .op)) c (length cs) ≡ true) × (stepImage r p c ps cs ≡ stays 16 0 0 ps cs))
-    ⊎ ((refusalStep r ps cs ≡ 0) × (pastEnd (kind (stmtOf r .op)) c (length cs) ≡ false)
-    × (stepImage r p c ps cs ≡ answered (step (stmtOf r) (record { pick = p; cellNo = c }) (heapOf ps cs)) ps cs)))
+    ((n : ℕ) × (firstFailed (checksStep r (entry p c) ps cs) ≡ suc n) × (stepImage r p c ps cs ≡ stays (noStep (refusal (suc n) 0)) ps cs))
+    ⊎ ((firstFailed (checksStep r (entry p c) ps cs) ≡ 0) × (stepImage r p c ps cs ≡ answered (step (stmtOf r) (entry p c) (heapOf ps cs)) ps cs))
 
 pub step-cases : (r : List ℕ) (p c : ℕ) (ps cs : List ℕ) → StepCases r p c ps cs
 unfolding stepImage
-step-cases r p c ps cs = number-case (refusalStep r ps cs)
-    (λ e. bool-case (pastEnd (kind (stmtOf r .op)) c (length cs))
-    (λ q. inr (inl (e, q, rw (e, stepImage) (rw (q, stepImage)))))
-    (λ q. inr (inr (e, q, rw (e, stepImage) (rw (q, stepImage))))))
-    (λ n e. inl (n, e, rw (e, stepImage)))
+step-cases r p c ps cs = number-case (firstFailed (checksStep r (entry p c) ps cs)) (λ e. inr (e, rw (e, stepImage))) (λ n e. inl (n, e, rw (e, stepImage)))
+
+-- an entry that fits: at new, its cell is one of the image, and the machine takes it
+pub step-fits : (r : List ℕ) (e : Entry) (ps cs : List ℕ) → firstFailed (checksStep r e ps cs) ≡ 0
+    → (refusalImage ps cs ≡ 0) × (pastEnd (kind (stmtOf r .op)) (e .cellNo) (length (heapOf ps cs .slots)) ≡ false)
+    × (accepts (kind (stmtOf r .op)) e (heapOf ps cs) ≡ true)
+step-fits r e ps cs z =
+    let xs = checksStatement r ps cs in
+    let k = kind (stmtOf r .op) in
+    let h = heapOf ps cs in
+    let d = pastEnd k (e .cellNo) (length (h .slots)) in
+    let q = none-failed (checksStep r e ps cs) refl z in
+    let w = pass-after xs (unless 16 (entryFits k e h) ∷ []) q .0 in
+    let p = pass-before (checksImage ps cs) (unless 4 (eqb (length r) 32 && isS r) ∷ checksS 64 r) (pass-before xs (unless 16 (entryFits k e h) ∷ []) q) in
+    (pass-none (checksImage ps cs) p, not-true d (and-l (not d) (accepts k e h) w), and-r (not d) (accepts k e h) w)
 
 -- ---- the refusals
 
--- 13, 14, 4, 5, 6, 7 and 16, in the order of the checks; 0 for none
-abbrev pub StepNumber : ℕ → Type 0
-StepNumber n = In n (0 ∷ 13 ∷ 14 ∷ 4 ∷ 5 ∷ 6 ∷ 7 ∷ 16 ∷ [])
-
-step-checks : (r ps cs : List ℕ) → StepNumber (refusalStep r ps cs)
-step-checks r ps cs = by-image (image-number ps cs)
+-- a step that the machine answers is not refused where the entry is taken
+answered-verdict : (st : Stmt) (e : Entry) (ps cs : List ℕ) → accepts (kind (st .op)) e (heapOf ps cs) ≡ true
+    → stepVerdict (answered (step st e (heapOf ps cs)) ps cs .answer) ≡ isAccepted
+answered-verdict st e ps cs a =
+    rw a (by-kind (kind (st .op)) (branch (st .op) (e .pick) (heapOf ps cs)) (carryOut (st .op) (e .cellNo) (heapOf ps cs)))
   where
-    past-image : refusalImage ps cs ≡ 0 → StepNumber (refusalStep r ps cs)
-    past-image e = rw (e, refusalStep) (bool-case (eqb (length r) 32 && isS r)
-        (λ s. rw (s, refusalStep) (bool-case (ltb 11 (byte r 1)) (λ a. rw a (inr (inr (inr (inr (inl refl))))))
-        (λ a. rw a (bool-case (fieldsS r)
-        (λ b. rw b (bool-case (targetsS 64 r) (λ d. rw d (inl refl)) (λ d. rw d (inr (inr (inr (inr (inr (inr (inl refl))))))))))
-        (λ b. rw b (inr (inr (inr (inr (inr (inl refl)))))))))))
-        (λ s. rw (s, refusalStep) (inr (inr (inr (inl refl))))))
+    by-effect : (b : ℕ) (x : Effect) → stepVerdict (answered (answerOf st b x) ps cs .answer) ≡ isAccepted
+    by-effect b (fault f) = refl
+    by-effect b (done h) = refl
 
-    by-image : In (refusalImage ps cs) (0 ∷ 13 ∷ 14 ∷ []) → StepNumber (refusalStep r ps cs)
-    by-image (inl e) = past-image e
-    by-image (inr (inl e)) = rw (e, refusalStep) (inr (inl refl))
-    by-image (inr (inr (inl e))) = rw (e, refusalStep) (inr (inr (inl refl)))
-    by-image (inr (inr (inr x))) = absurd x
+    by-kind : (k : Kind) (b : ℕ) (x : Effect) → stepVerdict (answered (unlessStop k (answerOf st b x)) ps cs .answer) ≡ isAccepted
+    by-kind stops b x = refl
+    by-kind picks b x = by-effect b x
+    by-kind allocates b x = by-effect b x
+    by-kind other b x = by-effect b x
 
-answered-number : (a : Answer) (ps cs : List ℕ) → In (answered a ps cs .refusal) (0 ∷ 16 ∷ [])
-answered-number refused ps cs = inr (inl refl)
-answered-number stopped ps cs = inl refl
-answered-number (faulted f) ps cs = inl refl
-answered-number (went b t h) ps cs = inl refl
-
-pub step-number : (r : List ℕ) (p c : ℕ) (ps cs : List ℕ) → StepNumber (stepImage r p c ps cs .refusal)
-step-number r p c ps cs = by-case (step-cases r p c ps cs)
+step-verdict : (r : List ℕ) (p c : ℕ) (ps cs : List ℕ)
+    → stepVerdict (stepImage r p c ps cs .answer) ≡ verdictBy (firstFailed (checksStep r (entry p c) ps cs))
+step-verdict r p c ps cs = by-case (step-cases r p c ps cs)
   where
-    few : (n : ℕ) → In n (0 ∷ 16 ∷ []) → StepNumber n
-    few n (inl e) = inl e
-    few n (inr (inl e)) = inr (inr (inr (inr (inr (inr (inr (inl e)))))))
-    few n (inr (inr x)) = absurd x
+    by-case : StepCases r p c ps cs → stepVerdict (stepImage r p c ps cs .answer) ≡ verdictBy (firstFailed (checksStep r (entry p c) ps cs))
+    by-case (inl (n, e, q)) = ap (λ (s : Stepping). stepVerdict (s .answer)) q ∙ ap verdictBy (sym e)
+    by-case (inr (e, q)) = ap (λ (s : Stepping). stepVerdict (s .answer)) q
+        ∙ answered-verdict (stmtOf r) (entry p c) ps cs (step-fits r (entry p c) ps cs e .2) ∙ ap verdictBy (sym e)
 
-    by-case : StepCases r p c ps cs → StepNumber (stepImage r p c ps cs .refusal)
-    by-case (inl (n, e, q)) = subst (λ (s : Stepping). StepNumber (s .refusal)) (sym q) (subst StepNumber e (step-checks r ps cs))
-    by-case (inr (inl (e, w, q))) = subst (λ (s : Stepping). StepNumber (s .refusal)) (sym q) (few 16 (inr (inl refl)))
-    by-case (inr (inr (e, w, q))) = subst (λ (s : Stepping). StepNumber (s .refusal)) (sym q)
-        (few _ (answered-number (step (stmtOf r) (record { pick = p; cellNo = c }) (heapOf ps cs)) ps cs))
+-- it is refused by its checks, in their order
+pub step-checked : (r : List ℕ) (p c : ℕ) (ps cs : List ℕ)
+    → CheckedBy (checksStep r (entry p c) ps cs) (stepVerdict (stepImage r p c ps cs .answer))
+step-checked r p c ps cs =
+    checked-by (checksStep r (entry p c) ps cs) (stepVerdict (stepImage r p c ps cs .answer)) refl (step-verdict r p c ps cs)
+
+-- ---- what a step answers
+
+-- a step that is not refused is the machine's
+pub step-answers : (r : List ℕ) (p c : ℕ) (ps cs : List ℕ) → stepVerdict (stepImage r p c ps cs .answer) ≡ isAccepted
+    → stepImage r p c ps cs ≡ answered (step (stmtOf r) (entry p c) (heapOf ps cs)) ps cs
+step-answers r p c ps cs z = by-case (step-cases r p c ps cs)
+  where
+    by-case : StepCases r p c ps cs → stepImage r p c ps cs ≡ answered (step (stmtOf r) (entry p c) (heapOf ps cs)) ps cs
+    by-case (inl (n, e, q)) = not-both (stepVerdict (stepImage r p c ps cs .answer)) (refusal (suc n) 0) z (ap (λ (s : Stepping). stepVerdict (s .answer)) q)
+    by-case (inr (e, q)) = q
+
+abbrev KnownFault : StepAnswer → Type 0
+KnownFault (toNext b n) = Unit {0}
+KnownFault (toFault f) = (1 ≤ f) × (f ≤ 3)
+KnownFault toStop = Unit {0}
+KnownFault (noStep x) = Unit {0}
+
+number-known : (f : Fault) → (1 ≤ faultNumber f) × (faultNumber f ≤ 3)
+number-known atNull = (omega arith, omega arith)
+number-known atUndef = (omega arith, omega arith)
+number-known leak = (omega arith, omega arith)
+
+answered-known : (a : Answer) (ps cs : List ℕ) → KnownFault (answered a ps cs .answer)
+answered-known refused ps cs = tt
+answered-known stopped ps cs = tt
+answered-known (faulted f) ps cs = number-known f
+answered-known (went b t h) ps cs = tt
+
+-- a fault is 1, 2 or 3
+pub step-faults : (r : List ℕ) (p c : ℕ) (ps cs : List ℕ) (f : ℕ) → stepImage r p c ps cs .answer ≡ toFault f → (1 ≤ f) × (f ≤ 3)
+step-faults r p c ps cs f e = subst KnownFault e (by-case (step-cases r p c ps cs))
+  where
+    by-case : StepCases r p c ps cs → KnownFault (stepImage r p c ps cs .answer)
+    by-case (inl (n, z, q)) = subst (λ (s : Stepping). KnownFault (s .answer)) (sym q) tt
+    by-case (inr (z, q)) = subst (λ (s : Stepping). KnownFault (s .answer)) (sym q) (answered-known (step (stmtOf r) (entry p c) (heapOf ps cs)) ps cs)
 
 -- ---- what stays
 
--- at a refusal, a fault or a stop "both numbers are 0 and the heap stays"
 abbrev pub Stays : List ℕ → List ℕ → Stepping → Type 0
-Stays ps cs s = (s .ptrBytes ≡ ps) × (s .cellBytes ≡ cs) × (s .branchNo ≡ 0) × (s .nextNo ≡ 0)
+Stays ps cs s = (s .ptrBytes ≡ ps) × (s .cellBytes ≡ cs)
 
-abbrev pub Halted : Stepping → Type 0
-Halted s = (s .refusal ≡ 0 → ⊥) ⊎ ((s .faultNo ≡ 0 → ⊥) ⊎ (s .stop ≡ 0 → ⊥))
+answered-stays : (a : Answer) (ps cs : List ℕ) → Halted (answered a ps cs .answer) → Stays ps cs (answered a ps cs)
+answered-stays refused ps cs h = (refl, refl)
+answered-stays stopped ps cs h = (refl, refl)
+answered-stays (faulted f) ps cs h = (refl, refl)
+answered-stays (went b t k) ps cs h = absurd h
 
-answered-stays : (a : Answer) (ps cs : List ℕ) → Halted (answered a ps cs) → Stays ps cs (answered a ps cs)
-answered-stays refused ps cs h = (refl, refl, refl, refl)
-answered-stays stopped ps cs h = (refl, refl, refl, refl)
-answered-stays (faulted f) ps cs h = (refl, refl, refl, refl)
-answered-stays (went b t k) ps cs (inl h) = absurd (h refl)
-answered-stays (went b t k) ps cs (inr (inl h)) = absurd (h refl)
-answered-stays (went b t k) ps cs (inr (inr h)) = absurd (h refl)
-
-pub step-stays : (r : List ℕ) (p c : ℕ) (ps cs : List ℕ) → Halted (stepImage r p c ps cs) → Stays ps cs (stepImage r p c ps cs)
+pub step-stays : (r : List ℕ) (p c : ℕ) (ps cs : List ℕ) → Halted (stepImage r p c ps cs .answer) → Stays ps cs (stepImage r p c ps cs)
 step-stays r p c ps cs h = by-case (step-cases r p c ps cs)
   where
     by-case : StepCases r p c ps cs → Stays ps cs (stepImage r p c ps cs)
-    by-case (inl (n, e, q)) = subst (Stays ps cs) (sym q) (refl, refl, refl, refl)
-    by-case (inr (inl (e, w, q))) = subst (Stays ps cs) (sym q) (refl, refl, refl, refl)
-    by-case (inr (inr (e, w, q))) = subst (Stays ps cs) (sym q)
-        (answered-stays (step (stmtOf r) (record { pick = p; cellNo = c }) (heapOf ps cs)) ps cs (subst Halted q h))
+    by-case (inl (n, e, q)) = subst (Stays ps cs) (sym q) (refl, refl)
+    by-case (inr (e, q)) = subst (Stays ps cs) (sym q)
+        (answered-stays (step (stmtOf r) (entry p c) (heapOf ps cs)) ps cs (subst (λ (s : Stepping). Halted (s .answer)) q h))
 
 -- ---- lengths
 
@@ -152,11 +180,11 @@ effect-sized skip n h cl q = refl
 abbrev pub SameLengths : List ℕ → List ℕ → Stepping → Type 0
 SameLengths ps cs s = (length (s .ptrBytes) ≡ length ps) × (length (s .cellBytes) ≡ length cs)
 
-answer-lengths : (st : Stmt) (e : Entry) (ps cs : List ℕ) → ClosedHeap (heapOf ps cs) → pastEnd (kind (st .op)) (e .cellNo) (length cs) ≡ false
+answer-lengths : (st : Stmt) (e : Entry) (ps cs : List ℕ) → ClosedHeap (heapOf ps cs) → pastEnd (kind (st .op)) (e .cellNo) (length (heapOf ps cs .slots)) ≡ false
     → SameLengths ps cs (answered (step st e (heapOf ps cs)) ps cs)
 answer-lengths st e ps cs cl q =
     bool-case (accepts (kind (st .op)) e (heapOf ps cs))
-    (λ a. rw a (by-kind (kind (st .op)) (answerOf st (branch (st .op) (e .pick) (heapOf ps cs)) (run (st .op) (e .cellNo) (heapOf ps cs))) by-run))
+    (λ a. rw a (by-kind (kind (st .op)) (answerOf st (branch (st .op) (e .pick) (heapOf ps cs)) (carryOut (st .op) (e .cellNo) (heapOf ps cs))) by-run))
     (λ a. rw a (refl, refl))
   where
     by-effect : (b : ℕ) (x : Effect) → PtrsAre (length (heapOf ps cs .ptrs)) x → SlotsAre (length (heapOf ps cs .slots)) x
@@ -167,13 +195,13 @@ answer-lengths st e ps cs cl q =
       length-map (h .slots) slotByte ∙ v ∙ length-map cs cellSlot,
     )
 
-    by-run : SameLengths ps cs (answered (answerOf st (branch (st .op) (e .pick) (heapOf ps cs)) (run (st .op) (e .cellNo) (heapOf ps cs))) ps cs)
+    by-run : SameLengths ps cs (answered (answerOf st (branch (st .op) (e .pick) (heapOf ps cs)) (carryOut (st .op) (e .cellNo) (heapOf ps cs))) ps cs)
     by-run =
         let h = heapOf ps cs in
         let x = effect (st .op) (e .cellNo) h in
         by-effect (branch (st .op) (e .pick) h) (keep x) (keep-any (PtrsAre (length (h .ptrs))) (λ f. tt) x (effect-ptrs (st .op) (e .cellNo) h))
         (keep-any (SlotsAre (length (h .slots))) (λ f. tt) x (effect-sized (st .op) (e .cellNo) h cl
-        (λ a. omega (arith, length-map cs cellSlot, leb-false (length cs) (e .cellNo) (subst (λ k. pastEnd k (e .cellNo) (length cs) ≡ false) a q)))))
+        (λ a. leb-false (length (h .slots)) (e .cellNo) (subst (λ k. pastEnd k (e .cellNo) (length (h .slots)) ≡ false) a q))))
 
     by-kind : (k : Kind) (a : Answer) → SameLengths ps cs (answered a ps cs) → SameLengths ps cs (answered (unlessStop k a) ps cs)
     by-kind stops a s = (refl, refl)
@@ -184,11 +212,9 @@ answer-lengths st e ps cs cl q =
 pub step-lengths : (r : List ℕ) (p c : ℕ) (ps cs : List ℕ) → SameLengths ps cs (stepImage r p c ps cs)
 step-lengths r p c ps cs = by-case (step-cases r p c ps cs)
   where
-    image-zero : refusalStep r ps cs ≡ 0 → refusalImage ps cs ≡ 0
-    image-zero z = number-case (refusalImage ps cs) (λ e. e) (λ n e. absurd (let y = rw (e, refusalStep) at z in omega arith))
-
     by-case : StepCases r p c ps cs → SameLengths ps cs (stepImage r p c ps cs)
     by-case (inl (n, e, q)) = subst (SameLengths ps cs) (sym q) (refl, refl)
-    by-case (inr (inl (e, w, q))) = subst (SameLengths ps cs) (sym q) (refl, refl)
-    by-case (inr (inr (e, w, q))) = subst (SameLengths ps cs) (sym q)
-        (answer-lengths (stmtOf r) (record { pick = p; cellNo = c }) ps cs (heap-closed (heapOf ps cs) (image-accepted ps cs .0 (image-zero e) .2)) w)
+    by-case (inr (e, q)) =
+        let w = step-fits r (entry p c) ps cs e in
+        subst (SameLengths ps cs) (sym q)
+        (answer-lengths (stmtOf r) (entry p c) ps cs (heap-closed (heapOf ps cs) (image-accepted ps cs .0 (w .0) .2)) (w .1))

@@ -7,7 +7,7 @@ use native.Mathlib.Omega.{arith}
 use lib.Dec.{eqb}
 use lib.ListN.{List·getD-eq-default, List·getD-map, getD, length, length-map}
 use borrow.Author.Tests.{eqb-false, eqb-true}
-use Rattle.model.specs.Edges.{Guard, Way, Weight, access, addsCounter, counter, isOne, isOneCell, isRest, one, rest, split, splitHeap, whole}
+use Rattle.model.specs.Edges.{Guard, Way, Weight, access, addsCounter, counter, isOne, isOneCell, isLess, one, less, split, splitHeap, whole}
 use Rattle.model.specs.Heap.{Heap, Val, cell, next, null, unused}
 use Rattle.model.specs.Machine.{Kind, Op, allocates, branch, choose, clear, copy, free, isNull, kind, load, new, other, picks, same, setNull, skip, stop, stops, store}
 use Rattle.model.specs.Shape.{Seg, counters, last, nodeSlot, segments, shape, size}
@@ -103,7 +103,7 @@ module _ (k : ℕ) (cs : List ℕ) where
   whole-adds : (i c : ℕ) → addsCounter i (whole-weight c) ≡ true → (c ≡ i) × (eqb c k ≡ false)
   whole-adds i c h = bool-case (eqb c k) (λ e. clash (rw e at h) refl) (λ e. (sym (eqb-true i c (rw e at h)), e))
 
-  whole-rest : (c : ℕ) → isRest (whole-weight c) ≡ true → ⊥
+  whole-rest : (c : ℕ) → isLess (whole-weight c) ≡ true → ⊥
   whole-rest c h = bool-case (eqb c k) (λ e. clash (rw e at h) refl) (λ e. clash (rw e at h) refl)
 
   whole-one : (c : ℕ) → isOneCell (whole-weight c) ≡ true → c ≡ k
@@ -120,7 +120,7 @@ module _ (k : ℕ) (cs : List ℕ) where
 
   module _ (n : ℕ) (lt : n < k) (pos : 1 ≤ getD cs n 1) where
     abbrev split-weight : ℕ → Weight
-    split-weight c = cond (eqb c n) one (cond (eqb c k) (rest n) (counter c))
+    split-weight c = cond (eqb c n) one (cond (eqb c k) (less n) (counter c))
 
     split-adds : (i c : ℕ) → addsCounter i (split-weight c) ≡ true → (c ≡ cond (eqb i n) k i) × (c < suc k → i < k)
     split-adds i c h = bool-case (eqb c n) (λ e. clash (rw e at h) refl) (λ e. bool-case (eqb c k)
@@ -128,18 +128,18 @@ module _ (k : ℕ) (cs : List ℕ) where
         (λ f. let p = eqb-true i c (rw (e, f) at h) in let ne = eqb-false c k f in
         (rw (ap (λ x. eqb x n) p ∙ e) (sym p), λ z. omega arith)))
 
-    split-rest : (c m : ℕ) → split-weight c ≡ rest m → (c ≡ k) × (n ≡ m)
+    split-rest : (c m : ℕ) → split-weight c ≡ less m → (c ≡ k) × (n ≡ m)
     split-rest c m h = bool-case (eqb c n)
-        (λ e. let z : one ≡ rest m = rw e at h in absurd (let y : _≡_ {A = ℕ} 0 1 = cc in omega arith))
-        (λ e. bool-case (eqb c k) (λ f. let z : rest n ≡ rest m = rw (e, f) at h in (eqb-true c k f, (cc)))
-        (λ f. let z : counter c ≡ rest m = rw (e, f) at h in absurd (let y : _≡_ {A = ℕ} 0 1 = cc in omega arith)))
+        (λ e. let z : one ≡ less m = rw e at h in absurd (let y : _≡_ {A = ℕ} 0 1 = cc in omega arith))
+        (λ e. bool-case (eqb c k) (λ f. let z : less n ≡ less m = rw (e, f) at h in (eqb-true c k f, (cc)))
+        (λ f. let z : counter c ≡ less m = rw (e, f) at h in absurd (let y : _≡_ {A = ℕ} 0 1 = cc in omega arith)))
 
-    rest-is : (x : Weight) → isRest x ≡ true → (m : ℕ) × (x ≡ rest m)
+    rest-is : (x : Weight) → isLess x ≡ true → (m : ℕ) × (x ≡ less m)
     rest-is (counter m) h = clash h refl
     rest-is one h = clash h refl
-    rest-is (rest m) h = (m, refl)
+    rest-is (less m) h = (m, refl)
 
-    split-single : (c : ℕ) → isRest (split-weight c) ≡ true → c ≡ k
+    split-single : (c : ℕ) → isLess (split-weight c) ≡ true → c ≡ k
     split-single c h = let r = rest-is (split-weight c) h in split-rest c (r .0) (r .1) .0
 
     split-one : (c : ℕ) → isOneCell (split-weight c) ≡ true → c ≡ n
@@ -222,7 +222,7 @@ module _ (H : Heap) (cl : ClosedHeap H) (kp : Kept H) where
         where
           weigh-split : (i h t : ℕ) (ts : List ℕ) → segAt (segments H) n .rest ≡ t ∷ ts
               → size (upd (upd (segAt (segments H)) (length (shape H .slots)) (seg t ts)) n (seg h []) i)
-              ≡ weigh (counters H) (cond (eqb i n) one (cond (eqb i (length (shape H .slots))) (rest n) (counter i)))
+              ≡ weigh (counters H) (cond (eqb i n) one (cond (eqb i (length (shape H .slots))) (less n) (counter i)))
           weigh-split i h t ts q =
               bool-case (eqb i n) (λ x. rw x) (λ x. rw x (bool-case (eqb i (length (shape H .slots)))
               (λ y. rw y (omega (arith, size-at n, ap length q))) (λ y. rw y (size-at i))))

@@ -9,7 +9,7 @@ use lib.Dec.{eqb}
 use lib.ListN.{getD, length, length-map}
 use borrow.Author.Tests.{eq-eqb, ne-eqb}
 use Rattle.model.specs.Base.{any, count, mem, numbers, sum}
-use Rattle.model.specs.Edges.{Weight, addsCounter, counter, isOneCell, isRest, one, rest, updateOf}
+use Rattle.model.specs.Edges.{Weight, addsCounter, counter, isOneCell, isLess, one, less, updateOf}
 use Rattle.model.specs.Shape.{Seg, cells}
 use Rattle.model.proofs.Canon.{single}
 use Rattle.model.proofs.Lists.{any-find, in-mem}
@@ -21,7 +21,7 @@ use Rattle.model.proofs.Numbers.{length-numbers}
 abbrev pub weigh : List ℕ → Weight → ℕ
 weigh cs (counter n) = getD cs n 1
 weigh cs one = 1
-weigh cs (rest n) = getD cs n 1 - 1
+weigh cs (less n) = getD cs n 1 - 1
 
 -- sums of flagged counters, the flags given by a test of the numbers from j on
 flags-none : (f : ℕ → Bool) (j : ℕ) (cs : List ℕ) → ((i : ℕ) → f i ≡ false) → flagged (map f (numbers j (length cs))) cs ≡ 0
@@ -53,10 +53,10 @@ flags-or f g j (c ∷ cs) h =
 -- and a rest's is not 0.
 pub record Fair (k : ℕ) (cs : List ℕ) (w : ℕ → Weight) : Type 0 where
   pub owned : (i c d : ℕ) → addsCounter i (w c) ≡ true → addsCounter i (w d) ≡ true → c ≡ d
-  pub single : (c d : ℕ) → isRest (w c) ≡ true → isRest (w d) ≡ true → c ≡ d
+  pub single : (c d : ℕ) → isLess (w c) ≡ true → isLess (w d) ≡ true → c ≡ d
   pub lone : (c d : ℕ) → isOneCell (w c) ≡ true → isOneCell (w d) ≡ true → c ≡ d
   pub known : (i c : ℕ) → c < suc k → addsCounter i (w c) ≡ true → i < k
-  pub positive : (c n : ℕ) → w c ≡ rest n → 1 ≤ getD cs n 1
+  pub positive : (c n : ℕ) → w c ≡ less n → 1 ≤ getD cs n 1
 
 module _ (k : ℕ) (cs : List ℕ) (len : length cs ≡ k) (w : ℕ → Weight) (F : Fair k cs w) where
   adds-of : List ℕ → ℕ
@@ -64,13 +64,13 @@ module _ (k : ℕ) (cs : List ℕ) (len : length cs ≡ k) (w : ℕ → Weight) 
 
   -- one cell
   one-cell : (c : ℕ) (x : Weight) → w c ≡ x → c < suc k
-      → weigh cs x + cond (isRest x) 1 0 ≡ flagged (map (λ i. addsCounter i x) (numbers 0 (length cs))) cs + cond (isOneCell x) 1 0
+      → weigh cs x + cond (isLess x) 1 0 ≡ flagged (map (λ i. addsCounter i x) (numbers 0 (length cs))) cs + cond (isOneCell x) 1 0
   one-cell c (counter n) e h =
       let lt : n < k = F .known n c h (rw (e, eqb-same n)) in
       let r = flags-one n 0 cs (omega arith) in
       let s = ap (λ m. flagged (map (λ i. eqb i m) (numbers 0 (length cs))) cs) (zero-add n) in omega arith
   one-cell c one e h = omega (arith, flags-none (λ i. false) 0 cs (λ i. refl))
-  one-cell c (rest n) e h =
+  one-cell c (less n) e h =
       let lt : n < k = F .known n c h (rw (e, eqb-same n)) in
       let r = flags-one n 0 cs (omega arith) in
       let s = ap (λ m. flagged (map (λ i. eqb i m) (numbers 0 (length cs))) cs) (zero-add n) in
@@ -81,7 +81,7 @@ module _ (k : ℕ) (cs : List ℕ) (len : length cs ≡ k) (w : ℕ → Weight) 
 
   -- the weights of a list of different cells
   balance : (l : List ℕ) → NoDup l → ((c : ℕ) → mem c l ≡ true → c < suc k)
-      → sum (λ c. weigh cs (w c)) l + count (λ c. isRest (w c)) l ≡ adds-of l + count (λ c. isOneCell (w c)) l
+      → sum (λ c. weigh cs (w c)) l + count (λ c. isLess (w c)) l ≡ adds-of l + count (λ c. isOneCell (w c)) l
   unfolding adds-of
   balance [] nd h = omega (arith, flags-none (λ i. false) 0 cs (λ i. refl))
   balance (c ∷ l) nd h =
@@ -114,5 +114,5 @@ module _ (k : ℕ) (cs : List ℕ) (len : length cs ≡ k) (w : ℕ → Weight) 
   unfolding adds-of
   update-value s nd h =
       let b = balance (cells s) nd h in
-      let f = few-of (λ c. isRest (w c)) (F .single) (cells s) nd in
+      let f = few-of (λ c. isLess (w c)) (F .single) (cells s) nd in
       rw (← len) (omega arith)

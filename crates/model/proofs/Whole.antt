@@ -8,9 +8,9 @@ use native.Mathlib.Omega.{arith}
 use lib.ListN.{List·getD-eq-default, length}
 use Rattle.model.specs.Edges.{Edge, Loc, edgesOf, stmtAt}
 use Rattle.model.specs.Heap.{Heap, inUse, next, unused}
-use Rattle.model.specs.Machine.{Effect, Entry, Stmt, accepts, answerOf, branch, done, fault, kind, run, step}
+use Rattle.model.specs.Machine.{Effect, Entry, Stmt, accepts, answerOf, branch, done, fault, kind, carryOut, step}
 use Rattle.model.specs.Records.{byte, locRecord, shapeOf}
-use Rattle.model.specs.Runs.{Config, DescribesIn, Forced, Match, Matched, Matching, Paired, State, Status, Step, Supply, Unused, afterEntry, ended, endedIn, faultOf, fed, final, isStop, leaves, made, moveOf, past, running, stepOf, trace}
+use Rattle.model.specs.Runs.{Config, DescribesIn, Forced, Match, Matched, Matching, Paired, State, Status, Advance, Supply, AreUnused, afterEntry, ended, endedIn, faultOf, fed, final, isStop, leaves, made, moveOf, past, running, stepOf, trace}
 use Rattle.model.specs.Shape.{shape}
 use Rattle.model.specs.Translate.{Link, Listing, Routine, Tables, tablesOf}
 use Rattle.model.proofs.Checked.{GoodStarts}
@@ -39,10 +39,10 @@ module _ (r : Routine) (t : Listing) (X : Exact r t) (G : GoodStarts r) (a b : �
 
   -- no edge leaves the location exactly when the routine is at a stop or past a fault
   some-step : (s : ℕ) (st : Stmt) (e : Entry) (h : Heap) → isStop (kind (st .op)) ≡ false → accepts (kind (st .op)) e h ≡ true
-      → (x : Step State) × (made (begin s h) (step st e h) ≡ some x)
-  some-step s st e h g ac = rw (step-go st e h g ac) (by-run (run (st .op) (e .cellNo) h))
+      → (x : Advance State) × (made (begin s h) (step st e h) ≡ some x)
+  some-step s st e h g ac = rw (step-go st e h g ac) (by-run (carryOut (st .op) (e .cellNo) h))
     where
-      by-run : (x : Effect) → (y : Step State) × (made (begin s h) (answerOf st (branch (st .op) (e .pick) h) x) ≡ some y)
+      by-run : (x : Effect) → (y : Advance State) × (made (begin s h) (answerOf st (branch (st .op) (e .pick) h) x) ≡ some y)
       by-run (done k) = (_, refl)
       by-run (fault f) = (_, refl)
 
@@ -84,9 +84,9 @@ module _ (r : Routine) (t : Listing) (X : Exact r t) (G : GoodStarts r) (a b : �
   -- what fits, matches
   pub fits-match : (q : State) (c : Config) → Fits q c → Match sts T q c
   fits-match q c B = record {
-    listed = B .1;
-    statement = ap (λ x. byte x 1) (loc-record r t X G a b (c .loc) (B .1)) ∙ stmt-is (q .status) (B .0);
-    fault = ap (λ x. byte x 2) (loc-record r t X G a b (c .loc) (B .1)) ∙ fault-is (q .status) (B .0);
+    isLocation = B .1;
+    statementIs = ap (λ x. byte x 1) (loc-record r t X G a b (c .loc) (B .1)) ∙ stmt-is (q .status) (B .0);
+    faultIs = ap (λ x. byte x 2) (loc-record r t X G a b (c .loc) (B .1)) ∙ fault-is (q .status) (B .0);
     describes = rw (loc-record r t X G a b (c .loc) (B .1)) (describes-is (q .status) (B .0));
     ends = ends-at q c B;
   }
@@ -113,15 +113,15 @@ module _ (r : Routine) (t : Listing) (X : Exact r t) (G : GoodStarts r) (a b : �
       describes-is (past f) m = tt
 
   -- along a list, and where it ends
-  pub paired-final : (q : State) (c : Config) (xs : List (Step State)) (ys : List (Step Config)) → Match sts T q c → Paired sts T xs ys
+  pub paired-final : (q : State) (c : Config) (xs : List (Advance State)) (ys : List (Advance Config)) → Match sts T q c → Paired sts T xs ys
       → Match sts T (final q xs) (final c ys)
   paired-final q c [] [] m p = m
   paired-final q c [] (y ∷ ys) m p = absurd p
   paired-final q c (x ∷ xs) [] m p = absurd p
   paired-final q c (x ∷ xs) (y ∷ ys) m p = paired-final (x .after) (y .after) xs ys (p .1) (p .2)
 
-  matched : (q : State) (c : Config) (xs : List (Step State)) (ys : List (Step Config)) → Fits q c → Paired sts T xs ys → Matched sts T q c xs ys
-  matched q c xs ys B p = record { pairs = p; after = paired-final q c xs ys (fits-match q c B) p }
+  matched : (q : State) (c : Config) (xs : List (Advance State)) (ys : List (Advance Config)) → Fits q c → Paired sts T xs ys → Matched sts T q c xs ys
+  matched q c xs ys B p = record { pairs = p; atEnd = paired-final q c xs ys (fits-match q c B) p }
 
   -- from the routine to the automaton
   follows : (es : List Entry) (q : State) (c : Config) → Fits q c
@@ -129,7 +129,7 @@ module _ (r : Routine) (t : Listing) (X : Exact r t) (G : GoodStarts r) (a b : �
   follows [] q c B = ([], tt, tt)
   follows (e ∷ es) q c B = by-step (stepOf sts q e) refl (λ q′ c′ B′. follows es q′ c′ B′)
     where
-      by-step : (o : Option (Step State)) → stepOf sts q e ≡ o
+      by-step : (o : Option (Advance State)) → stepOf sts q e ≡ o
           → ((q′ : State) (c′ : Config) → Fits q′ c′ → (ns : List ℕ) × Forced T c′ ns × Paired sts T (trace (stepOf sts) q′ es) (trace (moveOf T) c′ ns))
           → (ns : List ℕ) × Forced T c ns × Paired sts T (trace (stepOf sts) q (e ∷ es)) (trace (moveOf T) c ns)
       by-step none p rec = let k = rec q c B in (k .0, k .1, rw (p, trace) (k .2))
@@ -142,22 +142,22 @@ module _ (r : Routine) (t : Listing) (X : Exact r t) (G : GoodStarts r) (a b : �
           )
 
   -- from the automaton to the routine, with cells of which each is not in use at its turn
-  Led : State → List (Step Config) → List ℕ → Type 0
+  Led : State → List (Advance Config) → List ℕ → Type 0
   Led q ys cs = Paired sts T (trace (stepOf sts) q (fed ys cs)) ys
 
   led : (ns : List ℕ) (q : State) (c : Config) → Fits q c → (cs : List ℕ) → length cs ≡ length (trace (moveOf T) c ns)
-      → Unused sts q (fed (trace (moveOf T) c ns) cs)
+      → AreUnused sts q (fed (trace (moveOf T) c ns) cs)
       → Led q (trace (moveOf T) c ns) cs
   unfolding Led
   led [] q c B [] l u = tt
   led [] q c B (d ∷ cs) l u = tt
   led (n ∷ ns) q c B cs l u = by-move (moveOf T c n) refl (λ q′ c′ B′ cs′. led ns q′ c′ B′ cs′) cs l u
     where
-      by-move : (o : Option (Step Config)) → moveOf T c n ≡ o
+      by-move : (o : Option (Advance Config)) → moveOf T c n ≡ o
           → ((q′ : State) (c′ : Config) → Fits q′ c′ → (cs′ : List ℕ) → length cs′ ≡ length (trace (moveOf T) c′ ns)
-          → Unused sts q′ (fed (trace (moveOf T) c′ ns) cs′)
+          → AreUnused sts q′ (fed (trace (moveOf T) c′ ns) cs′)
           → Paired sts T (trace (stepOf sts) q′ (fed (trace (moveOf T) c′ ns) cs′)) (trace (moveOf T) c′ ns))
-          → (cs : List ℕ) → length cs ≡ length (trace (moveOf T) c (n ∷ ns)) → Unused sts q (fed (trace (moveOf T) c (n ∷ ns)) cs)
+          → (cs : List ℕ) → length cs ≡ length (trace (moveOf T) c (n ∷ ns)) → AreUnused sts q (fed (trace (moveOf T) c (n ∷ ns)) cs)
           → Paired sts T (trace (stepOf sts) q (fed (trace (moveOf T) c (n ∷ ns)) cs)) (trace (moveOf T) c (n ∷ ns))
       by-move none p rec cs l u = rw (p, trace) (rec q c B cs (rw (p, trace) at l) (rw (p, trace) at u))
       by-move (some y) p rec [] l u = absurd (let z = rw (p, trace) at l in omega arith)
@@ -169,15 +169,15 @@ module _ (r : Routine) (t : Listing) (X : Exact r t) (G : GoodStarts r) (a b : �
             f .2,
             fits-match (f .0 .after) (y .after) (f .3),
             rec (f .0 .after) (y .after) (f .3) cs (let z = rw (p, trace) at l in omega arith)
-                (subst (λ o. Unused sts (afterEntry q o) (fed (trace (moveOf T) (y .after) ns) cs)) (f .1) (v .1)),
+                (subst (λ o. AreUnused sts (afterEntry q o) (fed (trace (moveOf T) (y .after) ns) cs)) (f .1) (v .1)),
           ))
 
   -- there are always such cells
   supplied : (ns : List ℕ) (q : State) (c : Config) → Fits q c → (cs : List ℕ) × Supply sts q (trace (moveOf T) c ns) cs
-  supplied [] q c B = ([], record { enough = refl; unused = tt })
+  supplied [] q c B = ([], record { enough = refl; areUnused = tt })
   supplied (n ∷ ns) q c B = by-move (moveOf T c n) refl (λ q′ c′ B′. supplied ns q′ c′ B′)
     where
-      by-move : (o : Option (Step Config)) → moveOf T c n ≡ o
+      by-move : (o : Option (Advance Config)) → moveOf T c n ≡ o
           → ((q′ : State) (c′ : Config) → Fits q′ c′ → (cs : List ℕ) × Supply sts q′ (trace (moveOf T) c′ ns) cs)
           → (cs : List ℕ) × Supply sts q (trace (moveOf T) c (n ∷ ns)) cs
       by-move none p rec = let k = rec q c B in (k .0, rw (p, trace) (k .1))
@@ -189,8 +189,8 @@ module _ (r : Routine) (t : Listing) (X : Exact r t) (G : GoodStarts r) (a b : �
             d ∷ k .0,
             rw (p, trace) (record {
               enough = ap suc (k .1 .enough);
-              unused =
-                  (unused-past (q .heap), subst (λ o. Unused sts (afterEntry q o) (fed (trace (moveOf T) (y .after) ns) (k .0))) (sym (f .1)) (k .1 .unused));
+              areUnused =
+                  (unused-past (q .heap), subst (λ o. AreUnused sts (afterEntry q o) (fed (trace (moveOf T) (y .after) ns) (k .0))) (sym (f .1)) (k .1 .areUnused));
             }),
           )
 
@@ -201,6 +201,6 @@ module _ (r : Routine) (t : Listing) (X : Exact r t) (G : GoodStarts r) (a b : �
     start = fits-match q c B;
     toAutomaton = λ es. let k = follows es q c B in (k .0, k .1, matched q c (trace (stepOf sts) q es) (trace (moveOf T) c (k .0)) B (k .2));
     toRoutine =
-        λ ns cs S. matched q c (trace (stepOf sts) q (fed (trace (moveOf T) c ns) cs)) (trace (moveOf T) c ns) B (led ns q c B cs (S .enough) (S .unused));
+        λ ns cs S. matched q c (trace (stepOf sts) q (fed (trace (moveOf T) c ns) cs)) (trace (moveOf T) c ns) B (led ns q c B cs (S .enough) (S .areUnused));
     supply = λ ns. supplied ns q c B;
   }

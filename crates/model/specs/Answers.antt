@@ -1,36 +1,54 @@
--- What each case of an answer says, in 01's numbers: "A part of an answer with nothing to tell is 0." The contracts go by these.
--- Assumes nothing.
+-- What each case of an answer says, in 01's numbers. The contracts go by these: no two answers say the same. Assumes nothing.
 use Prim.Native.Nat.{ℕ}
-use mathlib.Core.List.{List}
-use Rattle.model.specs.Translate.{refusal, Outcome}
-use Rattle.model.specs.Image.{Folding, Unfolding, Stepping, stays}
+use mathlib.Core.List.{List, [], _∷_}
+use Rattle.model.specs.Records.{Refusal, refusal, Verdict, isAccepted, isRefused}
+use Rattle.model.specs.Translate.{Outcome}
+use Rattle.model.specs.Image.{Folding, Unfolding, StepAnswer, toNext, toFault, toStop, noStep, Stepping}
+use Rattle.model.specs.declared.Ended.{Ended}
+use Rattle.model.specs.declared.Ended.the-variants as ended
 use Rattle.model.specs.declared.Translated.{Translated}
 use Rattle.model.specs.declared.Translated.the-variants as translated
 use Rattle.model.specs.declared.Folded.{Folded}
-use Rattle.model.specs.declared.Unfolded.{Unfolded}
-use Rattle.model.specs.declared.Unfolded.the-variants as unfolded
 use Rattle.model.specs.declared.Stepped.{Stepped}
 use Rattle.model.specs.declared.Stepped.the-variants as stepped
+
+abbrev pub verdictOf : Ended → Verdict
+verdictOf ended.Accepted = isAccepted
+verdictOf (ended.Refused n p) = isRefused (refusal n p)
 
 -- the answer of `translate` with the bytes of the two tables
 abbrev pub outcomeOf : Translated → List ℕ → List ℕ → Outcome
 outcomeOf (translated.Listed l e) ls es =
-    record { refused = refusal 0 0; tables = record { locBytes = ls; edgeBytes = es; locCount = l; edgeCount = e } }
+    record { verdict = isAccepted; tables = record { locBytes = ls; edgeBytes = es; locCount = l; edgeCount = e } }
 outcomeOf (translated.Refused n p) ls es =
-    record { refused = refusal n p; tables = record { locBytes = ls; edgeBytes = es; locCount = 0; edgeCount = 0 } }
+    record { verdict = isRefused (refusal n p); tables = record { locBytes = ls; edgeBytes = es; locCount = 0; edgeCount = 0 } }
 
 abbrev pub foldingOf : Folded → Folding
-foldingOf f = record { refusal = f .refusal; shapeBytes = f .shape; counts = f .counters }
+foldingOf f = record { verdict = verdictOf (f .ended); recordBytes = f .shape; counts = f .counters }
 
 -- the answer of `unfold` with the bytes of the pointers and cells
-abbrev pub unfoldingOf : Unfolded → List ℕ → List ℕ → Unfolding
-unfoldingOf unfolded.Done ps cs = record { refusal = 0; ptrBytes = ps; cellBytes = cs }
-unfoldingOf (unfolded.Refused n) ps cs = record { refusal = n; ptrBytes = ps; cellBytes = cs }
+abbrev pub unfoldingOf : Ended → List ℕ → List ℕ → Unfolding
+unfoldingOf e ps cs = record { verdict = verdictOf e; ptrBytes = ps; cellBytes = cs }
+
+abbrev pub stepAnswerOf : Stepped → StepAnswer
+stepAnswerOf (stepped.Went b n) = toNext b (n .0)
+stepAnswerOf (stepped.Faulted f) = toFault f
+stepAnswerOf stepped.Stopped = toStop
+stepAnswerOf (stepped.Refused n p) = noStep (refusal n p)
 
 -- the answer of a step with the bytes of the pointers and cells
 abbrev pub steppingOf : Stepped → List ℕ → List ℕ → Stepping
-steppingOf (stepped.Went b n) ps cs =
-    record { refusal = 0; faultNo = 0; stop = 0; branchNo = b; nextNo = n .0; ptrBytes = ps; cellBytes = cs }
-steppingOf (stepped.Faulted f) ps cs = stays 0 f 0 ps cs
-steppingOf stepped.Stopped ps cs = stays 0 0 1 ps cs
-steppingOf (stepped.Refused n) ps cs = stays n 0 0 ps cs
+steppingOf s ps cs = record { answer = stepAnswerOf s; ptrBytes = ps; cellBytes = cs }
+
+-- ---- in numbers alone, as the calls for Rust and C tell them: "A part of an answer with nothing to tell is 0."
+
+abbrev pub refusalOf : Verdict → Refusal
+refusalOf isAccepted = refusal 0 0
+refusalOf (isRefused x) = x
+
+-- the fault, 1 for a stop, the branch and the next statement
+abbrev pub stepNumbers : StepAnswer → List ℕ
+stepNumbers (toNext b n) = 0 ∷ 0 ∷ b ∷ n ∷ []
+stepNumbers (toFault f) = f ∷ 0 ∷ 0 ∷ 0 ∷ []
+stepNumbers toStop = 0 ∷ 1 ∷ 0 ∷ 0 ∷ []
+stepNumbers (noStep x) = 0 ∷ 0 ∷ 0 ∷ 0 ∷ []

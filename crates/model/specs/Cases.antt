@@ -1,11 +1,11 @@
 -- 01, "Shelf cases": the cases marked P, as one table that antt computes through the whole translator. Assumes nothing.
 use Prim.Native.Nat.{ℕ, zero, suc, _+_, _*_, _/_, _%_, _^_}
 use mathlib.Core.Path.{_≡_, refl}
-use mathlib.Core.Bool.{Bool, true, _&&_}
+use mathlib.Core.Bool.{Bool, true, false, _&&_}
 use mathlib.Core.List.{List, [], _∷_, _++_, map}
 use lib.Dec.{eqb}
 use Rattle.model.specs.Base.{all, sameList, numbers, joined}
-use Rattle.model.specs.Records.{recordAt}
+use Rattle.model.specs.Records.{Verdict, isAccepted, isRefused, recordAt}
 use Rattle.model.specs.Translate.{Tables, check, listing, translate}
 
 -- the n bytes of a number, high byte first
@@ -25,11 +25,15 @@ record Case : Type 0 where
   input : List (List ℕ)
   output : List (List ℕ)
 
+abbrev isListed : Verdict → Bool
+isListed isAccepted = true
+isListed (isRefused x) = false
+
 -- accepted with tables of 32 places, which then hold the output
 abbrev holdsFor : Case → Bool
 holdsFor c =
     let o = translate (joined (c .input)) 1024 1024 in
-    eqb (o .refused .number) 0 && sameList (sameList eqb) (printed (o .tables)) (c .output)
+    isListed (o .verdict) && sameList (sameList eqb) (printed (o .tables)) (c .output)
 
 abbrev cases : List Case
 cases =
@@ -39,9 +43,9 @@ cases =
       output =
           line 0x4c00000100fefefefefefe 42
           ∷ line 0x4c010000fffefefefefe 44
-          ∷ line 0x4c0003 58
-          ∷ line 0x45000000010001 50
-          ∷ line 0x45000000020002 50
+          ∷ line 0x4c000300 56
+          ∷ line 0x4500000001000100 48
+          ∷ line 0x4500000002000200 48
           ∷ [];
     }
     -- P2: pointers 0 and 1 at node 0; p0 := p0.next
@@ -70,9 +74,9 @@ cases =
       input = line 0x5303000001 54 ∷ line 0x53 62 ∷ line 0x4800000100fefefefefefe 42 ∷ [];
       output =
           line 0x4c00000100fefefefefefe 42
-          ∷ line 0x4c0003 58
-          ∷ line 0x45000000010001 50
-          ∷ line 0x45000000010002 50
+          ∷ line 0x4c000300 56
+          ∷ line 0x4500000001000100 48
+          ∷ line 0x4500000001000200 48
           ∷ [];
     }
     -- P5: p0 at 0, successor of 0 is 1, of 1 is 1; p0.next := null: both leak
@@ -80,9 +84,9 @@ cases =
       input = line 0x5304000001 54 ∷ line 0x53 62 ∷ line 0x4800000200fefefefefe0101 40 ∷ [];
       output =
           line 0x4c00000200fefefefefe0101 40
-          ∷ line 0x4c0003 58
-          ∷ line 0x45000000010001 50
-          ∷ line 0x45000000010002 50
+          ∷ line 0x4c000300 56
+          ∷ line 0x4500000001000100 48
+          ∷ line 0x4500000001000200 48
           ∷ [];
     }
     -- P6: p0 at 0, p1 at 2, 0 and 2 lead to 1; p0.next := null
@@ -91,9 +95,9 @@ cases =
       output =
           line 0x4c0000030002fefefefe01fe01 38
           ∷ line 0x4c0100020001fefefefefefe 40
-          ∷ line 0x4c0003 58
+          ∷ line 0x4c000300 56
           ∷ line 0x450000000100010001100610 40
-          ∷ line 0x45000000020002 50
+          ∷ line 0x4500000002000200 48
           ∷ [];
     }
     -- P7: p0 := new, all null
@@ -128,8 +132,8 @@ cases =
       input = line 0x5304000001 54 ∷ line 0x53 62 ∷ line 0x48000000fffefefefefe 44 ∷ [];
       output =
           line 0x4c000000fffefefefefe 44
-          ∷ line 0x4c0002 58
-          ∷ line 0x4500000001 54
+          ∷ line 0x4c000200 56
+          ∷ line 0x4500000001000000 48
           ∷ [];
     }
     -- P11: test p0 = p1, both undefined: branch 0
@@ -138,7 +142,7 @@ cases =
       output =
           line 0x4c000000fffffefefefe 44
           ∷ line 0x4c010000fffffefefefe 44
-          ∷ line 0x4500000001 54
+          ∷ line 0x4500000001000000 48
           ∷ [];
     }
     ∷ []

@@ -7,7 +7,7 @@ use lib.ListN.{length, getD}
 use Rattle.model.specs.Base.{any, count, numbers, joined}
 use Rattle.model.specs.Heap.{Val, cell, null, undef, holds, Heap, ptr, next, sameHeap}
 use Rattle.model.specs.Shape.{Seg, cells, segments, foldBy}
-use Rattle.model.specs.Machine.{Op, stop, setNull, copy, load, clear, store, new, free, isNull, same, choose, skip, Stmt, Fault, faultNumber, putSlot, Kind, stops, picks, allocates, other, kind, Answer, refused, stopped, faulted, went, step}
+use Rattle.model.specs.Machine.{Op, stop, setNull, copy, load, clear, store, new, free, isNull, same, choose, skip, Stmt, Fault, faultNumber, putSlot, Kind, stops, picks, allocates, other, kind, entry, Answer, refused, stopped, faulted, went, step}
 
 -- "A location is a statement with a shape, or a statement with a fault."
 pub data Loc : Type 0 where
@@ -30,33 +30,34 @@ pub data Guard : Type 0 where
 pub data Weight : Type 0 where
   counter : ℕ → Weight
   one : Weight
-  rest : ℕ → Weight
+  less : ℕ → Weight
 
 abbrev pub addsCounter : ℕ → Weight → Bool
 addsCounter i (counter n) = eqb i n
 addsCounter i one = false
-addsCounter i (rest n) = eqb i n
+addsCounter i (less n) = eqb i n
 
 abbrev pub isOneCell : Weight → Bool
 isOneCell (counter n) = false
 isOneCell one = true
-isOneCell (rest n) = false
+isOneCell (less n) = false
 
-abbrev pub isRest : Weight → Bool
-isRest (counter n) = false
-isRest one = false
-isRest (rest n) = true
+abbrev pub isLess : Weight → Bool
+isLess (counter n) = false
+isLess one = false
+isLess (less n) = true
 
 -- an update: for each old node, whether its counter is added; and the constant plus one
 pub record Update : Type 0 where
   pub adds : List Bool
   pub plus : ℕ
 
--- the update that adds up what the cells of a segment stand for, over k old nodes
+-- The update that adds up what the cells of a segment stand for, over k old nodes. At most one cell of the heap is one less than a
+-- counter, since one node is split, so nothing is cut off where subtraction stops at 0.
 abbrev pub updateOf : ℕ → (ℕ → Weight) → Seg → Update
 updateOf k w s = record {
   adds = map (λ i. any (λ c. addsCounter i (w c)) (cells s)) (numbers 0 k);
-  plus = (1 + count (λ c. isOneCell (w c)) (cells s)) - count (λ c. isRest (w c)) (cells s);
+  plus = (1 + count (λ c. isOneCell (w c)) (cells s)) - count (λ c. isLess (w c)) (cells s);
 }
 
 -- A way to leave a location: the guard, the pick, the heap that the statement is run on, and what its cells stand for.
@@ -84,7 +85,7 @@ split n h = record {
   guard = isMore n;
   pick = 0;
   heap = splitHeap n (length (h .slots)) h;
-  weight = λ c. cond (eqb c n) one (cond (eqb c (length (h .slots))) (rest n) (counter c));
+  weight = λ c. cond (eqb c n) one (cond (eqb c (length (h .slots))) (less n) (counter c));
 }
 
 -- the value through which ops 3, 4, 5 and 7 read, write or free; null for the others
@@ -140,7 +141,7 @@ edgeBy s k y (went b t h) =
 
 -- the step that a way stands for; at new the cell is the first past the shape's nodes
 abbrev pub stepBy : Stmt → ℕ → Way → Answer
-stepBy st k y = step st (record { pick = y .pick; cellNo = k }) (y .heap)
+stepBy st k y = step st (entry (y .pick) k) (y .heap)
 
 abbrev pub edgesAt : ℕ → Stmt → Heap → List Edge
 edgesAt s st h =
@@ -149,7 +150,7 @@ edgesAt s st h =
 
 -- a statement past the last is a stop
 abbrev pub stmtAt : List Stmt → ℕ → Stmt
-stmtAt sts s = getD sts s (record { op = stop; first = 0; second = 0 })
+stmtAt sts s = getD sts s (record { op = stop; firstTarget = 0; secondTarget = 0 })
 
 abbrev pub edgesOf : List Stmt → Loc → List Edge
 edgesOf sts (at s h) = edgesAt s (stmtAt sts s) h

@@ -1,14 +1,14 @@
 -- 01, "Records", heap images: folding, unfolding and the plain step on bytes, each with its whole outcome. Assumes nothing.
 use Prim.Native.Nat.{ℕ, zero, suc, _-_, _+_}
-use mathlib.Core.Bool.{Bool, true, false, _&&_, cond}
+use mathlib.Core.Bool.{Bool, false, _&&_, cond, not}
 use mathlib.Core.List.{List, [], _∷_, _++_, map}
 use lib.Dec.{eqb, leb}
 use lib.ListN.{length, take, drop, replicate}
 use Rattle.model.specs.Base.{all, sum}
 use Rattle.model.specs.Heap.{Val, cell, null, undef, Slot, unused, holds, Heap, closed, kept}
 use Rattle.model.specs.Shape.{shape, counters, canonical}
-use Rattle.model.specs.Machine.{faultNumber, Kind, stops, picks, allocates, other, kind, Answer, refused, stopped, faulted, went, step}
-use Rattle.model.specs.Records.{valByte, valOf, slotByte, byte, isZero, isS, filled, shapeRecord, layoutH, shapeOf, stmtOf, refusalS}
+use Rattle.model.specs.Machine.{faultNumber, Kind, stops, picks, allocates, other, kind, Entry, entry, accepts, Answer, refused, stopped, faulted, went, step}
+use Rattle.model.specs.Records.{valByte, valOf, slotByte, byte, isZero, isS, filled, shapeRecord, layoutH, shapeOf, stmtOf, Refusal, refusal, Verdict, isAccepted, isRefused, Row, unless, firstFailed, checksS}
 
 -- "six pointer bytes and 0 to 240 cell bytes: a cell number, 0xfe, 0xff, or for a cell 0xfd (not in use)"
 abbrev pub cellSlot : ℕ → Slot
@@ -20,25 +20,33 @@ heapOf ps cs = record { ptrs = map valOf ps; slots = map cellSlot cs }
 abbrev pub lengths : List ℕ → List ℕ → Bool
 lengths ps cs = eqb (length ps) 6 && leb (length cs) 240
 
--- 13 and 14, 0 for none
-abbrev pub refusalImage : List ℕ → List ℕ → ℕ
-refusalImage ps cs =
+-- "13: pointers not six bytes, over 240 cells, or a value naming no cell in use", "14: a used cell unreachable"
+abbrev pub checksImage : List ℕ → List ℕ → List Row
+checksImage ps cs =
     let h = heapOf ps cs in
-    elim (lengths ps cs && closed h) [ false ↦ 13 | true ↦ cond (kept h) 0 14 ]
+    unless 13 (lengths ps cs && closed h) ∷ unless 14 (kept h) ∷ []
+
+abbrev pub refusalImage : List ℕ → List ℕ → ℕ
+refusalImage ps cs = firstFailed (checksImage ps cs)
+
+-- the refusal of number n, where it is one: the place is 0 in these calls
+abbrev pub verdictBy : ℕ → Verdict
+verdictBy zero = isAccepted
+verdictBy (suc n) = isRefused (refusal (suc n) 0)
 
 -- ---- folding
 
 pub record Folding : Type 0 where
-  pub refusal : ℕ
-  pub shapeBytes : List ℕ
+  pub verdict : Verdict
+  pub recordBytes : List ℕ
   pub counts : List ℕ
 
 -- "Folding gives an H record and twelve counters of 32 bits (0 past k)." A refused fold gives zeros.
 unfoldable pub foldImage : List ℕ → List ℕ → Folding
 foldImage ps cs =
     elim (refusalImage ps cs) [
-      | zero ↦ let h = heapOf ps cs in record { refusal = 0; shapeBytes = shapeRecord (shape h); counts = filled 12 (counters h) }
-      | suc n ↦ record { refusal = suc n; shapeBytes = replicate 32 0; counts = replicate 12 0 }
+      | zero ↦ let h = heapOf ps cs in record { verdict = isAccepted; recordBytes = shapeRecord (shape h); counts = filled 12 (counters h) }
+      | suc n ↦ record { verdict = verdictBy (suc n); recordBytes = replicate 32 0; counts = replicate 12 0 }
     ]
 
 -- ---- unfolding: "numbers cells from 0, node by node, head to tail"
@@ -73,26 +81,31 @@ abbrev pub unfoldHeap : Heap → List ℕ → Heap
 unfoldHeap h cs = record { ptrs = map (spread cs) (h .ptrs); slots = strands cs 0 (h .slots) cs }
 
 -- "15: a counter of 0 below k or not 0 past it, or a sum above the cell length"
-abbrev pub countersFit : ℕ → List ℕ → ℕ → Bool
-countersFit k vs n = all (leb 1) (take k vs) && all isZero (drop k vs) && leb (sum (λ v. v) vs) n
+abbrev pub countsFit : ℕ → List ℕ → ℕ → Bool
+countsFit k vs n = all (leb 1) (take k vs) && all isZero (drop k vs) && leb (sum (λ v. v) vs) n
 
--- 13 for the lengths, then 8, 9 and 15; r a record, vs the counters, np and nc the lengths of pointers and cells
+-- there are twelve counters
+abbrev pub countersFit : ℕ → List ℕ → ℕ → Bool
+countersFit k vs n = eqb (length vs) 12 && countsFit k vs n
+
+-- "Unfolding checks the lengths (13), then 8, 9, 15"; r a record, vs the counters, np and nc the lengths of pointers and cells
+abbrev pub checksUnfold : List ℕ → List ℕ → ℕ → ℕ → List Row
+checksUnfold r vs np nc =
+    unless 13 (eqb np 6 && leb nc 240)
+    ∷ unless 8 (eqb (length r) 32 && layoutH r)
+    ∷ unless 9 (canonical (shapeOf r))
+    ∷ unless 15 (countersFit (byte r 3) vs nc)
+    ∷ []
+
 abbrev pub refusalUnfold : List ℕ → List ℕ → ℕ → ℕ → ℕ
-refusalUnfold r vs np nc =
-    elim (eqb np 6 && leb nc 240) [
-      | false ↦ 13
-      | true ↦ elim (eqb (length r) 32 && layoutH r) [
-        | false ↦ 8
-        | true ↦ elim (canonical (shapeOf r)) [ false ↦ 9 | true ↦ cond (countersFit (byte r 3) vs nc) 0 15 ]
-      ]
-    ]
+refusalUnfold r vs np nc = firstFailed (checksUnfold r vs np nc)
 
 pub record Unfolding : Type 0 where
-  pub refusal : ℕ
+  pub verdict : Verdict
   pub ptrBytes : List ℕ
   pub cellBytes : List ℕ
 
--- the heap's bytes, "and marks the rest 0xfd" up to n cells
+-- the heap's bytes, "and marks the rest 0xfd" up to n cells; they fit, so nothing is cut off where subtraction stops at 0
 abbrev pub cellBytesOf : ℕ → Heap → List ℕ
 cellBytesOf n h = let ss = map slotByte (h .slots) in ss ++ replicate (n - length ss) 0xfd
 
@@ -100,26 +113,36 @@ unfoldable pub unfoldImage : List ℕ → List ℕ → List ℕ → List ℕ →
 unfoldImage r vs ps cs =
     elim (refusalUnfold r vs (length ps) (length cs)) [
       | zero ↦ let h = unfoldHeap (shapeOf r) (take (byte r 3) vs) in
-          record { refusal = 0; ptrBytes = map valByte (h .ptrs); cellBytes = cellBytesOf (length cs) h }
-      | suc n ↦ record { refusal = suc n; ptrBytes = ps; cellBytes = cs }
+          record { verdict = isAccepted; ptrBytes = map valByte (h .ptrs); cellBytes = cellBytesOf (length cs) h }
+      | suc n ↦ record { verdict = verdictBy (suc n); ptrBytes = ps; cellBytes = cs }
     ]
 
 -- ---- the plain step
 
--- "It answers the branch and next statement, or a fault, or stop; at a fault, a stop or a refusal both numbers are 0 and the heap stays."
+-- "It answers the branch and next statement, or a fault, or stop"
+pub data StepAnswer : Type 0 where
+  toNext : ℕ → ℕ → StepAnswer  -- branch, next statement
+  toFault : ℕ → StepAnswer
+  toStop : StepAnswer
+  noStep : Refusal → StepAnswer
+
 pub record Stepping : Type 0 where
-  pub refusal : ℕ
-  pub faultNo : ℕ
-  pub stop : ℕ  -- 1 at a stop
-  pub branchNo : ℕ
-  pub nextNo : ℕ
+  pub answer : StepAnswer
   pub ptrBytes : List ℕ
   pub cellBytes : List ℕ
 
-abbrev pub stays : ℕ → ℕ → ℕ → List ℕ → List ℕ → Stepping
-stays n f z ps cs = record { refusal = n; faultNo = f; stop = z; branchNo = 0; nextNo = 0; ptrBytes = ps; cellBytes = cs }
+-- "at a fault, a stop or a refusal .. the heap stays"
+abbrev pub stays : StepAnswer → List ℕ → List ℕ → Stepping
+stays a ps cs = record { answer = a; ptrBytes = ps; cellBytes = cs }
 
--- 16: the machine refuses the entry; or, at new, the cell is past the end
+-- how a step ended
+abbrev pub stepVerdict : StepAnswer → Verdict
+stepVerdict (toNext b n) = isAccepted
+stepVerdict (toFault f) = isAccepted
+stepVerdict toStop = isAccepted
+stepVerdict (noStep x) = isRefused x
+
+-- at new, the cell c is past the end of n cells
 abbrev pub pastEnd : Kind → ℕ → ℕ → Bool
 pastEnd stops c n = false
 pastEnd picks c n = false
@@ -127,34 +150,31 @@ pastEnd allocates c n = leb n c
 pastEnd other c n = false
 
 abbrev pub answered : Answer → List ℕ → List ℕ → Stepping
-answered refused ps cs = stays 16 0 0 ps cs
-answered stopped ps cs = stays 0 0 1 ps cs
-answered (faulted f) ps cs = stays 0 (faultNumber f) 0 ps cs
+answered refused ps cs = stays (noStep (refusal 16 0)) ps cs
+answered stopped ps cs = stays toStop ps cs
+answered (faulted f) ps cs = stays (toFault (faultNumber f)) ps cs
 answered (went b t h) ps cs = record {
-  refusal = 0;
-  faultNo = 0;
-  stop = 0;
-  branchNo = b;
-  nextNo = t;
+  answer = toNext b t;
   ptrBytes = map valByte (h .ptrs);
   cellBytes = map slotByte (h .slots);
 }
 
--- 13, 14, 4, 5, 6 and 7, 0 for none: "Its targets need only be below 64."
-abbrev pub refusalStep : List ℕ → List ℕ → List ℕ → ℕ
-refusalStep r ps cs =
-    elim (refusalImage ps cs) [
-      | suc n ↦ suc n
-      | zero ↦ elim (eqb (length r) 32 && isS r) [ false ↦ 4 | true ↦ refusalS 64 r ]
-    ]
+-- "16: pick above 1 at choose; at new, a cell in use or past the end"
+abbrev pub entryFits : Kind → Entry → Heap → Bool
+entryFits k e h = not (pastEnd k (e .cellNo) (length (h .slots))) && accepts k e h
+
+-- "a plain step 13, 14, 4 (its record is no S), 5, 6, 7": "Its targets need only be below 64."
+abbrev pub checksStatement : List ℕ → List ℕ → List ℕ → List Row
+checksStatement r ps cs = checksImage ps cs ++ unless 4 (eqb (length r) 32 && isS r) ∷ checksS 64 r
+
+-- and then 16
+abbrev pub checksStep : List ℕ → Entry → List ℕ → List ℕ → List Row
+checksStep r e ps cs = checksStatement r ps cs ++ unless 16 (entryFits (kind (stmtOf r .op)) e (heapOf ps cs)) ∷ []
 
 -- statement record r, pick p, cell c, pointers ps, cells cs
 unfoldable pub stepImage : List ℕ → ℕ → ℕ → List ℕ → List ℕ → Stepping
 stepImage r p c ps cs =
-    elim (refusalStep r ps cs) [
-      | suc n ↦ stays (suc n) 0 0 ps cs
-      | zero ↦ elim (pastEnd (kind (stmtOf r .op)) c (length cs)) [
-        | true ↦ stays 16 0 0 ps cs
-        | false ↦ answered (step (stmtOf r) (record { pick = p; cellNo = c }) (heapOf ps cs)) ps cs
-      ]
+    elim (firstFailed (checksStep r (entry p c) ps cs)) [
+      | suc n ↦ stays (noStep (refusal (suc n) 0)) ps cs
+      | zero ↦ answered (step (stmtOf r) (entry p c) (heapOf ps cs)) ps cs
     ]

@@ -23,8 +23,8 @@ pub data Op : Type 0 where
 
 pub record Stmt : Type 0 where
   pub op : Op
-  pub first : ℕ
-  pub second : ℕ
+  pub firstTarget : ℕ
+  pub secondTarget : ℕ
 
 -- "Reading or writing through null is fault 1; through undefined, fault 2. .. fault 3 (a leak)"
 pub data Fault : Type 0 where
@@ -105,8 +105,8 @@ abbrev pub keep : Effect → Effect
 keep (fault f) = fault f
 keep (done h) = cond (kept h) (done h) (fault leak)
 
-abbrev pub run : Op → ℕ → Heap → Effect
-run op n h = keep (effect op n h)
+abbrev pub carryOut : Op → ℕ → Heap → Effect
+carryOut op n h = keep (effect op n h)
 
 -- ---- one step
 
@@ -130,8 +130,8 @@ branch choose p h = p
 branch skip p h = 0
 
 abbrev pub target : Stmt → ℕ → ℕ
-target st zero = st .first
-target st (suc b) = st .second
+target st zero = st .firstTarget
+target st (suc b) = st .secondTarget
 
 -- what an entry is looked at for
 pub data Kind : Type 0 where
@@ -158,6 +158,9 @@ kind skip = other
 pub record Entry : Type 0 where
   pub pick : ℕ
   pub cellNo : ℕ
+
+abbrev pub entry : ℕ → ℕ → Entry
+entry p c = record { pick = p; cellNo = c }
 
 -- "Refused are a pick above 1 at choose and a cell in use at new."
 abbrev pub accepts : Kind → Entry → Heap → Bool
@@ -186,4 +189,4 @@ unlessStop other a = a
 abbrev pub step : Stmt → Entry → Heap → Answer
 step st e h =
     let k = kind (st .op) in
-    cond (accepts k e h) (unlessStop k (answerOf st (branch (st .op) (e .pick) h) (run (st .op) (e .cellNo) h))) refused
+    cond (accepts k e h) (unlessStop k (answerOf st (branch (st .op) (e .pick) h) (carryOut (st .op) (e .cellNo) h))) refused

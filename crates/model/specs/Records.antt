@@ -23,7 +23,7 @@ abbrev pub slotByte : Slot → ℕ
 slotByte unused = 0xfd
 slotByte (holds v) = valByte v
 
--- a list made n long by zeros
+-- a list made n long by zeros; a longer one stays as it is, since subtraction stops at 0
 abbrev pub filled : ℕ → List ℕ → List ℕ
 filled n xs = xs ++ replicate (n - length xs) 0
 
@@ -88,7 +88,7 @@ opOf op u w =
     getD (stop ∷ setNull u ∷ copy u w ∷ load u w ∷ clear u ∷ store u w ∷ new u ∷ free u ∷ isNull u ∷ same u w ∷ choose ∷ skip ∷ []) op stop
 
 abbrev pub stmtOf : List ℕ → Stmt
-stmtOf r = record { op = opOf (byte r 1) (byte r 2) (byte r 3); first = byte r 4; second = byte r 5 }
+stmtOf r = record { op = opOf (byte r 1) (byte r 2) (byte r 3); firstTarget = byte r 4; secondTarget = byte r 5 }
 
 -- H and L: 1 statement, 2 fault, 3 node count, 4 to 9 the pointers, 10 to 21 the successors
 abbrev pub valOf : ℕ → Val
@@ -100,7 +100,35 @@ shapeOf r = record {
   slots = map (λ b. holds (valOf b)) (take (byte r 3) (drop 10 r));
 }
 
--- ---- the refusals of a record, 0 for none
+-- ---- refusals
+
+-- "a numbered refusal with its place"
+pub record Refusal : Type 0 where
+  pub number : ℕ
+  pub place : ℕ
+
+abbrev pub refusal : ℕ → ℕ → Refusal
+refusal n p = record { number = n; place = p }
+
+-- how a call ends: accepted, or refused
+pub data Verdict : Type 0 where
+  isAccepted : Verdict
+  isRefused : Refusal → Verdict
+
+-- a row of 01's table: the number, and whether its condition is not met
+pub record Row : Type 0 where
+  pub number : ℕ
+  pub passes : Bool
+
+abbrev pub unless : ℕ → Bool → Row
+unless n b = record { number = n; passes = b }
+
+-- the number of the first check that does not pass, 0 for none
+abbrev pub firstFailed : List Row → ℕ
+firstFailed [] = 0
+firstFailed (c ∷ cs) = elim (c .passes) [ true ↦ firstFailed cs | false ↦ c .number ]
+
+-- ---- the refusals of a record
 
 -- which fields an op uses
 abbrev pub usesU : ℕ → Bool
@@ -139,8 +167,12 @@ targetsS n r =
     let op = byte r 1 in
     targetBelow n (usesFirst op) (byte r 4) && targetBelow n (usesSecond op) (byte r 5)
 
+-- "5: op above 11", then 6 and 7; among n statements
+abbrev pub checksS : ℕ → List ℕ → List Row
+checksS n r = unless 5 (leb (byte r 1) 11) ∷ unless 6 (fieldsS r) ∷ unless 7 (targetsS n r) ∷ []
+
 abbrev pub refusalS : ℕ → List ℕ → ℕ
-refusalS n r = cond (ltb 11 (byte r 1)) 5 (cond (fieldsS r) (cond (targetsS n r) 0 7) 6)
+refusalS n r = firstFailed (checksS n r)
 
 -- a byte that is a value in a shape of k nodes
 abbrev pub valueByte : ℕ → ℕ → Bool
@@ -153,10 +185,10 @@ layoutH r =
     isH r && isZero (byte r 1) && isZero (byte r 2) && leb k 12
     && all (valueByte k) (take (6 + k) (drop 4 r)) && all isZero (drop (10 + k) r)
 
--- 8, 9 and 10, after earlier records
+-- "9: a node unreachable or not core, or another numbering", "10: equal to an earlier H"
+abbrev pub checksH : List (List ℕ) → List ℕ → List Row
+checksH earlier r =
+    unless 8 (layoutH r) ∷ unless 9 (canonical (shapeOf r)) ∷ unless 10 (not (any (sameList eqb r) earlier)) ∷ []
+
 abbrev pub refusalH : List (List ℕ) → List ℕ → ℕ
-refusalH earlier r =
-    elim (layoutH r) [
-      | false ↦ 8
-      | true ↦ elim (canonical (shapeOf r)) [ false ↦ 9 | true ↦ cond (any (sameList eqb r) earlier) 10 0 ]
-    ]
+refusalH earlier r = firstFailed (checksH earlier r)

@@ -12,21 +12,21 @@ use Rattle.model.specs.Heap.{Heap, IsHeap, next, inUse}
 use Rattle.model.specs.Shape.{shape, counters}
 use Rattle.model.specs.Machine.{Stmt, Fault, faultNumber, Kind, stops, picks, allocates, other, kind, Entry, Answer, refused, stopped, faulted, went, step}
 use Rattle.model.specs.Edges.{stmtAt}
-use Rattle.model.specs.Records.{byte, word, recordAt, shapeOf}
+use Rattle.model.specs.Records.{isAccepted, byte, word, recordAt, shapeOf}
 use Rattle.model.specs.Translate.{good, check, Routine, Tables, translate}
 
 -- a step made or an edge taken: its branch, and what it leaves
-pub record Step (A : Type 0) : Type 0 where
+pub record Advance (A : Type 0) : Type 0 where
   pub branchNo : ℕ
   pub after : A
 
 -- The steps made along a list, in order; what is refused makes none and changes nothing.
-abbrev pub trace : {A B : Type 0} → (A → B → Option (Step A)) → A → List B → List (Step A)
+abbrev pub trace : {A B : Type 0} → (A → B → Option (Advance A)) → A → List B → List (Advance A)
 trace f a [] = []
 trace f a (b ∷ bs) = elim (f a b) [ none ↦ trace f a bs | some s ↦ s ∷ trace f (s .after) bs ]
 
 -- where the list ends
-abbrev pub final : {A : Type 0} → A → List (Step A) → A
+abbrev pub final : {A : Type 0} → A → List (Advance A) → A
 final a [] = a
 final a (s ∷ ss) = final (s .after) ss
 
@@ -42,17 +42,17 @@ pub record State : Type 0 where
   pub heap : Heap
 
 -- "A step that faults has branch 0 and leaves the heap and the statement as they stood"
-abbrev pub made : State → Answer → Option (Step State)
+abbrev pub made : State → Answer → Option (Advance State)
 made q refused = none
 made q stopped = none
 made q (faulted f) = some (record { branchNo = 0; after = record { stmt = q .stmt; status = past f; heap = q .heap } })
 made q (went b t h) = some (record { branchNo = b; after = record { stmt = t; status = running; heap = h } })
 
-abbrev pub stepIn : Status → List Stmt → State → Entry → Option (Step State)
+abbrev pub stepIn : Status → List Stmt → State → Entry → Option (Advance State)
 stepIn running sts q e = made q (step (stmtAt sts (q .stmt)) e (q .heap))
 stepIn (past f) sts q e = none
 
-abbrev pub stepOf : List Stmt → State → Entry → Option (Step State)
+abbrev pub stepOf : List Stmt → State → Entry → Option (Advance State)
 stepOf sts q e = stepIn (q .status) sts q e
 
 -- "at a stop or past a fault"
@@ -80,7 +80,8 @@ abbrev pub added : ℕ → List ℕ → ℕ
 added m [] = 0
 added m (c ∷ cs) = m % 2 * c + added (m / 2) cs
 
--- "each new counter its constant plus the old counters that it adds"; the constant stands plus one in bits 12 and 13
+-- "each new counter its constant plus the old counters that it adds"; the constant stands plus one in bits 12 and 13. Where it is −1 a
+-- counter of 1 or more is added, so nothing is cut off where subtraction stops at 0.
 abbrev pub applied : List ℕ → ℕ → ℕ
 applied cs u = (added (u % 4096) cs + u / 4096 % 4) - 1
 
@@ -101,13 +102,13 @@ enabled t c n =
     let r = recordAt (t .edgeBytes) n in
     ltb n (t .edgeCount) && eqb (word r 2) (c .loc) && guardHolds (byte r 6) (getD (c .values) (byte r 7) 0)
 
-abbrev pub taken : Tables → Config → List ℕ → Step Config
+abbrev pub taken : Tables → Config → List ℕ → Advance Config
 taken t c r = record {
   branchNo = byte r 1;
   after = record { loc = word r 4; values = map (applied (c .values)) (updatesOf (nodesAt t (word r 4)) r) };
 }
 
-abbrev pub moveOf : Tables → Config → ℕ → Option (Step Config)
+abbrev pub moveOf : Tables → Config → ℕ → Option (Advance Config)
 moveOf t c n = cond (enabled t c n) (some (taken t c (recordAt (t .edgeBytes) n))) none
 
 -- an edge in use leaves the location
@@ -133,50 +134,50 @@ DescribesIn (past f) sh cs h = Unit {0}
 -- "The two match when the location's statement and fault are the routine's and, without a fault, its shape with the automaton's
 -- counters describes the heap. .. No edge leaves the location exactly when the routine is at a stop or past a fault."
 pub record Match (sts : List Stmt) (t : Tables) (q : State) (c : Config) : Type 0 where
-  pub listed : c .loc < t .locCount
-  pub statement : byte (recordAt (t .locBytes) (c .loc)) 1 ≡ q .stmt
-  pub fault : byte (recordAt (t .locBytes) (c .loc)) 2 ≡ faultOf (q .status)
+  pub isLocation : c .loc < t .locCount
+  pub statementIs : byte (recordAt (t .locBytes) (c .loc)) 1 ≡ q .stmt
+  pub faultIs : byte (recordAt (t .locBytes) (c .loc)) 2 ≡ faultOf (q .status)
   pub describes : DescribesIn (q .status) (shapeOf (recordAt (t .locBytes) (c .loc))) (c .values) (q .heap)
   pub ends : leaves t (c .loc) ≡ not (ended sts q)
 
 -- The steps made and the edges taken pair off in order, branch for branch, and the two match after each pair.
-abbrev pub Paired : List Stmt → Tables → List (Step State) → List (Step Config) → Type 0
+abbrev pub Paired : List Stmt → Tables → List (Advance State) → List (Advance Config) → Type 0
 Paired sts t [] [] = Unit {0}
 Paired sts t [] (y ∷ ys) = ⊥
 Paired sts t (x ∷ xs) [] = ⊥
 Paired sts t (x ∷ xs) (y ∷ ys) = (x .branchNo ≡ y .branchNo) × Match sts t (x .after) (y .after) × Paired sts t xs ys
 
 -- two whole lists: the steps and the edges pair off, and the two match where the lists end
-pub record Matched (sts : List Stmt) (t : Tables) (q : State) (c : Config) (xs : List (Step State)) (ys : List (Step Config)) : Type 0 where
+pub record Matched (sts : List Stmt) (t : Tables) (q : State) (c : Config) (xs : List (Advance State)) (ys : List (Advance Config)) : Type 0 where
   pub pairs : Paired sts t xs ys
-  pub after : Match sts t (final q xs) (final c ys)
+  pub atEnd : Match sts t (final q xs) (final c ys)
 
 -- each edge number of the list is taken, and is at its turn the only enabled edge of its branch
 abbrev pub Forced : Tables → Config → List ℕ → Type 0
 Forced t c [] = Unit {0}
 Forced t c (n ∷ ns) =
-    (y : Step Config) × (moveOf t c n ≡ some y)
-    × ((m : ℕ) (z : Step Config) → moveOf t c m ≡ some z → z .branchNo ≡ y .branchNo → m ≡ n) × Forced t (y .after) ns
+    (y : Advance Config) × (moveOf t c n ≡ some y)
+    × ((m : ℕ) (z : Advance Config) → moveOf t c m ≡ some z → z .branchNo ≡ y .branchNo → m ≡ n) × Forced t (y .after) ns
 
 -- the entries with the branches of the edges taken as picks, and given cells
-abbrev pub fed : List (Step Config) → List ℕ → List Entry
+abbrev pub fed : List (Advance Config) → List ℕ → List Entry
 fed [] cs = []
 fed (y ∷ ys) [] = []
 fed (y ∷ ys) (c ∷ cs) = record { pick = y .branchNo; cellNo = c } ∷ fed ys cs
 
 -- each entry's cell is not in use when its turn comes
-abbrev pub afterEntry : State → Option (Step State) → State
+abbrev pub afterEntry : State → Option (Advance State) → State
 afterEntry q none = q
 afterEntry q (some x) = x .after
 
-abbrev pub Unused : List Stmt → State → List Entry → Type 0
-Unused sts q [] = Unit {0}
-Unused sts q (e ∷ es) = (inUse (next (q .heap) (e .cellNo)) ≡ false) × Unused sts (afterEntry q (stepOf sts q e)) es
+abbrev pub AreUnused : List Stmt → State → List Entry → Type 0
+AreUnused sts q [] = Unit {0}
+AreUnused sts q (e ∷ es) = (inUse (next (q .heap) (e .cellNo)) ≡ false) × AreUnused sts (afterEntry q (stepOf sts q e)) es
 
 -- cells for the edges taken, each not in use when its turn comes
-pub record Supply (sts : List Stmt) (q : State) (ys : List (Step Config)) (cs : List ℕ) : Type 0 where
+pub record Supply (sts : List Stmt) (q : State) (ys : List (Advance Config)) (cs : List ℕ) : Type 0 where
   pub enough : length cs ≡ length ys
-  pub unused : Unused sts q (fed ys cs)
+  pub areUnused : AreUnused sts q (fed ys cs)
 
 -- Whole lists are matched from here, in either direction.
 pub record Matching (sts : List Stmt) (t : Tables) (q : State) (c : Config) : Type 0 where
@@ -196,9 +197,9 @@ IsRoutine r t =
     → Matching (r .stmts) t (record { stmt = 0; status = running; heap = h }) (record { loc = i; values = cs })
 
 -- demand 3 of one input and of what its translation left
-abbrev pub DemandThree : List ℕ → Tables → Type 0
-DemandThree s t = (r : Routine) → check s ≡ good r → IsRoutine r t
+abbrev pub IsRoutineOf : List ℕ → Tables → Type 0
+IsRoutineOf s t = (r : Routine) → check s ≡ good r → IsRoutine r t
 
 -- Demand 3: for any accepted translation.
 unfoldable pub Demand3 : Type 0
-Demand3 = (s : List ℕ) (a b : ℕ) → translate s a b .refused .number ≡ 0 → DemandThree s (translate s a b .tables)
+Demand3 = (s : List ℕ) (a b : ℕ) → translate s a b .verdict ≡ isAccepted → IsRoutineOf s (translate s a b .tables)

@@ -10,7 +10,7 @@ use Rattle.model.specs.Base.{count, placeOf, joined}
 use Rattle.model.specs.Heap.{Heap}
 use Rattle.model.specs.Machine.{Stmt}
 use Rattle.model.specs.Edges.{Loc, at, Edge, sameLoc, edgesOf}
-use Rattle.model.specs.Records.{isS, isH, refusalS, refusalH, stmtOf, shapeOf, locRecord, edgeRecord}
+use Rattle.model.specs.Records.{Refusal, refusal, Verdict, isAccepted, isRefused, isS, isH, refusalS, refusalH, stmtOf, shapeOf, locRecord, edgeRecord}
 
 -- ---- the input
 
@@ -27,13 +27,6 @@ badKind afterH i (r ∷ rs) =
       | true ↦ badKind true (suc i) rs
       | false ↦ elim (isS r && not afterH) [ true ↦ badKind false (suc i) rs | false ↦ some i ]
     ]
-
-pub record Refusal : Type 0 where
-  pub number : ℕ
-  pub place : ℕ
-
-abbrev pub refusal : ℕ → ℕ → Refusal
-refusal n p = record { number = n; place = p }
 
 -- 5 to 10: the first record, counted from i, that is refused after the earlier ones, where there are n statements
 abbrev pub badRecord : ℕ → ℕ → List (List ℕ) → List (List ℕ) → Option Refusal
@@ -147,13 +140,14 @@ pub record Tables : Type 0 where
   pub edgeCount : ℕ
 
 pub record Outcome : Type 0 where
-  pub refused : Refusal  -- number 0, place 0 where nothing is refused
+  pub verdict : Verdict
   pub tables : Tables
 
 abbrev pub linkRecord : Link → List ℕ
 linkRecord l = edgeRecord (l .from) (l .dest) (l .edge)
 
--- "Each record is written into its lent table from its own offset onward; bytes after the last are zero."
+-- "Each record is written into its lent table from its own offset onward; bytes after the last are zero." The records fit into the n
+-- bytes, so nothing is cut off where subtraction stops at 0.
 abbrev pub tableOf : ℕ → List (List ℕ) → List ℕ
 tableOf n rs = joined rs ++ replicate (n - 32 * length rs) 0
 
@@ -167,10 +161,10 @@ tablesOf a b t = record {
 
 -- a refusal leaves both tables all zero, and both counts 0
 abbrev pub refusedWith : ℕ → ℕ → Refusal → Outcome
-refusedWith a b x = record { refused = x; tables = tablesOf a b (record { locs = []; links = [] }) }
+refusedWith a b x = record { verdict = isRefused x; tables = tablesOf a b (record { locs = []; links = [] }) }
 
 abbrev pub listedWith : ℕ → ℕ → Listing → Outcome
-listedWith a b t = record { refused = refusal 0 0; tables = tablesOf a b t }
+listedWith a b t = record { verdict = isAccepted; tables = tablesOf a b t }
 
 -- "at most 1,024 locations and 2,048 edges, and no more than length ÷ 32 rounded down"
 abbrev pub places : ℕ → ℕ → ℕ

@@ -16,17 +16,17 @@ pub enum Translated {
     Refused { number: u8, place: usize },
 }
 
-// What `fold` answers: the refusal's number (0 for none), the H record and the counters.
-pub struct Folded {
-    pub refusal: u8,
-    pub shape: [u8; 32],
-    pub counters: [u32; 12],
+// How a call ends that answers nothing else.
+pub enum Ended {
+    Accepted,
+    Refused { number: u8, place: usize },
 }
 
-// What `unfold` answers.
-pub enum Unfolded {
-    Done,
-    Refused { number: u8 },
+// What `fold` answers: how it ended, the H record and the counters.
+pub struct Folded {
+    pub ended: Ended,
+    pub shape: [u8; 32],
+    pub counters: [u32; 12],
 }
 
 // What a plain step answers.
@@ -34,5 +34,5 @@ pub enum Stepped {
     Went { branch: u8, next: Statement },
     Faulted { fault: u8 },
     Stopped,
-    Refused { number: u8 },
+    Refused { number: u8, place: usize },
 }

@@ -1,15 +1,17 @@
 -- Tests in a row, as the code makes them: a conjunction whose first part is known, the ops that use w, and the refusals of an S record.
 use Prim.Native.Nat.{ℕ, zero, suc, _+_, _≤_, _<_}
+use Rattle.model.proofs.Checks.{given-failed, pass-none}
 use mathlib.Core.Path.{_≡_, refl, sym, _∙_}
 use mathlib.Core.Bool.{Bool, true, false, _&&_, and-assoc}
 use mathlib.Core.List.{List}
 use native.Mathlib.Omega.{arith}
-use lib.Dec.{ltb}
+use lib.Dec.{leb}
 use lib.ListN.{take, drop}
 use borrow.Author.Tests.{ne-eqb}
 use Rattle.model.specs.Base.{all}
-use Rattle.model.specs.Records.{byte, isZero, targetField, usesFirst, usesSecond, usesW, fieldsS, targetsS, refusalS, valueByte, layoutH}
+use Rattle.model.specs.Records.{byte, isZero, targetField, usesFirst, usesSecond, usesW, fieldsS, targetsS, refusalS, valueByte, layoutH, checksS}
 use Rattle.record.specs.Checked.{pointersS, unusedS, headH}
+use mathlib.Core.Logic.{inl, inr}
 
 pub and-taken : {a b r : Bool} → a ≡ true → r ≡ b → r ≡ a && b
 and-taken h e = rw h e
@@ -46,14 +48,14 @@ pub w-none : (op : ℕ) → (op ≡ 2 → ⊥) → (op ≡ 3 → ⊥) → (op �
 w-none op a b c d = rw (ne-eqb op 2 a, ne-eqb op 3 b, ne-eqb op 5 c, ne-eqb op 9 d)
 
 module _ (n : ℕ) (r : List ℕ) where
-  pub refusal-5 : ltb 11 (byte r 1) ≡ true → 5 ≡ refusalS n r
-  refusal-5 o = rw o
+  pub refusal-5 : leb (byte r 1) 11 ≡ false → 5 ≡ refusalS n r
+  refusal-5 o = sym (given-failed (checksS n r) 5 (inl (refl, o)))
 
-  pub refusal-6 : ltb 11 (byte r 1) ≡ false → fieldsS r ≡ false → 6 ≡ refusalS n r
-  refusal-6 o f = rw (o, f)
+  pub refusal-6 : leb (byte r 1) 11 ≡ true → fieldsS r ≡ false → 6 ≡ refusalS n r
+  refusal-6 o f = sym (given-failed (checksS n r) 6 (inr (o, inl (refl, f))))
 
-  pub refusal-7 : ltb 11 (byte r 1) ≡ false → fieldsS r ≡ true → targetsS n r ≡ false → 7 ≡ refusalS n r
-  refusal-7 o f t = rw (o, f, t)
+  pub refusal-7 : leb (byte r 1) 11 ≡ true → fieldsS r ≡ true → targetsS n r ≡ false → 7 ≡ refusalS n r
+  refusal-7 o f t = sym (given-failed (checksS n r) 7 (inr (o, inr (f, inl (refl, t)))))
 
-  pub refusal-none : ltb 11 (byte r 1) ≡ false → fieldsS r ≡ true → targetsS n r ≡ true → 0 ≡ refusalS n r
-  refusal-none o f t = rw (o, f, t)
+  pub refusal-none : leb (byte r 1) 11 ≡ true → fieldsS r ≡ true → targetsS n r ≡ true → 0 ≡ refusalS n r
+  refusal-none o f t = sym (pass-none (checksS n r) (o, (f, (t, tt))))

@@ -1,4 +1,4 @@
--- The bytes that are written for a fault and an edge, and a table with a record put at its place.
+-- The bytes that are written for a fault, a location and an edge, and a table with a record put at its place.
 -- Assumes nothing.
 use Prim.Native.Nat.{ℕ, _+_, _*_}
 use mathlib.Core.List.{List, _∷_, _++_, map}
@@ -8,6 +8,10 @@ use Rattle.model.specs.Records.{filled, twoBytes}
 
 abbrev pub faultBytes : ℕ → ℕ → List ℕ
 faultBytes s f = 0x4c ∷ s ∷ f ∷ replicate 29 0
+
+-- an L record: the tag, a statement and a fault, and behind them what a record r of the shape has there
+abbrev pub locationBytes : ℕ → ℕ → List ℕ → List ℕ
+locationBytes s f r = 0x4c ∷ s ∷ f ∷ drop 3 r
 
 -- the first k updates, two bytes each
 abbrev pub updateBytes : List ℕ → ℕ → List ℕ

@@ -15,7 +15,7 @@ ghost use lib.Dec.{eqb};
 ghost use lib.ListN.{length, take, drop, replicate};
 ghost use Rattle.model.specs.Base.{sameList};
 ghost use Rattle.model.specs.Records.{refusalS, layoutH};
-ghost use Rattle.record.specs.Written.{faultBytes, edgeBytes, updateBytes, placed};
+ghost use Rattle.record.specs.Written.{faultBytes, locationBytes, edgeBytes, updateBytes, placed};
 
 // The refusal of an S record among n statements, 0 for none.
 pub fn statement_refusal(rec: &[u8], n: usize) -> u8
@@ -93,6 +93,17 @@ pub fn write_fault(part: &mut [u8], statement: Statement, fault: u8)
     ensures { λ _. ⌜ now (part .exit) ≡ faultBytes (statement .0) fault ++ drop 32 (now (part .entry)) ⌝ }
 {
     blank(part);
+    part[0] = 0x4c;
+    part[1] = statement.0;
+    part[2] = fault;
+}
+
+// An L record with the shape that the record rec has: the part is that of the location table from 32 times its number on.
+pub fn write_location(part: &mut [u8], statement: Statement, fault: u8, rec: &[u8])
+    requires { ⌜ (32 ≤ length (now part)) × (length (now rec) ≡ 32) ⌝ }
+    ensures { λ _. ⌜ now (part .exit) ≡ locationBytes (statement .0) fault (now (rec .entry)) ++ drop 32 (now (part .entry)) ⌝ }
+{
+    bytes::copy(rec, part);
     part[0] = 0x4c;
     part[1] = statement.0;
     part[2] = fault;

@@ -1,13 +1,13 @@
 -- One turn of the cut: from the tables of the segments of a list to those of the list with one cell behind.
 use Prim.Native.Nat.{ℕ, suc, _+_, _-_, _<_, _≤_}
 use mathlib.Core.Path.{_≡_, _∙_, ap, ap₂, refl, subst, sym}
-use mathlib.Core.Bool.{true, false}
+use mathlib.Core.Bool.{Bool, true, false}
 use mathlib.Core.List.{List, [], _∷_, _++_, map, map-append}
 use native.Mathlib.Numerals.{add-one}
 use native.Mathlib.Omega.{arith}
 use lib.Dec.{eqb}
 use lib.ListN.{length, getD, take, drop, set, length-map, List·getD-append, take-append-drop}
-use lib.Seq.{getD-at, getD-set-other, getD-set-same, getD-take, getD-append-seam, length-take-le, take-at, take-suc-set, take-take}
+use lib.Seq.{drop-drop, drop-set-lt, getD-at, getD-set-other, getD-set-same, getD-take, getD-append-seam, length-take-le, take-at, take-suc-set, take-take}
 use borrow.Author.Tests.{eqb-false, eqb-true}
 use Rattle.model.specs.Base.{mem}
 use Rattle.model.specs.Shape.{Seg, cells, last, size}
@@ -156,3 +156,13 @@ module _ (o : List ℕ) (n : ℕ) (h m₀ l₀ z₀ : List ℕ) (c : CutReady o 
   turn-at m′ l′ z′ r pt =
       rw (take-next o i (omega (arith, c .few))) (turn h (take i o) (getD o i 0) k m l z m′ l′ z′ r is ready-at pt
       (nodup-new (take i o) (getD o i 0) (nodup-l (take i o ++ getD o i 0 ∷ []) (drop (i + 1) (take n o)) (rw (order-at o n i b (c .few)) at (c .once)))))
+
+-- sizes past the segments that have begun stay: a cell that begins none goes behind one that has
+pub size-past : (b : Bool) (c k : ℕ) (m l z m′ l′ z′ : List ℕ) (r : ℕ) → Put b c k m l z m′ l′ z′ r → (z₀ : List ℕ) → (b ≡ false → 0 < k)
+    → drop k z ≡ drop k z₀ → drop r z′ ≡ drop r z₀
+size-past true c k m l z m′ l′ z′ r P z₀ h e =
+    ap₂ drop (P .number) (P .entered .size) ∙ drop-set-lt (k + 1) z k 1 (omega arith)
+    ∙ sym (drop-drop 1 k z) ∙ ap (drop 1) e ∙ drop-drop 1 k z₀ ∙ ap (λ i. drop i z₀) (sym (P .number))
+size-past false c k m l z m′ l′ z′ r P z₀ h e =
+    ap₂ drop (P .number) (P .entered .size) ∙ drop-set-lt k z (k - 1) (getD z (k - 1) 0 + 1) (omega (arith, h refl))
+    ∙ e ∙ ap (λ i. drop i z₀) (sym (P .number))

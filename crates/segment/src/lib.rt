@@ -1,10 +1,41 @@
 // The visit order cut into segments, and the values of the folded shape.
+use model::Node;
 ghost use mathlib.Core.Path.{_≡_};
 ghost use mathlib.Core.List.{_++_, map};
-ghost use Prim.Native.Nat.{_<_, _≤_};
+ghost use Prim.Native.Nat.{_+_, _-_, _<_, _≤_};
 ghost use lib.ListN.{length, getD, take, drop};
-ghost use Rattle.segment.specs.Cut.{CutReady, IsCut, Put, PutReady, heldCore, segs};
+ghost use Rattle.segment.specs.Cut.{CutReady, Entered, IsCut, Put, PutReady, heldCore, segs};
 ghost use Rattle.segment.specs.Fold.{foldByte, AllIn, LastsIn};
+
+// The node of the last of k segments.
+fn last_node(k: usize) -> Node
+    requires { ⌜ (0 < k) × (k ≤ 240) ⌝ }
+    ensures { λ r. ⌜ r .0 ≡ k - 1 ⌝ }
+{
+    Node((k - 1) as u8)
+}
+
+// The segment of node n begins with the cell.
+fn begin(head: u8, n: Node, node: &mut [u8], last: &mut [u8], size: &mut [u32])
+    requires { ⌜ (head < length (now node)) × (n .0 < length (now last)) × (n .0 < length (now size)) ⌝ }
+    ensures { λ _. ⌜ Entered head (n .0) 1 (now (node .entry)) (now (last .entry)) (now (size .entry)) (now (node .exit)) (now (last .exit)) (now (size .exit)) ⌝ }
+{
+    let j = n.0 as usize;
+    node[head as usize] = n.0;
+    last[j] = head;
+    size[j] = 1;
+}
+
+// The cell goes behind the segment of node n.
+fn extend(c: u8, n: Node, node: &mut [u8], last: &mut [u8], size: &mut [u32])
+    requires { ⌜ (c < length (now node)) × (n .0 < length (now last)) × (n .0 < length (now size)) × (getD (now size) (n .0) 0 < 240) ⌝ }
+    ensures { λ _. ⌜ Entered c (n .0) (getD (now (size .entry)) (n .0) 0 + 1) (now (node .entry)) (now (last .entry)) (now (size .entry)) (now (node .exit)) (now (last .exit)) (now (size .exit)) ⌝ }
+{
+    let j = n.0 as usize;
+    node[c as usize] = n.0;
+    last[j] = c;
+    size[j] += 1;
+}
 
 // One cell more, where k segments have begun: a core cell begins one, any other goes behind the last.
 fn put(c: u8, k: usize, held: &[u8], node: &mut [u8], last: &mut [u8], size: &mut [u32]) -> usize
@@ -12,20 +43,15 @@ fn put(c: u8, k: usize, held: &[u8], node: &mut [u8], last: &mut [u8], size: &mu
     ensures { λ r. ⌜ Put (heldCore (now (held .entry)) c) c k (now (node .entry)) (now (last .entry)) (now (size .entry)) (now (node .exit)) (now (last .exit)) (now (size .exit)) r ⌝ }
 {
     if 2 <= held[c as usize] {
-        node[c as usize] = k as u8;
-        last[k] = c;
-        size[k] = 1;
+        begin(c, Node(k as u8), node, last, size);
         return k + 1;
     }
-    let j = k - 1;
-    node[c as usize] = j as u8;
-    last[j] = c;
-    size[j] += 1;
+    extend(c, last_node(k), node, last, size);
     k
 }
 
 // Cuts the first n cells of the order before each core cell. Of each segment it keeps the last cell and the size, of each
-// cell the number of its segment, and it answers how many segments there are.
+// cell the number of its segment, and it answers how many segments there are. Sizes past these stay.
 pub fn cut(
     order: &[u8],
     n: usize,
@@ -36,6 +62,7 @@ pub fn cut(
 ) -> usize
     requires { ⌜ CutReady (now order) n (now held) (now node) (now last) (now size) ⌝ }
     ensures { λ r. ⌜ IsCut (segs (now (held .entry)) (take n (now (order .entry)))) (now (node .exit)) (now (last .exit)) (now (size .exit)) r ⌝ }
+    ensures past { λ r. ⌜ drop r (now (size .exit)) ≡ drop r (now (size .entry)) ⌝ }
 {
     let mut k = 0;
     let mut i = 0;

@@ -1,7 +1,8 @@
 -- The bytes that the code writes are those of the unfolded heap: values, strands and the whole image.
 use Prim.Native.Nat.{ℕ, zero, suc, _+_, _-_, _≤_, _<_}
+use Rattle.model.proofs.Images.{counters-fit}
 use mathlib.Core.Path.{_≡_, refl, sym, ap, ap₂, subst, _∙_}
-use mathlib.Core.Bool.{true, false, _&&_}
+use mathlib.Core.Bool.{true, false}
 use mathlib.Core.Logic.{inl, inr}
 use mathlib.Core.List.{List, [], _∷_, _++_, map, map-append}
 use native.Mathlib.Numerals.{add-one}
@@ -9,15 +10,14 @@ use native.Mathlib.Omega.{arith}
 use lib.Dec.{leb, ltb}
 use lib.ListN.{drop, length, length-drop, take}
 use lib.Seq.{length-take-le}
-use borrow.Author.Tests.{le-ltb, leb-true, lt-ltb}
+use borrow.Author.Tests.{le-ltb, lt-ltb}
 use Rattle.model.specs.Base.{all, sum}
 use Rattle.model.specs.Heap.{Slot, Val, cell, holds, null, undef}
 use Rattle.model.specs.Image.{cellBytesOf, firstCell, spread, strand, strands, unfoldHeap}
-use Rattle.model.specs.Records.{byte, isZero, shapeOf, slotByte, valByte, valOf}
+use Rattle.model.specs.Records.{byte, shapeOf, slotByte, valByte, valOf}
 use Rattle.model.proofs.Bytes.{byte-back}
 use Rattle.model.proofs.Listings.{SmallSlot, SmallVal}
 use Rattle.model.proofs.Lists.{In}
-use Rattle.model.proofs.Logic.{and-l, and-r}
 use Rattle.model.proofs.ShapeBack.{layout-few, layout-slots, layout-writable}
 use Rattle.model.proofs.Slices.{sum-take}
 use Rattle.spread.specs.Bytes.{FirstCells, imageBytes, placedByte, strandBytes, strandsBytes}
@@ -74,22 +74,20 @@ module _ (r vs ps cs : List ℕ) (ready : SpreadReady r vs ps cs) where
   pub ready-few : byte r 3 ≤ 12
   ready-few = layout-few r (ready .wide) (ready .isLayout)
 
-  two : all (leb 1) (take (byte r 3) vs) && all isZero (drop (byte r 3) vs) ≡ true
-  two = and-l (all (leb 1) (take (byte r 3) vs) && all isZero (drop (byte r 3) vs)) (leb (sum (λ v. v) vs) (length cs)) (ready .fit)
+  pub ready-twelve : length vs ≡ 12
+  ready-twelve = counters-fit (byte r 3) vs (length cs) (ready .fit) .0
 
   pub ready-positive : all (leb 1) (take (byte r 3) vs) ≡ true
-  ready-positive = and-l (all (leb 1) (take (byte r 3) vs)) (all isZero (drop (byte r 3) vs)) two
+  ready-positive = counters-fit (byte r 3) vs (length cs) (ready .fit) .1
 
   pub ready-total : sum (λ v. v) vs ≤ length cs
-  ready-total =
-      let last = leb (sum (λ v. v) vs) (length cs) in
-      leb-true (sum (λ v. v) vs) (length cs) (and-r (all (leb 1) (take (byte r 3) vs) && all isZero (drop (byte r 3) vs)) last (ready .fit))
+  ready-total = counters-fit (byte r 3) vs (length cs) (ready .fit) .3
 
   pub ready-nodes : sum (λ v. v) (take (byte r 3) vs) ≤ length cs
   ready-nodes = omega (arith, ready-total, sum-take (byte r 3) vs)
 
   pub ready-counters : length (take (byte r 3) vs) ≡ byte r 3
-  ready-counters = length-take-le (byte r 3) vs (omega (arith, ready .twelve, ready-few))
+  ready-counters = length-take-le (byte r 3) vs (omega (arith, ready-twelve, ready-few))
 
   -- the successors, as the part of the record that ends with the last one
   successors-end : 10 + byte r 3 - 10 ≡ byte r 3
@@ -106,7 +104,7 @@ module _ (r vs ps cs : List ℕ) (ready : SpreadReady r vs ps cs) where
     ready-pointers =
         let W = layout-writable r (ready .wide) (ready .isLayout) in
         let e = layout-slots r (ready .wide) (ready .isLayout) in
-        pointers-image vs fs (byte r 3) first same (omega (arith, ready .twelve)) (omega (arith, ready .twelve, ready-few)) (take 6 (drop 4 r))
+        pointers-image vs fs (byte r 3) first same (omega (arith, ready-twelve)) (omega (arith, ready-twelve, ready-few)) (take 6 (drop 4 r))
         (λ v q. subst (λ n. SmallVal n v) e (W .pointers v q))
 
     pub ready-cells : (n : ℕ) → imageBytes n (strandsBytes fs 0 (take (10 + byte r 3 - 10) (drop 10 r)) (take (byte r 3) vs))
@@ -115,5 +113,5 @@ module _ (r vs ps cs : List ℕ) (ready : SpreadReady r vs ps cs) where
         let W = layout-writable r (ready .wide) (ready .isLayout) in
         let e = layout-slots r (ready .wide) (ready .isLayout) in
         ap (λ m. imageBytes n (strandsBytes fs 0 (take m (drop 10 r)) (take (byte r 3) vs))) successors-end
-        ∙ ap (imageBytes n) (strands-image vs fs (byte r 3) first same (omega (arith, ready .twelve)) (omega (arith, ready .twelve, ready-few)) 0
+        ∙ ap (imageBytes n) (strands-image vs fs (byte r 3) first same (omega (arith, ready-twelve)) (omega (arith, ready-twelve, ready-few)) 0
         (take (byte r 3) (drop 10 r)) (take (byte r 3) vs) (λ s q. subst (λ m. SmallSlot m s) e (W .nexts s q)))

@@ -10,7 +10,6 @@ use Rattle.model.specs.Records.{byte, layoutH}
 pub record SpreadReady (r v ps cs : List ℕ) : Type 0 where
   pub wide : length r ≡ 32
   pub isLayout : layoutH r ≡ true
-  pub twelve : length v ≡ 12
   pub fit : countersFit (byte r 3) v (length cs) ≡ true
   pub six : length ps ≡ 6
   pub few : length cs ≤ 240

@@ -1,12 +1,13 @@
 // The heap image that a shape with counters unfolds to: cells are numbered from 0, node by node, head to tail.
+use model::Node;
 ghost use mathlib.Core.Path.{_≡_};
 ghost use mathlib.Core.Bool.{true};
 ghost use mathlib.Core.List.{_++_, map};
-ghost use Prim.Native.Nat.{_+_, _-_, _≤_};
+ghost use Prim.Native.Nat.{_+_, _-_, _<_, _≤_};
 ghost use lib.Dec.{leb};
-ghost use lib.ListN.{length, take, replicate};
+ghost use lib.ListN.{length, getD, take, replicate};
 ghost use Rattle.model.specs.Base.{all, sum};
-ghost use Rattle.model.specs.Image.{countersFit, unfoldHeap, cellBytesOf};
+ghost use Rattle.model.specs.Image.{countersFit, countsFit, unfoldHeap, cellBytesOf};
 ghost use Rattle.model.specs.Records.{byte, isZero, shapeOf, valByte};
 ghost use Rattle.spread.specs.Bytes.{FirstCells, imageBytes, placedByte, strandBytes, strandsBytes};
 ghost use Rattle.spread.specs.Spread.{SpreadReady};
@@ -53,10 +54,10 @@ fn total(counters: &[u32]) -> u64
     t
 }
 
-// Whether the counters fit k nodes and n cells.
-pub fn counters_fit(k: usize, counters: &[u32], n: usize) -> bool
+// Whether twelve counters fit k nodes and n cells.
+fn counts_fit(k: usize, counters: &[u32], n: usize) -> bool
     requires { ⌜ (length (now counters) ≡ 12) × (k ≤ 12) ⌝ }
-    ensures { λ r. ⌜ r ≡ countersFit k (now (counters .entry)) n ⌝ }
+    ensures { λ r. ⌜ r ≡ countsFit k (now (counters .entry)) n ⌝ }
 {
     if all_positive(&counters[..k]) {
         if all_zero(&counters[k..]) {
@@ -64,6 +65,17 @@ pub fn counters_fit(k: usize, counters: &[u32], n: usize) -> bool
         }
     }
     false
+}
+
+// Whether the counters are twelve, and fit k nodes and n cells.
+pub fn counters_fit(k: usize, counters: &[u32], n: usize) -> bool
+    requires { ⌜ k ≤ 12 ⌝ }
+    ensures { λ r. ⌜ r ≡ countersFit k (now (counters .entry)) n ⌝ }
+{
+    if counters.len() != 12 {
+        return false;
+    }
+    counts_fit(k, counters, n)
 }
 
 // Enters the first cell of each node into the table.
@@ -80,12 +92,24 @@ fn first_cells(counters: &[u32], firsts: &mut [u8])
     }
 }
 
+// The first cell of node n.
+fn first_of(firsts: &[u8], n: Node) -> u8
+    requires { ⌜ n .0 < length (now firsts) ⌝ }
+    ensures { λ r. ⌜ r ≡ getD (now (firsts .entry)) (n .0) 0 ⌝ }
+{
+    let i = n.0 as usize;
+    firsts[i]
+}
+
 // What a value of the shape is in the heap: a node becomes its first cell.
 fn placed(firsts: &[u8], value: u8) -> u8
     ensures { λ r. ⌜ r ≡ placedByte (now (firsts .entry)) value ⌝ }
 {
-    let n = value as usize;
-    if n < firsts.len() { firsts[n] } else { value }
+    if (value as usize) < firsts.len() {
+        first_of(firsts, Node(value))
+    } else {
+        value
+    }
 }
 
 // Writes the heap's pointers for those of the shape.

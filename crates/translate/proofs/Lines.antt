@@ -1,13 +1,14 @@
 -- The text of a table grows by a line with each record.
-use Prim.Native.Nat.{ℕ, zero, suc, _+_, _*_}
+use Prim.Native.Nat.{ℕ, zero, suc, _+_, _*_, _≤_}
 use mathlib.Core.Path.{_≡_, sym, ap, _∙_}
 use mathlib.Core.List.{List, _++_, append-assoc, append-nil, map}
 use native.Mathlib.Numerals.{add-one}
 use native.Mathlib.Omega.{arith}
-use lib.ListN.{take, drop}
+use lib.ListN.{length, take, drop}
 use lib.Seq.{drop-drop}
 use Rattle.model.specs.Base.{joined}
 use Rattle.model.specs.Translate.{chunks}
+use Rattle.model.proofs.Slices.{front-is}
 use Rattle.translate.specs.Text.{lineOf, linesOf}
 
 -- one record more of a table, f of each
@@ -23,3 +24,8 @@ chunks-next f (suc i) t =
 -- the records of a table, one more
 pub lines-next : (i : ℕ) (t : List ℕ) → linesOf (i + 1) t ≡ linesOf i t ++ lineOf (take 32 (drop (32 * i) t))
 lines-next i t = ap (λ n. linesOf n t) (add-one i) ∙ chunks-next lineOf i t
+
+-- s is t with v written from place a on: what then stands before the end of v
+pub part-appends : (t s v : List ℕ) (a n : ℕ) → length s ≡ length t → a + n ≤ length t → s ≡ take a t ++ (v ++ drop (a + n) t)
+    → take (a + n) s ≡ take a t ++ v
+part-appends t s v a n k h e = front-is t s (take a t ++ v) (a + n) k h (e ∙ sym (append-assoc (take a t) v (drop (a + n) t)))

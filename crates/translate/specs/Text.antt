@@ -1,10 +1,15 @@
--- The text of records, as the request's P1 fixes it: 64 hex digits a line. Assumes nothing.
-use Prim.Native.Nat.{ℕ, _+_, _/_, _%_}
+-- What the program writes, as the request's P1 fixes it: "prints each L, then each E, as 64 hex digits a line, or `refused`, number and
+-- place in base 10 with one space between". Assumes nothing.
+use Prim.Native.Nat.{ℕ, zero, suc, _+_, _/_, _%_}
 use mathlib.Core.Bool.{true, false}
 use mathlib.Core.List.{List, [], _∷_, _++_, map}
 use lib.Dec.{ltb}
+use lib.ListN.{take}
 use Rattle.model.specs.Base.{joined}
-use Rattle.model.specs.Translate.{chunks}
+use Rattle.model.specs.Records.{Refusal, isAccepted, isRefused}
+use Rattle.model.specs.Translate.{Outcome, chunks, translate}
+
+-- ---- records
 
 -- a digit below 16: 0 to 9, then a to f
 abbrev pub digitOf : ℕ → ℕ
@@ -24,3 +29,39 @@ lineOf r = joined (map byteOf r) ++ 10 ∷ []
 -- the first n records of a table, a line each
 abbrev pub linesOf : ℕ → List ℕ → List ℕ
 linesOf n t = joined (map lineOf (chunks n t))
+
+-- ---- a refusal
+
+-- a number in base 10, the high digit first, with at most f digits
+abbrev pub digitsWithin : ℕ → ℕ → List ℕ
+digitsWithin zero n = []
+digitsWithin (suc f) n =
+    elim (ltb n 10) [
+      | true ↦ (48 + n) ∷ []
+      | false ↦ digitsWithin f (n / 10) ++ (48 + n % 10) ∷ []
+    ]
+
+-- the same with all its digits, of which there are at most n + 1
+unfoldable pub decimalOf : ℕ → List ℕ
+decimalOf n = digitsWithin (suc n) n
+
+-- the word `refused` and a space
+abbrev pub refusedWord : List ℕ
+refusedWord = 0x72 ∷ 0x65 ∷ 0x66 ∷ 0x75 ∷ 0x73 ∷ 0x65 ∷ 0x64 ∷ 0x20 ∷ []
+
+abbrev pub refusalLine : Refusal → List ℕ
+refusalLine x = refusedWord ++ decimalOf (x .number) ++ 0x20 ∷ [] ++ decimalOf (x .place) ++ 10 ∷ []
+
+-- ---- the whole answer
+
+-- the locations and then the edges where nothing is refused, else the refusal
+unfoldable pub textOf : Outcome → List ℕ
+textOf o =
+    elim (o .verdict) [
+      | isAccepted ↦ linesOf (o .tables .locCount) (o .tables .locBytes) ++ linesOf (o .tables .edgeCount) (o .tables .edgeBytes)
+      | isRefused x ↦ refusalLine x
+    ]
+
+-- what is written for input s: "reads at most 4,096 bytes"; the tables have 1,024 and 2,048 places
+abbrev pub printed : List ℕ → List ℕ
+printed s = textOf (translate (take 4096 s) 32768 65536)

@@ -6,7 +6,9 @@ ghost use mathlib.Core.Path.{_≡_};
 ghost use mathlib.Core.List.{_++_};
 ghost use Prim.Native.Nat.{_+_, _*_, _≤_, _<_};
 ghost use lib.ListN.{length, take, drop};
-ghost use Rattle.translate.specs.Text.{digitOf, byteOf, lineOf, linesOf};
+ghost use Rattle.io.specs.Counts.{Counts};
+ghost use Rattle.model.specs.Records.{refusal};
+ghost use Rattle.translate.specs.Text.{byteOf, decimalOf, digitOf, lineOf, linesOf, printed, refusalLine};
 
 // A table for 1,024 locations.
 fn location_table() -> [u8; 32768]
@@ -15,11 +17,11 @@ fn location_table() -> [u8; 32768]
     [0; 32768]
 }
 
-// Room for 2,048 lines of 65 bytes.
-fn line_room() -> [u8; 133120]
-    ensures { λ r. ⌜ 133120 ≡ length r ⌝ }
+// Room for the longest text: a line of 65 bytes for each of 1,024 locations and 2,048 edges.
+fn text_room() -> [u8; 199680]
+    ensures { λ r. ⌜ 199680 ≡ length r ⌝ }
 {
-    [0; 133120]
+    [0; 199680]
 }
 
 // The hex digit of a number below 16.
@@ -52,59 +54,86 @@ fn write_line(rec: &[u8], line: &mut [u8])
     line[64] = 0x0a;
 }
 
-// The first n records of a table as lines.
-fn write_lines(table: &[u8], n: usize, text: &mut [u8])
-    requires { ⌜ (32 * n ≤ length (now table)) × (65 * n ≤ length (now text)) ⌝ }
-    ensures { λ _. ⌜ now (text .exit) ≡ linesOf n (now (table .entry)) ++ drop (65 * n) (now (text .entry)) ⌝ }
+// The first n records of a table as lines, behind the first `at` bytes of the text; answers where they end.
+fn write_lines(table: &[u8], n: usize, text: &mut [u8], at: usize) -> usize
+    requires { ⌜ (32 * n ≤ length (now table)) × (at + 65 * n ≤ length (now text)) ⌝ }
+    ensures { λ r. ⌜ (r ≡ at + 65 * n) × (take r (now (text .exit)) ≡ take at (now (text .entry)) ++ linesOf n (now (table .entry))) ⌝ }
 {
     let mut i = 0;
     while i < n {
         let from = 32 * i;
-        let to = 65 * i;
+        let to = at + 65 * i;
         write_line(&table[from..], &mut text[to..]);
         i += 1;
     }
+    at + 65 * n
 }
 
-// The same as a text of its own: the bytes before the place that is answered.
-fn write_text(table: &[u8], n: usize, text: &mut [u8]) -> usize
-    requires { ⌜ (n ≤ 2048) × (32 * n ≤ length (now table)) × (65 * n ≤ length (now text)) ⌝ }
-    ensures { λ r. ⌜ (r ≤ length (now (text .exit))) × (take r (now (text .exit)) ≡ linesOf n (now (table .entry))) ⌝ }
+// The text of a routine's automaton: its l locations and then its e edges.
+fn write_tables(locations: &[u8], l: usize, edges: &[u8], e: usize, text: &mut [u8]) -> usize
+    requires { ⌜ (l ≤ 1024) × (e ≤ 2048) × (32 * l ≤ length (now locations)) × (32 * e ≤ length (now edges)) × (199680 ≤ length (now text)) ⌝ }
+    ensures { λ r. ⌜ (r ≤ 199680) × (take r (now (text .exit)) ≡ linesOf l (now (locations .entry)) ++ linesOf e (now (edges .entry))) ⌝ }
 {
-    write_lines(table, n, text);
-    65 * n
+    let end = write_lines(locations, l, text, 0);
+    write_lines(edges, e, text, end)
 }
 
-// Prints the first n records of a table.
-fn print_records(table: &[u8], n: usize)
-    requires { ⌜ (n ≤ 2048) × (32 * n ≤ length (now table)) ⌝ }
+// Puts bytes behind the first `at` of the text; answers where they end.
+fn put(bytes: &[u8], text: &mut [u8], at: usize) -> usize
+    requires { ⌜ at + length (now bytes) ≤ length (now text) ⌝ }
+    ensures { λ r. ⌜ (r ≡ at + length (now (bytes .entry))) × (take r (now (text .exit)) ≡ take at (now (text .entry)) ++ now (bytes .entry)) ⌝ }
 {
-    let mut text = line_room();
-    let end = write_text(table, n, &mut text);
-    io::write_all(STDOUT_FILENO, &text[..end]);
+    let mut i = 0;
+    while i < bytes.len() {
+        text[at + i] = bytes[i];
+        i += 1;
+    }
+    at + i
 }
 
-fn print_refusal(number: u8, place: usize) {
-    io::write_all(STDOUT_FILENO, b"refused ");
-    io::print_decimal(STDOUT_FILENO, number as u64);
-    io::write_all(STDOUT_FILENO, b" ");
-    io::print_decimal(STDOUT_FILENO, place as u64);
-    io::write_all(STDOUT_FILENO, b"\n");
+// The same for a number in base 10.
+fn put_number(n: usize, text: &mut [u8], at: usize) -> usize
+    requires { ⌜ at + 20 ≤ length (now text) ⌝ }
+    ensures { λ r. ⌜ (r ≤ at + 20) × (take r (now (text .exit)) ≡ take at (now (text .entry)) ++ decimalOf n) ⌝ }
+{
+    let mut digits = [0; 20];
+    let k = io::decimal(n as u64, &mut digits);
+    put(&digits[..k], text, at)
+}
+
+// The text of a refusal.
+fn write_refusal(number: u8, place: usize, text: &mut [u8]) -> usize
+    requires { ⌜ 50 ≤ length (now text) ⌝ }
+    ensures { λ r. ⌜ (r ≤ 50) × (take r (now (text .exit)) ≡ refusalLine (refusal number place)) ⌝ }
+{
+    let mut end = put(b"refused ", text, 0);
+    end = put_number(number as usize, text, end);
+    end = put(b" ", text, end);
+    end = put_number(place, text, end);
+    put(b"\n", text, end)
+}
+
+// The whole text for an input: the bytes before the place that is answered.
+fn write_answer(input: &[u8], text: &mut [u8]) -> usize
+    requires { ⌜ (length (now input) ≤ 4096) × (199680 ≤ length (now text)) ⌝ }
+    ensures { λ r. ⌜ Counts r (now (text .exit)) ⌝ }
+    ensures { λ r. ⌜ take r (now (text .exit)) ≡ printed (now (input .entry)) ⌝ }
+{
+    let mut locations = location_table();
+    let mut edges = io::large_buffer();
+    match translator::translate(input, &mut locations, &mut edges) {
+        Translated::Listed {
+            locations: l,
+            edges: e,
+        } => write_tables(&locations, l, &edges, e, text),
+        Translated::Refused { number, place } => write_refusal(number, place, text),
+    }
 }
 
 fn main() {
     let mut input = io::buffer();
-    let mut locations = location_table();
-    let mut edges = io::large_buffer();
+    let mut text = text_room();
     let n = io::read_full(STDIN_FILENO, &mut input);
-    match translator::translate(&input[..n], &mut locations, &mut edges) {
-        Translated::Listed {
-            locations: l,
-            edges: e,
-        } => {
-            print_records(&locations, l);
-            print_records(&edges, e);
-        }
-        Translated::Refused { number, place } => print_refusal(number, place),
-    }
+    let end = write_answer(&input[..n], &mut text);
+    io::write_all(STDOUT_FILENO, &text[..end]);
 }

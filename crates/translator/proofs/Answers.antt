@@ -1,11 +1,12 @@
 -- The answers of the translator, from the cleared tables and the check of the input.
 use Prim.Native.Nat.{ℕ, _<_, _≤_}
+use Rattle.model.specs.Records.{isAccepted}
 use native.Mathlib.Omega.{arith}
 use mathlib.Core.Path.{_≡_, ap, sym, _∙_}
 use mathlib.Core.List.{List}
 use lib.ListN.{length, replicate}
 use Rattle.model.specs.Answers.{outcomeOf}
-use Rattle.model.specs.Runs.{DemandThree}
+use Rattle.model.specs.Runs.{IsRoutineOf}
 use Rattle.model.specs.Translate.{check, good, places, translate}
 use Rattle.model.specs.declared.Translated.{Translated}
 use Rattle.model.specs.declared.Translated.the-variants as translated
@@ -20,7 +21,7 @@ use Rattle.translator.proofs.Outcomes.{outcome-automaton, outcome-bad, 
 -- the contract of the translator, of an answer and what the tables then hold
 abbrev pub Answered : List ℕ → ℕ → ℕ → Translated → List ℕ → List ℕ → Type 0
 Answered s a b o ls es =
-    (outcomeOf o ls es ≡ translate s a b) × (outcomeOf o ls es .refused .number ≡ 0 → DemandThree s (outcomeOf o ls es .tables))
+    (outcomeOf o ls es ≡ translate s a b) × (outcomeOf o ls es .verdict ≡ isAccepted → IsRoutineOf s (outcomeOf o ls es .tables))
 
 pub answered : (s : List ℕ) (a b : ℕ) (o : Translated) (ls es : List ℕ) → outcomeOf o ls es ≡ translate s a b → Answered s a b o ls es
 answered s a b o ls es e = (e, outcome-automaton s a b o ls es e)

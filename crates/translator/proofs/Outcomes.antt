@@ -7,8 +7,9 @@ use lib.ListN.{length, replicate}
 use borrow.Author.Tests.{lt-ltb, le-ltb}
 use Rattle.model.specs.Answers.{outcomeOf}
 use Rattle.model.specs.Edges.{at}
-use Rattle.model.specs.Runs.{Demand3, DemandThree}
-use Rattle.model.specs.Translate.{Explored, Listing, Refusal, Routine, bad, check, explore, full, good, listed, listedWith, listing, places, refusal, refusedWith, translate}
+use Rattle.model.specs.Runs.{Demand3, IsRoutineOf}
+use Rattle.model.specs.Records.{Refusal, isAccepted, refusal}
+use Rattle.model.specs.Translate.{Explored, Listing, Routine, bad, check, explore, full, good, listed, listedWith, listing, places, refusedWith, translate}
 use Rattle.model.specs.declared.Translated.{Translated}
 use Rattle.model.specs.declared.Translated.the-variants as translated
 use Rattle.model.proofs.Demand.{demand-three}
@@ -82,6 +83,6 @@ module _ (s : List ℕ) (a b : ℕ) where
 
 -- the automaton of an outcome is the routine
 pub outcome-automaton : (s : List ℕ) (a b : ℕ) (o : Translated) (ls es : List ℕ) → outcomeOf o ls es ≡ translate s a b
-    → outcomeOf o ls es .refused .number ≡ 0 → DemandThree s (outcomeOf o ls es .tables)
+    → outcomeOf o ls es .verdict ≡ isAccepted → IsRoutineOf s (outcomeOf o ls es .tables)
 unfolding Demand3
-outcome-automaton s a b o ls es e z = subst (λ x. DemandThree s (x .tables)) (sym e) (demand-three s a b (sym (ap (λ x. x .refused .number) e) ∙ z))
+outcome-automaton s a b o ls es e z = subst (λ x. IsRoutineOf s (x .tables)) (sym e) (demand-three s a b (sym (ap (λ x. x .verdict) e) ∙ z))

@@ -5,7 +5,7 @@ use native.Mathlib.Omega.{arith}
 use mathlib.Core.Path.{_≡_, refl, sym, ap, subst, _∙_}
 use mathlib.Core.Logic.{inl, inr}
 use mathlib.Core.List.{List, [], _∷_, _++_, map}
-use lib.ListN.{length, getD, set, take, replicate, length-map}
+use lib.ListN.{length, getD, take, replicate, length-map}
 use lib.Seq.{length-take-le, take-all, take-suc}
 use Rattle.model.specs.Heap.{Heap}
 use Rattle.model.specs.Edges.{Loc, at}
@@ -20,24 +20,17 @@ use Rattle.model.proofs.ReadBack.{canon-writable, record-length}
 use Rattle.input.specs.Input.{routineOf}
 use Rattle.input.specs.Accepted.{Accepted}
 use Rattle.input.proofs.Facts.{accepted-wide, start-at, start-record, starts-length, stmt-at, stmts-length}
-use Rattle.record.specs.Written.{placed}
+use Rattle.record.specs.Written.{locationBytes, placed}
 use Rattle.record.proofs.Placed.{placed-next}
 use Rattle.grow.specs.Grow.{Holds}
 use Rattle.explore.specs.Explore.{StatementsOk, LocsOk, LocOk, ExploreReady}
-use Rattle.translator.specs.Starts.{startBytes, startLocs}
+use Rattle.translator.specs.Starts.{startLocs}
 
 in-take : {A : Type 0} (x : A) (n : ℕ) (l : List A) → In x (take n l) → In x l
 in-take x zero l i = absurd i
 in-take x (suc n) [] i = i
 in-take x (suc n) (y ∷ l) (inl e) = inl e
 in-take x (suc n) (y ∷ l) (inr i) = inr (in-take x n l i)
-
--- a record copied whole, then its first three bytes
-pub start-stored : (rec z : List ℕ) → 3 ≤ length rec → set (set (set (rec ++ z) 0 0x4c) 1 0) 2 0 ≡ startBytes rec ++ z
-start-stored [] z h = absurd (omega arith)
-start-stored (a ∷ []) z h = absurd (omega arith)
-start-stored (a ∷ b ∷ []) z h = absurd (omega arith)
-start-stored (a ∷ b ∷ c ∷ r) z h = refl
 
 module _ (s : List ℕ) (n m : ℕ) (g : check s ≡ good (routineOf n s)) (A : Accepted s n m) where
   count-is : length (startLocs n s) ≡ m
@@ -66,7 +59,7 @@ module _ (s : List ℕ) (n m : ℕ) (g : check s ≡ good (routineOf n s)) (A : 
   start-wide = records-wide locRecord (startLocs n s) (λ l i. record-length l (start-writable l i))
 
   -- record j of the location table
-  start-is : (j : ℕ) → j < m → getD (map locRecord (startLocs n s)) j [] ≡ startBytes (recordAt s (n + j))
+  start-is : (j : ℕ) → j < m → getD (map locRecord (startLocs n s)) j [] ≡ locationBytes 0 0 (recordAt s (n + j))
   start-is j h =
       let d : Heap = shapeOf [] in
       getD-map locRecord (startLocs n s) j (at 0 d) [] (omega (arith, count-is))
@@ -75,15 +68,15 @@ module _ (s : List ℕ) (n m : ℕ) (g : check s ≡ good (routineOf n s)) (A : 
 
   -- one more
   pub enter-turn : (a j : ℕ) (t : List ℕ) → j < m → m ≤ places 1024 a → t ≡ tableOf a (take j (map locRecord (startLocs n s)))
-      → placed t j (startBytes (recordAt s (n + j))) ≡ tableOf a (take (j + 1) (map locRecord (startLocs n s)))
+      → placed t j (locationBytes 0 0 (recordAt s (n + j))) ≡ tableOf a (take (j + 1) (map locRecord (startLocs n s)))
   enter-turn a j t h room e =
       let L : List (List ℕ) = map locRecord (startLocs n s) in
       let few : length (take j L) ≡ j = length-take-le j L (omega (arith, records-number)) in
-      let next : take (j + 1) L ≡ take j L ++ (startBytes (recordAt s (n + j)) ∷ []) =
+      let next : take (j + 1) L ≡ take j L ++ (locationBytes 0 0 (recordAt s (n + j)) ∷ []) =
       ap (λ k. take k L) (add-one j) ∙ take-suc L j [] (omega (arith, records-number)) ∙ ap (λ x. take j L ++ (x ∷ [])) (start-is j h) in
-      ap (λ x. placed x j (startBytes (recordAt s (n + j)))) e
-      ∙ subst (λ k. placed (tableOf a (take j L)) k (startBytes (recordAt s (n + j))) ≡ tableOf a (take j L ++ (startBytes (recordAt s (n + j)) ∷ []))) few
-      (placed-next a (take j L) (startBytes (recordAt s (n + j))) (λ x i. start-wide x (in-take x j L i)) (omega arith))
+      ap (λ x. placed x j (locationBytes 0 0 (recordAt s (n + j)))) e
+      ∙ subst (λ k. placed (tableOf a (take j L)) k (locationBytes 0 0 (recordAt s (n + j))) ≡ tableOf a (take j L ++ (locationBytes 0 0 (recordAt s (n + j)) ∷ []))) few
+      (placed-next a (take j L) (locationBytes 0 0 (recordAt s (n + j))) (λ x i. start-wide x (in-take x j L i)) (omega arith))
       ∙ ap (tableOf a) (sym next)
 
   pub enter-end : (j : ℕ) → m ≤ j → take j (map locRecord (startLocs n s)) ≡ map locRecord (startLocs n s)

@@ -1,16 +1,12 @@
 -- The starting shapes of an input as locations, and what entering and listing them asks of the input and the tables. Assumes nothing.
 use Prim.Native.Nat.{ℕ, _≤_}
 use mathlib.Core.Path.{_≡_}
-use mathlib.Core.List.{List, _∷_, map}
-use lib.ListN.{length, drop, replicate}
+use mathlib.Core.List.{List, map}
+use lib.ListN.{length, replicate}
 use Rattle.model.specs.Edges.{Loc, at}
 use Rattle.model.specs.Translate.{check, good, places}
 use Rattle.input.specs.Input.{routineOf}
 use Rattle.input.specs.Accepted.{Accepted}
-
--- a shape's record as the record of the location at statement 0
-abbrev pub startBytes : List ℕ → List ℕ
-startBytes r = 0x4c ∷ 0 ∷ 0 ∷ drop 3 r
 
 -- the starting shapes behind n statements, at statement 0
 abbrev pub startLocs : ℕ → List ℕ → List Loc

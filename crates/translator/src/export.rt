@@ -24,7 +24,7 @@ fn tell(answer: &mut [usize], place: usize, locations: usize, edges: usize)
 }
 
 // Translates, and answers the refusal's number, 0 for none. Its place, the number of locations and the number of edges go to the
-// first three places of the answer, as far as it reaches.
+// first three places of the answer, as far as it reaches. No two of the tables, the answer and the input may overlap.
 #[no_mangle]
 pub extern "C" fn currantplane_translate(
     input: &[u8],

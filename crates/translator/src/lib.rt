@@ -3,38 +3,29 @@ pub mod export;
 
 use explore::Explored;
 use input::Checked;
+use model::Statement;
 use model::Translated;
 ghost use mathlib.Core.Path.{_≡_};
-ghost use mathlib.Core.List.{_++_, map};
+ghost use mathlib.Core.List.{map};
 ghost use Prim.Native.Nat.{_+_, _*_, _≤_};
-ghost use lib.ListN.{length, drop, replicate};
+ghost use lib.ListN.{length, replicate};
 ghost use Rattle.model.specs.Answers.{outcomeOf};
-ghost use Rattle.model.specs.Records.{locRecord, recordAt};
+ghost use Rattle.model.specs.Records.{isAccepted, locRecord, recordAt};
 ghost use Rattle.model.specs.Translate.{tableOf, translate};
-ghost use Rattle.model.specs.Runs.{DemandThree};
-ghost use Rattle.record.specs.Written.{placed};
-ghost use Rattle.translator.specs.Starts.{startBytes, startLocs, StartsReady, ListReady};
+ghost use Rattle.model.specs.Runs.{IsRoutineOf};
+ghost use Rattle.record.specs.Written.{locationBytes, placed};
+ghost use Rattle.translator.specs.Starts.{startLocs, StartsReady, ListReady};
 
-// Writes the location record of a starting shape: the shape's record with another tag, at statement 0 without a fault.
-fn enter_start(part: &mut [u8], rec: &[u8])
-    requires { ⌜ (32 ≤ length (now part)) × (length (now rec) ≡ 32) ⌝ }
-    ensures { λ _. ⌜ now (part .exit) ≡ startBytes (now (rec .entry)) ++ drop 32 (now (part .entry)) ⌝ }
-{
-    bytes::copy(rec, part);
-    part[0] = 0x4c;
-    part[1] = 0;
-    part[2] = 0;
-}
-
-// Enters the shape of record i of the input as location j.
+// Enters the shape of record i of the input as location j, at statement 0 without a fault: the part of the table from 32 times its number
+// on is lent to the writer.
 fn put_start(input: &[u8], i: usize, locations: &mut [u8], j: usize)
     requires { ⌜ (32 * i + 32 ≤ length (now input)) × (32 * j + 32 ≤ length (now locations)) ⌝ }
-    ensures { λ _. ⌜ now (locations .exit) ≡ placed (now (locations .entry)) j (startBytes (recordAt (now (input .entry)) i)) ⌝ }
+    ensures { λ _. ⌜ now (locations .exit) ≡ placed (now (locations .entry)) j (locationBytes 0 0 (recordAt (now (input .entry)) i)) ⌝ }
 {
     let at = 32 * j;
     let start = 32 * i;
     let end = start + 32;
-    enter_start(&mut locations[at..], &input[start..end]);
+    record::write_location(&mut locations[at..], Statement(0), 0, &input[start..end]);
 }
 
 // Enters the m starting shapes behind n statements as locations 0 on, in input order, into a cleared table.
@@ -82,8 +73,8 @@ fn list(input: &[u8], n: usize, m: usize, locations: &mut [u8], edges: &mut [u8]
 // stands in the tables, with the counts answered, is the routine (demand 3).
 pub fn translate(input: &[u8], locations: &mut [u8], edges: &mut [u8]) -> Translated
     ensures outcome { λ r. ⌜ outcomeOf r (now (locations .exit)) (now (edges .exit)) ≡ translate (now (input .entry)) (length (now (locations .entry))) (length (now (edges .entry))) ⌝ }
-    ensures automaton { λ r. ⌜ (outcomeOf r (now (locations .exit)) (now (edges .exit)) .refused .number ≡ 0
-        → DemandThree (now (input .entry)) (outcomeOf r (now (locations .exit)) (now (edges .exit)) .tables)) ⌝ }
+    ensures automaton { λ r. ⌜ (outcomeOf r (now (locations .exit)) (now (edges .exit)) .verdict ≡ isAccepted
+        → IsRoutineOf (now (input .entry)) (outcomeOf r (now (locations .exit)) (now (edges .exit)) .tables)) ⌝ }
 {
     clear_both(locations, edges);
     match input::check(input) {

@@ -10,7 +10,7 @@ use lib.ListN.{getD, length}
 use lib.Pow.{pow-pos}
 use borrow.Author.Tests.{eqb-true, ne-eqb}
 use Rattle.model.specs.Base.{count, mem, sum}
-use Rattle.model.specs.Edges.{Weight, counter, isOneCell, isRest, one, rest, updateOf}
+use Rattle.model.specs.Edges.{Weight, counter, isOneCell, isLess, one, less, updateOf}
 use Rattle.model.specs.Records.{bits, updateCode}
 use Rattle.model.specs.Shape.{Seg, cells}
 use Rattle.model.proofs.Logic.{NoDup, bool-case, eqb-same, eqb-sym, mem-here, mem-there}
@@ -49,23 +49,23 @@ flagged-doubles a (false ∷ fs) = omega (arith, flagged-doubles (2 * a) fs, twi
 abbrev flagOf : Weight → ℕ
 flagOf (counter n) = 2 ^ n
 flagOf one = 0
-flagOf (rest n) = 2 ^ n
+flagOf (less n) = 2 ^ n
 
 module _ (k : ℕ) (w : ℕ → Weight) (F : Fair k (doubles 2 k) w) where
   cell-weight : (c : ℕ) (x : Weight) → w c ≡ x → c < suc k
-      → weigh (doubles 2 k) x + cond (isRest x) 1 0 ≡ 2 * flagOf x + cond (isOneCell x) 1 0
+      → weigh (doubles 2 k) x + cond (isLess x) 1 0 ≡ 2 * flagOf x + cond (isOneCell x) 1 0
   cell-weight c (counter n) e h = omega (arith, doubles-at 2 k n (F .known n c h (rw (e, eqb-same n))))
   cell-weight c one e h = omega arith
-  cell-weight c (rest n) e h = omega (arith, doubles-at 2 k n (F .known n c h (rw (e, eqb-same n))), pow-pos n)
+  cell-weight c (less n) e h = omega (arith, doubles-at 2 k n (F .known n c h (rw (e, eqb-same n))), pow-pos n)
 
   cell-code : (x : Weight) → plusBy x ≡ flagOf x + 4096 * cond (isOneCell x) 1 0
   cell-code (counter n) = omega arith
   cell-code one = omega arith
-  cell-code (rest n) = omega arith
+  cell-code (less n) = omega arith
 
   -- the cells of a list, weighed with these counters
   all-weights : (l : List ℕ) → ((c : ℕ) → mem c l ≡ true → c < suc k)
-      → sum (λ c. weigh (doubles 2 k) (w c)) l + count (λ c. isRest (w c)) l ≡ 2 * sum (λ c. flagOf (w c)) l + count (λ c. isOneCell (w c)) l
+      → sum (λ c. weigh (doubles 2 k) (w c)) l + count (λ c. isLess (w c)) l ≡ 2 * sum (λ c. flagOf (w c)) l + count (λ c. isOneCell (w c)) l
   all-weights [] h = refl
   all-weights (c ∷ l) h = omega (arith, cell-weight c (w c) refl (h c (mem-here c l)), all-weights l (λ d q. h d (mem-there d c l q)))
 
@@ -74,7 +74,7 @@ module _ (k : ℕ) (w : ℕ → Weight) (F : Fair k (doubles 2 k) w) where
   all-codes (c ∷ l) = omega (arith, cell-code (w c), all-codes l)
 
   -- with at most one rest, the flags of a segment's update are those of its cells
-  flags-sum : (s : Seg) → NoDup (cells s) → ((c : ℕ) → mem c (cells s) ≡ true → c < suc k) → count (λ c. isRest (w c)) (cells s) ≤ 1
+  flags-sum : (s : Seg) → NoDup (cells s) → ((c : ℕ) → mem c (cells s) ≡ true → c < suc k) → count (λ c. isLess (w c)) (cells s) ≤ 1
       → sum (λ c. flagOf (w c)) (cells s) ≡ bits (updateOf k w s .adds)
   flags-sum s nd h few =
       let len = update-small k (doubles 2 k) (length-doubles 2 k) w F s nd .1 in
@@ -84,17 +84,17 @@ module _ (k : ℕ) (w : ℕ → Weight) (F : Fair k (doubles 2 k) w) where
       omega (arith, all-weights (cells s) h)
 
   segment-code : (s : Seg) (base : ℕ) → NoDup (cells s) → ((c : ℕ) → mem c (cells s) ≡ true → c < suc k)
-      → base + 4096 * count (λ c. isRest (w c)) (cells s) ≡ 4096
+      → base + 4096 * count (λ c. isLess (w c)) (cells s) ≡ 4096
       → base + sum (λ c. plusBy (w c)) (cells s) ≡ updateCode (updateOf k w s)
   segment-code s base nd h b =
-      let r = count (λ c. isRest (w c)) (cells s) in
+      let r = count (λ c. isLess (w c)) (cells s) in
       let few : r ≤ 1 = omega arith in
       omega (arith, flags-sum s nd h few, all-codes (cells s))
 
 -- ---- the weights of a way
 
 -- a rest is cell k alone
-tail-rest : (n k c : ℕ) → n < k → isRest (weightAt true n k c) ≡ eqb c k
+tail-rest : (n k c : ℕ) → n < k → isLess (weightAt true n k c) ≡ eqb c k
 tail-rest n k c h = bool-case (eqb c n)
     (λ e. let q = eqb-true c n e in rw e (sym (ne-eqb c k (λ z. omega arith))))
     (λ e. bool-case (eqb c k) (λ f. rw (e, f)) (λ f. rw (e, f)))
@@ -110,19 +110,19 @@ count-one k (c ∷ l) nd =
     rw (e, eqb-sym k c, e) (omega arith))
     (λ e. rw (e, eqb-sym k c, e) (omega arith))
 
-no-rests : (n k : ℕ) (l : List ℕ) → count (λ c. isRest (weightAt false n k c)) l ≡ 0
+no-rests : (n k : ℕ) (l : List ℕ) → count (λ c. isLess (weightAt false n k c)) l ≡ 0
 no-rests n k [] = refl
 no-rests n k (c ∷ l) = bool-case (eqb c k) (λ e. rw e (omega (arith, no-rests n k l))) (λ e. rw e (omega (arith, no-rests n k l)))
 
-one-rest : (n k : ℕ) (l : List ℕ) → n < k → NoDup l → count (λ c. isRest (weightAt true n k c)) l ≡ cond (mem k l) 1 0
+one-rest : (n k : ℕ) (l : List ℕ) → n < k → NoDup l → count (λ c. isLess (weightAt true n k c)) l ≡ cond (mem k l) 1 0
 one-rest n k l h nd = count-same l ∙ count-one k l nd
   where
-    count-same : (m : List ℕ) → count (λ c. isRest (weightAt true n k c)) m ≡ count (λ c. eqb c k) m
+    count-same : (m : List ℕ) → count (λ c. isLess (weightAt true n k c)) m ≡ count (λ c. eqb c k) m
     count-same [] = refl
     count-same (c ∷ m) = ap₂ (λ b x. cond b 1 0 + x) (tail-rest n k c h) (count-same m)
 
 base-rests : (sp : Bool) (n k : ℕ) (l : List ℕ) → (sp ≡ true → n < k) → NoDup l
-    → cond (sp && mem k l) 0 4096 + 4096 * count (λ c. isRest (weightAt sp n k c)) l ≡ 4096
+    → cond (sp && mem k l) 0 4096 + 4096 * count (λ c. isLess (weightAt sp n k c)) l ≡ 4096
 base-rests true n k l h nd =
     let r = one-rest n k l (h refl) nd in
     bool-case (mem k l) (λ e. let z = r ∙ ap (λ b. cond b 1 0) e in rw e (omega arith)) (λ e. let z = r ∙ ap (λ b. cond b 1 0) e in rw e (omega arith))

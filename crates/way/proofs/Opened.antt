@@ -11,7 +11,7 @@ use borrow.Author.Tests.{eqb-true, ltb-true, ne-eqb}
 use Rattle.model.specs.Base.{all}
 use Rattle.model.specs.Heap.{Heap, Slot, unused, holds, cell, undef}
 use Rattle.model.specs.Image.{cellSlot, heapOf}
-use Rattle.model.specs.Machine.{done, setPtr, new, effect, run, keep, put}
+use Rattle.model.specs.Machine.{done, setPtr, new, effect, carryOut, keep, put}
 use Rattle.model.specs.Records.{byte, shapeOf, valOf, valueByte}
 use Rattle.model.proofs.Lists.{getD-map, map-set}
 use Rattle.model.proofs.Logic.{and-l, and-r, bool-case, or-cases}
@@ -135,5 +135,5 @@ effect-opened u h =
     let e = put-after (h .slots) (holds undef) ∙ sym (put-end (h .slots) (holds undef)) in
     λ i. done (setPtr u (cell (length (h .slots))) (record { ptrs = h .ptrs; slots = e i }))
 
-pub run-opened : (u : ℕ) (h : Heap) → run (new u) (length (h .slots)) (withUnused h) ≡ run (new u) (length (h .slots)) h
+pub run-opened : (u : ℕ) (h : Heap) → carryOut (new u) (length (h .slots)) (withUnused h) ≡ carryOut (new u) (length (h .slots)) h
 run-opened u h = ap keep (effect-opened u h)

@@ -7,7 +7,7 @@ use mathlib.Core.Path.{_≡_}
 use lib.Dec.{eqb}
 use lib.ListN.{length, getD, set, take, drop}
 use Rattle.model.specs.Base.{all, mem, sum}
-use Rattle.model.specs.Edges.{Weight, counter, one, rest, splitHeap}
+use Rattle.model.specs.Edges.{Weight, counter, one, less, splitHeap}
 use Rattle.model.specs.Heap.{unused, Heap}
 use Rattle.model.specs.Records.{byte, valueByte}
 use Rattle.model.proofs.Logic.{NoDup}
@@ -46,14 +46,14 @@ openedBytes false op n ss = cond (eqb op 6) (ss ++ 0xfd ∷ []) ss
 
 -- what cell c stands for
 abbrev pub weightAt : Bool → ℕ → ℕ → ℕ → Weight
-weightAt true n k c = cond (eqb c n) one (cond (eqb c k) (rest n) (counter c))
+weightAt true n k c = cond (eqb c n) one (cond (eqb c k) (less n) (counter c))
 weightAt false n k c = cond (eqb c k) one (counter c)
 
 -- what a cell adds to the code of its update: the flag of its counter, or one to the constant
 abbrev pub plusBy : Weight → ℕ
 plusBy (counter n) = 2 ^ n
 plusBy one = 4096
-plusBy (rest n) = 2 ^ n
+plusBy (less n) = 2 ^ n
 
 abbrev pub plusOf : Bool → ℕ → ℕ → ℕ → ℕ
 plusOf sp n k c = plusBy (weightAt sp n k c)

@@ -5,7 +5,7 @@ ghost use Prim.Native.Nat.{ℕ, _+_, _^_, _≤_, _<_};
 ghost use mathlib.Core.Bool.{true};
 ghost use mathlib.Core.List.{List};
 ghost use mathlib.Core.Path.{_≡_};
-ghost use lib.ListN.{length, getD, replicate, take, drop};
+ghost use lib.ListN.{length, getD, replicate, set, take, drop};
 ghost use Rattle.model.specs.Edges.{access};
 ghost use Rattle.model.specs.Heap.{ptr};
 ghost use Rattle.model.specs.Image.{heapOf};
@@ -76,12 +76,12 @@ pub fn open_way(
     open_cells(cells, k, op, split, node)
 }
 
-// 2 to the c: the flag of old counter c in an update's code.
-fn flag(c: u8) -> u16
-    requires { ⌜ c ≤ 11 ⌝ }
-    ensures { λ r. ⌜ (r ≡ 2 ^ c) × (r ≤ 4096) ⌝ }
+// 2 to the n: the flag of old node n's counter in an update's code.
+fn flag(n: Node) -> u16
+    requires { ⌜ n .0 ≤ 11 ⌝ }
+    ensures { λ r. ⌜ (r ≡ 2 ^ n .0) × (r ≤ 4096) ⌝ }
 {
-    1u16 << c
+    1u16 << n.0
 }
 
 // What cell c adds to the code of its update: one to the constant for the head or a new cell; else the flag of the node it is of.
@@ -95,11 +95,37 @@ fn cell_plus(c: u8, k: usize, split: bool, at: Node) -> u16
             return 4096;
         }
         if c == last {
-            return flag(at.0);
+            return flag(at);
         }
-        return flag(c);
+        return flag(Node(c));
     }
-    if c == last { 4096 } else { flag(c) }
+    if c == last { 4096 } else { flag(Node(c)) }
+}
+
+// The new node of cell c, from the list of the cells' nodes.
+fn node_of(node: &[u8], c: usize) -> Node
+    requires { ⌜ c < length (now node) ⌝ }
+    ensures { λ r. ⌜ r .0 ≡ getD (now (node .entry)) c 0 ⌝ }
+{
+    Node(node[c])
+}
+
+// Writes the code of node n's update.
+fn set_code(updates: &mut [u16], n: Node, code: u16)
+    requires { ⌜ n .0 < length (now updates) ⌝ }
+    ensures { λ _. ⌜ now (updates .exit) ≡ set (now (updates .entry)) (n .0) code ⌝ }
+{
+    let j = n.0 as usize;
+    updates[j] = code;
+}
+
+// Adds to the code of node n's update.
+fn add_code(updates: &mut [u16], n: Node, plus: u16)
+    requires { ⌜ (n .0 < length (now updates)) × (getD (now updates) (n .0) 0 + plus < 65536) ⌝ }
+    ensures { λ _. ⌜ now (updates .exit) ≡ set (now (updates .entry)) (n .0) (getD (now (updates .entry)) (n .0) 0 + plus) ⌝ }
+{
+    let j = n.0 as usize;
+    updates[j] += plus;
 }
 
 // Each update becomes the one that adds nothing: no flag, and the constant 0.
@@ -120,8 +146,7 @@ fn write_bases(node: &[u8], k: usize, split: bool, updates: &mut [u16])
 {
     clear_updates(updates);
     if split {
-        let j = node[k] as usize;
-        updates[j] = 0;
+        set_code(updates, node_of(node, k), 0);
     }
 }
 
@@ -134,10 +159,9 @@ fn add_cells(cells: &[u8], node: &[u8], k: usize, split: bool, at: Node, updates
     let mut i = 0;
     while i < cells.len() {
         let c = cells[i];
-        let place = c as usize;
-        let j = node[place] as usize;
+        let n = node_of(node, c as usize);
         let plus = cell_plus(c, k, split, at);
-        updates[j] += plus;
+        add_code(updates, n, plus);
         i += 1;
     }
 }
@@ -172,9 +196,10 @@ pub fn carry_updates(updates: &mut [u16])
     requires { ⌜ 12 ≤ length (now updates) ⌝ }
     ensures { λ _. ⌜ ((j : ℕ) → j < 12 → getD (now (updates .exit)) j 0 ≡ 4096 + 2 ^ j) ⌝ }
 {
-    let mut j: usize = 0;
+    let mut j: u8 = 0;
     while j < 12 {
-        updates[j] = 0x1000 + flag(j as u8);
+        let n = Node(j);
+        set_code(updates, n, 0x1000 + flag(n));
         j += 1;
     }
 }

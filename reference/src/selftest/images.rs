@@ -2,10 +2,11 @@
 
 use super::counts::Counts;
 use super::describes::describes;
-use super::refusals::{any_bytes, lost_cell, named_wrongly, wrong_counters};
+use super::refusals::{any_bytes, lost_cell, named_wrongly, wrong_unfolding};
 use crate::calls::{fold, step, unfold, Folded, Stepped};
 use crate::heap::Heap;
 use crate::image::{write_image, IMAGE_CELLS};
+use crate::input::Refusal;
 use crate::machine::{run, Outcome};
 use crate::random::{random_heap, rename, Random};
 use crate::records::{STATEMENTS, UNUSED};
@@ -45,7 +46,7 @@ pub fn test(random: &mut Random, counts: &mut Counts, number: u64) -> Result<(),
     match refusal {
         13 => named_wrongly(random, counts, &heap, length)?,
         14 => lost_cell(random, counts, &heap, length)?,
-        _ => wrong_counters(random, counts, &folded)?,
+        _ => wrong_unfolding(random, counts, &folded)?,
     }
     any_bytes(random)
 }
@@ -58,6 +59,11 @@ pub(super) fn want(fits: bool, what: &str) -> Result<(), String> {
     }
 }
 
+/// What is due of a call on an image that is refused: the place is always 0.
+pub(super) fn due_refusal(number: u8) -> Refusal {
+    Refusal { number, place: 0 }
+}
+
 fn round_trip(
     random: &mut Random,
     counts: &mut Counts,
@@ -67,7 +73,7 @@ fn round_trip(
     let folded = Image::of(heap, length).fold();
     counts.heaps += 1;
     counts.nodes = counts.nodes.max(u64::from(folded.record[3]));
-    want(folded.refusal == 0, "a sound heap is refused")?;
+    want(folded.refusal.is_none(), "a sound heap is refused")?;
     let counters = folded.counters.map(u64::from);
     describes(&folded.record, &counters, heap)?;
     let renamed = rename(random, heap, length);
@@ -81,13 +87,13 @@ fn round_trip(
         pointers: vec![random.byte(); 6],
         cells: vec![random.byte(); room],
     };
-    let refusal = unfold(
+    let answer = unfold(
         &folded.record,
         &folded.counters,
         &mut image.pointers,
         &mut image.cells,
     );
-    want(refusal == 0, "what was folded does not unfold")?;
+    want(answer.is_ok(), "what was folded does not unfold")?;
     want(
         image.fold() == folded,
         "what was unfolded folds to something else",
@@ -129,7 +135,7 @@ fn single_step(
     let mut after = heap.clone();
     let due = if refused {
         counts.refused(16);
-        Stepped::Refused(16)
+        Stepped::Refused(due_refusal(16))
     } else {
         match run(&mut after, &statement, pick, cell) {
             Outcome::Stop => Stepped::Stop,

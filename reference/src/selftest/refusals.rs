@@ -2,23 +2,25 @@
 
 use super::counts::Counts;
 use super::draws::draw_bytes;
-use super::images::{want, Image};
+use super::images::{due_refusal, want, Image};
 use crate::calls::{step, unfold, Folded, Stepped};
 use crate::heap::{Heap, Value};
 use crate::image::IMAGE_CELLS;
+use crate::input::Refusal;
 use crate::random::Random;
 use crate::records::{NODES, NULL, RECORD, START, STATEMENT, UNUSED};
 
 /// Wants the same refusal from fold and from step, and the image unchanged.
-fn want_image_refusal(counts: &mut Counts, image: &Image, refusal: u8) -> Result<(), String> {
+fn want_image_refusal(counts: &mut Counts, image: &Image, number: u8) -> Result<(), String> {
+    let refusal = due_refusal(number);
     let folded = image.fold();
     let zero = Folded {
-        refusal,
+        refusal: Some(refusal),
         record: [0; RECORD],
         counters: [0; NODES],
     };
     want(folded == zero, "a refused fold gives something else")?;
-    counts.refused(refusal);
+    counts.refused(number);
     let mut after = image.clone();
     // The image is looked at before the statement, which is none here.
     let stepped = step(&mut after.pointers, &mut after.cells, &[], 9, 999);
@@ -67,15 +69,12 @@ pub fn lost_cell(
     want_image_refusal(counts, &Image::of(&lost, length), 14)
 }
 
-pub fn wrong_counters(
-    random: &mut Random,
-    counts: &mut Counts,
-    folded: &Folded,
-) -> Result<(), String> {
+/// Counters that do not go with what was folded, and how many cells are lent.
+fn wrong_counters(random: &mut Random, folded: &Folded) -> (Vec<u32>, usize) {
     let nodes = usize::from(folded.record[3]);
-    let mut counters = folded.counters;
+    let mut counters = folded.counters.to_vec();
     let mut room = IMAGE_CELLS;
-    match random.below(3) {
+    match random.below(4) {
         0 if nodes > 0 => counters[random.below(nodes)] = 0,
         1 if nodes > 0 => {
             room = counters.iter().sum::<u32>() as usize - 1;
@@ -84,28 +83,63 @@ pub fn wrong_counters(
                 counters[random.below(nodes)] = u32::MAX;
             }
         }
+        2 => {
+            // Not twelve, though each is right that is there.
+            let other = random.below(2 * NODES);
+            counters.resize(other + usize::from(other >= NODES), 0);
+        }
         _ if nodes < NODES => counters[random.between(nodes, NODES - 1)] = 1,
         _ => counters[0] = 0,
     }
+    (counters, room)
+}
+
+/// Wrong counters, and now and then something that is looked at before them.
+pub fn wrong_unfolding(
+    random: &mut Random,
+    counts: &mut Counts,
+    folded: &Folded,
+) -> Result<(), String> {
+    let (counters, room) = wrong_counters(random, folded);
+    let mut record = folded.record.to_vec();
     let mut image = Image {
         pointers: vec![random.byte(); 6],
         cells: vec![random.byte(); room],
     };
+    let mut due = 15;
+    if random.chance(25) {
+        // At least one node, and none that a pointer leads to.
+        record[3] = record[3].max(1);
+        record[4..10].fill(NULL);
+        due = 9;
+    }
+    if random.chance(25) {
+        match random.below(2) {
+            0 => record.resize([0, 31, 33][random.below(3)], 0),
+            _ => record[RECORD - 1] = 1,
+        }
+        due = 8;
+    }
+    if random.chance(25) {
+        match random.below(2) {
+            0 => image.pointers.resize([0, 5, 7][random.below(3)], NULL),
+            _ => image.cells.resize(random.between(241, 300), UNUSED),
+        }
+        due = 13;
+    }
     let before = image.clone();
-    let refusal = unfold(
-        &folded.record,
-        &counters,
-        &mut image.pointers,
-        &mut image.cells,
-    );
-    want(refusal == 15, "wrong counters are not refused with 15")?;
+    let answer = unfold(&record, &counters, &mut image.pointers, &mut image.cells);
+    want(
+        answer == Err(due_refusal(due)),
+        "a wrong unfolding is refused otherwise",
+    )?;
     want(image == before, "a refused unfolding writes something")?;
-    counts.refused(15);
+    counts.refused(due);
     Ok(())
 }
 
 /// Bytes and lengths of any kind: no call panics, and a refusal changes
-/// nothing.
+/// nothing and has place 0.
 pub fn any_bytes(random: &mut Random) -> Result<(), String> {
     let pointers = draw_bytes(random, 6, 9);
     let most = if random.chance(50) { 5 } else { 300 };
@@ -115,19 +149,20 @@ pub fn any_bytes(random: &mut Random) -> Result<(), String> {
     if let Some(first) = record.first_mut() {
         *first = [START, STATEMENT][random.below(2)];
     }
-    let counters = [1; NODES];
+    let counters = vec![1; random.below(2 * NODES)];
+    let at_0 = |refusal: Refusal| refusal == due_refusal(refusal.number);
     let before = Image { pointers, cells };
     let folded = before.fold();
     want(
-        folded.refusal != 0 || folded.record[0] != 0,
-        "a fold tells nothing",
+        folded.refusal.map_or(folded.record[0] == START, at_0),
+        "a fold tells nothing, or a place",
     )?;
     let mut image = before.clone();
-    let refusal = unfold(&record, &counters, &mut image.pointers, &mut image.cells);
-    want(
-        refusal == 0 || image == before,
-        "a refused unfolding writes",
-    )?;
+    let fits = match unfold(&record, &counters, &mut image.pointers, &mut image.cells) {
+        Ok(()) => counters.len() == NODES,
+        Err(refusal) => at_0(refusal) && image == before,
+    };
+    want(fits, "a refused unfolding writes, or has a place")?;
     let mut image = before.clone();
     let stepped = step(
         &mut image.pointers,
@@ -136,6 +171,10 @@ pub fn any_bytes(random: &mut Random) -> Result<(), String> {
         random.next(),
         random.next(),
     );
-    let moved = matches!(stepped, Stepped::Moved { .. });
-    want(moved || image == before, "a step that is none writes")
+    let fits = match stepped {
+        Stepped::Moved { .. } => true,
+        Stepped::Refused(refusal) => at_0(refusal) && image == before,
+        Stepped::Stop | Stepped::Fault(_) => image == before,
+    };
+    want(fits, "a step that is none writes, or has a place")
 }

@@ -2,7 +2,7 @@
 
 #![allow(dead_code)]
 
-use reference::{translate, Translated};
+use reference::{translate, Refusal, Translated};
 
 pub type Record = [u8; 32];
 pub const NULL: u8 = 0xfe;
@@ -62,6 +62,11 @@ pub fn pointers(first: &[u8]) -> [u8; 6] {
     let mut all = NULLS;
     all[..first.len()].copy_from_slice(first);
     all
+}
+
+/// A refusal at place 0.
+pub fn at_0(number: u8) -> Refusal {
+    Refusal { number, place: 0 }
 }
 
 pub fn input(records: &[Record]) -> Vec<u8> {

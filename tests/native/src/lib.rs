@@ -2,4 +2,4 @@
 
 pub mod draw;
 
-pub use currantplane::{fold, step, translate, unfold};
+pub use currantplane::{fold, step, translate, unfold, Refusal};

@@ -2,6 +2,7 @@
 //! Every refusal and every fault must have been met: the tests count them.
 
 use native::draw::{damage_record, damaged_image, image, statement, Draw};
+use native::Refusal;
 use reference::Stepped;
 
 const ROUNDS: usize = 50_000;
@@ -17,20 +18,25 @@ fn all_met(what: &str, met: &[u64], wanted: &[usize]) {
     println!("{what}: {:?}", wanted.iter().map(|&n| (n, met[n])).collect::<Vec<_>>());
 }
 
+/// A refusal of the second translator as the library tells it: both numbers are 0 for none.
+fn told(refusal: Option<reference::Refusal>) -> Refusal {
+    refusal.map_or(Refusal { number: 0, place: 0 }, |r| Refusal { number: r.number, place: r.place })
+}
+
 fn compare_fold(pointers: &[u8], cells: &[u8]) -> u8 {
     let ours = native::fold(pointers, cells);
     let theirs = reference::fold(pointers, cells);
-    assert_eq!(ours, (theirs.refusal, theirs.record, theirs.counters), "fold of {pointers:x?} {cells:x?}");
-    ours.0
+    assert_eq!(ours, (told(theirs.refusal), theirs.record, theirs.counters), "fold of {pointers:x?} {cells:x?}");
+    ours.0.number
 }
 
-fn compare_unfold(record: &[u8], counters: &[u32; 12], np: usize, nc: usize, fill: u8) -> u8 {
+fn compare_unfold(record: &[u8], counters: &[u32], np: usize, nc: usize, fill: u8) -> u8 {
     let (mut p, mut c) = (vec![fill; np], vec![fill ^ 0x55; nc]);
     let (mut q, mut d) = (p.clone(), c.clone());
     let ours = native::unfold(record, counters, &mut p, &mut c);
     let theirs = reference::unfold(record, counters, &mut q, &mut d);
-    assert_eq!((ours, &p, &c), (theirs, &q, &d), "unfold of {record:x?} {counters:?}");
-    ours
+    assert_eq!((ours, &p, &c), (told(theirs.err()), &q, &d), "unfold of {record:x?} {counters:?}");
+    ours.number
 }
 
 fn compare_step(pointers: &[u8], cells: &[u8], record: &[u8], pick: u8, cell: usize) -> (u8, [u8; 4]) {
@@ -38,13 +44,13 @@ fn compare_step(pointers: &[u8], cells: &[u8], record: &[u8], pick: u8, cell: us
     let (mut q, mut d) = (p.clone(), c.clone());
     let ours = native::step(&mut p, &mut c, record, pick, cell);
     let theirs = match reference::step(&mut q, &mut d, record, pick as u64, cell as u64) {
-        Stepped::Refused(n) => (n, [0; 4]),
-        Stepped::Stop => (0, [0, 1, 0, 0]),
-        Stepped::Fault(f) => (0, [f, 0, 0, 0]),
-        Stepped::Moved { branch, next } => (0, [0, 0, branch, next]),
+        Stepped::Refused(r) => (told(Some(r)), [0; 4]),
+        Stepped::Stop => (told(None), [0, 1, 0, 0]),
+        Stepped::Fault(f) => (told(None), [f, 0, 0, 0]),
+        Stepped::Moved { branch, next } => (told(None), [0, 0, branch, next]),
     };
     assert_eq!((ours, &p, &c), (theirs, &q, &d), "step {record:x?} on {pointers:x?} {cells:x?}");
-    ours
+    (ours.0.number, ours.1)
 }
 
 #[test]
@@ -81,7 +87,7 @@ fn unfolds_agree_and_fold_back() {
             let (mut q, mut e) = (vec![0; np], vec![0; nc]);
             native::unfold(&record, &counters, &mut q, &mut e);
             let (again, shape, sizes) = native::fold(&q, &e);
-            assert_eq!((again, &shape[..], sizes), (0, &record[..], counters));
+            assert_eq!((again, &shape[..], sizes), (told(None), &record[..], counters));
         }
     }
     all_met("unfold refusal", &met, &[0, 8, 9, 13, 15]);
@@ -137,6 +143,14 @@ fn limits_of_images() {
     assert_eq!(compare_unfold(&two, &counters(&[u32::MAX, 2]), 6, 240, 7), 15);
     assert_eq!(compare_unfold(&two, &counters(&[u32::MAX, u32::MAX]), 6, 240, 7), 15);
     assert_eq!(compare_unfold(&two, &counters(&[1, 1]), 6, 241, 7), 13);
+    // counters that are not twelve are looked at after the lengths, the layout and the numbering
+    let other = record_of(2, [1, 0, 0xfe, 0xfe, 0xfe, 0xfe], &[0xfe, 0xff]);
+    for few in [vec![], vec![1, 1], vec![1; 11], vec![1; 13]] {
+        assert_eq!(compare_unfold(&two, &few, 6, 240, 7), 15);
+        assert_eq!(compare_unfold(&other, &few, 6, 240, 7), 9);
+        assert_eq!(compare_unfold(&two[..31], &few, 6, 240, 7), 8);
+        assert_eq!(compare_unfold(&two, &few, 5, 240, 7), 13);
+    }
 }
 
 #[test]
@@ -145,6 +159,7 @@ fn odd_lengths() {
         for m in [0, 1, 31, 33, 64, 241, 300] {
             compare_fold(&vec![0xfe; n], &vec![0xfd; m]);
             compare_unfold(&vec![0; m], &[0; 12], n, m, 3);
+            compare_unfold(&vec![0; m], &vec![0; n], n, m, 3);
             compare_step(&vec![0xfe; n], &vec![0xfd; m], &vec![0x53; n * 4], 0, 0);
         }
     }

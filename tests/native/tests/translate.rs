@@ -2,6 +2,7 @@
 //! Every refusal from 1 to 12 must have been met: the test counts them.
 
 use native::draw::{routine, Draw};
+use native::Refusal;
 
 const ROUNDS: usize = 60_000;
 
@@ -10,9 +11,9 @@ fn compare(input: &[u8], locations: usize, edges: usize, fill: u8) -> (u8, usize
     let (mut m, mut f) = (l.clone(), e.clone());
     let ours = native::translate(input, &mut l, &mut e);
     let theirs = reference::translate(input, &mut m, &mut f);
-    assert_eq!(ours, (theirs.refusal, [theirs.place, theirs.locations, theirs.edges]), "translate {input:x?}");
+    assert_eq!(ours, (Refusal { number: theirs.refusal, place: theirs.place }, [theirs.locations, theirs.edges]), "translate {input:x?}");
     assert!(l == m && e == f, "tables of {input:x?} with {locations} and {edges} bytes");
-    (ours.0, ours.1[1])
+    (ours.0.number, ours.1[0])
 }
 
 #[test]

@@ -7,7 +7,7 @@ use Rattle.model.specs.Records.{stmtOf}
 use Rattle.edge.proofs.target_of.Statement.{statement}
 use Rattle.edge.proofs.target_of.Tie as tie
 
-second : (st : Stmt) (b : ℕ) → (b ≡ 0 → ⊥) → st .second ≡ target st b
+second : (st : Stmt) (b : ℕ) → (b ≡ 0 → ⊥) → st .secondTarget ≡ target st b
 second st zero n = absurd (n refl)
 second st (suc b) n = refl
 

@@ -18,33 +18,39 @@ returns c sts t K H O =
     fault-added t (a .locations .now) (a .edges .now) (a .nl) (a .ne) (a .i) H (s .pre .1) (a .n) sts (l .last .1 .0) O (l .ensures ∙ rest-is (a .locations .now) (a .i)) non
 
 -- the statement's record stands in the input
-ends : (c : tie.Else1) → 32 * byte (c .before .before .copy-record .last .1 .0) 1 + 32 ≤ length (c .before .before .before .before .before .before .before .before .before .args .input .now)
+ends : (c : tie.After-record-start) → c .record-start .result + 32 ≤ length (c .before .before .before .before .before .before .before .before .before .before .args .input .now)
 ends c =
-    let s = c .before .before .before .before .before .before .before .before .before in
+    let s = c .before .before .before .before .before .before .before .before .before .before in
     let a = s .args in
-    let l = c .before .before .copy-record in
+    let l = c .before .before .before .copy-record in
     let z : byte (l .last .1 .0) 2 ≡ 0 = search needs in
-    statement-within (a .input .now) (a .n) (a .locations .now) (a .edges .now) (a .nl) (a .ne) (a .i) (s .pre .0) (s .pre .1) (l .last .1 .0) (l .ensures ∙ rest-is (a .locations .now) (a .i)) z
+    omega (
+      arith,
+      c .record-start .ensures,
+      statement-within (a .input .now) (a .n) (a .locations .now) (a .edges .now) (a .nl) (a .ne) (a .i) (s .pre .0) (s .pre .1) (l .last .1 .0) (l .ensures ∙ rest-is (a .locations .now) (a .i)) z,
+    )
 
 add-edges-requires : tie.Need-add-edges-requires
 add-edges-requires c κs =
-    let s = c .before .before .before .before .before .before .before .before .before .before .before .before .before in
+    let s = c .before .before .before .before .before .before .before .before .before .before .before .before .before .before in
     let a = s .args in
     let R = s .pre .0 in
-    let l = c .before .before .before .before .before .before .copy-record in
+    let l = c .before .before .before .before .before .before .before .copy-record in
+    let f = c .before .before .before .before .record-start in
     let z : byte (l .last .1 .0) 2 ≡ 0 = search needs in
     shape-given (R .list) (a .locations .now) (a .edges .now) (a .nl) (a .ne) (a .i) (R .held) (s .pre .1) (a .input .now) (a .n) (R .statements) (l .last .1 .0) _
-    (R .readable) (R .fine) (l .ensures ∙ rest-is (a .locations .now) (a .i)) z (part-is (a .input .now) (byte (l .last .1 .0) 1))
+    (R .readable) (R .fine) (l .ensures ∙ rest-is (a .locations .now) (a .i)) z (part-is (a .input .now) (byte (l .last .1 .0) 1) (f .result) (f .ensures))
 
 returns-2 : tie.Need-returns-2
 returns-2 c sts t K H O =
-    let s = c .before .before .before .before .before .before .before .before .before .before .before .before .before .before .before .before .before .before in
+    let s = c .before .before .before .before .before .before .before .before .before .before .before .before .before .before .before .before .before .before .before in
     let a = s .args in
-    let l = c .before .before .before .before .before .before .before .before .before .before .before .copy-record in
+    let l = c .before .before .before .before .before .before .before .before .before .before .before .before .copy-record in
+    let f = c .before .before .before .before .before .before .before .before .before .record-start in
     let w = c .before .before .before .before .add-edges in
     let z : byte (l .last .1 .0) 2 ≡ 0 = search needs in
     shape-added t (a .locations .now) (a .edges .now) (a .nl) (a .ne) (a .i) H (s .pre .1) (a .input .now) (a .n) sts (l .last .1 .0) _ _ _ (w .result)
-    K O (l .ensures ∙ rest-is (a .locations .now) (a .i)) z (part-is (a .input .now) (byte (l .last .1 .0) 1)) (w .ensures)
+    K O (l .ensures ∙ rest-is (a .locations .now) (a .i)) z (part-is (a .input .now) (byte (l .last .1 .0) 1) (f .result) (f .ensures)) (w .ensures)
 
 pub explore-location-spec : {M : Type 1} → statement M
 explore-location-spec =
@@ -60,8 +66,7 @@ explore-location-spec =
     (λ c. search needs)
     returns
     (λ c. search needs)
-    (λ c. omega (arith, ends c))
-    (λ c. omega (arith, ends c))
+    (λ c κs. search needs)
     (λ c. omega (arith, ends c))
     (λ c. search needs)
     (λ c. search needs)

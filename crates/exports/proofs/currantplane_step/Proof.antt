@@ -1,73 +1,62 @@
--- `currantplane_step` meets its contract: the four outcomes of a step in numbers.
-use mathlib.Core.Path.{_≡_}
 use borrow.Author.Needs.{needs}
-use Rattle.model.specs.Answers.{steppingOf}
-use Rattle.model.specs.declared.Stepped.the-variants as stepped
+use Rattle.exports.specs.Over.{over}
+use mathlib.Core.Path.{_∙_, ap}
+use Rattle.model.specs.Answers.{refusalOf, steppingOf}
 use Rattle.exports.proofs.Telling.{stepped-as}
 use Rattle.exports.proofs.currantplane_step.Statement.{statement}
 use Rattle.exports.proofs.currantplane_step.Tie as tie
 
+step-requires : tie.Need-step-requires
+step-requires c κs = search needs
+
+step-numbers-requires : tie.Need-step-numbers-requires
+step-numbers-requires c κs = search needs
+
+slice-aggregate-lay : tie.Need-slice-aggregate-lay
+slice-aggregate-lay c = search needs
+
+lay-requires : tie.Need-lay-requires
+lay-requires c κs = search needs
+
+step-ended-requires : tie.Need-step-ended-requires
+step-ended-requires c κs = search needs
+
+place-of-requires : tie.Need-place-of-requires
+place-of-requires c κs = search needs
+
+number-of-requires : tie.Need-number-of-requires
+number-of-requires c κs = search needs
+
+same-length : tie.Need-same-length
+same-length c = search needs
+
+same-length-2 : tie.Need-same-length-2
+same-length-2 c = search needs
+
+same-length-3 : tie.Need-same-length-3
+same-length-3 c = search needs
+
 returns : tie.Need-returns
 returns c =
-    let a = c .before .before .before .before .before .before .before .before .before .before .before .before .before .before .before .before .before .before .before .args in
-    let t = c .before .before .before .before .before .before .before .before .before .before .before .before .step in
-    let g = c .before .before .before .before .before .before .stepped .given in
-    let e : t .result ≡ stepped.Went (g .0 .0) (g .0 .1 .0) = search needs in
-    stepped-as (steppingOf (stepped.Went (g .0 .0) (g .0 .1 .0)) (t .last .0) (t .last .1 .0)) _ _ (a .answer .now) (rw e at (t .ensures)) (c .before .before .lay .ensures)
-
-returns-2 : tie.Need-returns-2
-returns-2 c =
-    let a = c .before .before .before .before .before .before .before .before .before .before .before .before .before .before .before .before .before .before .before .args in
-    let t = c .before .before .before .before .before .before .before .before .before .before .before .before .step in
-    let g = c .before .before .before .before .before .before .stepped2 .given in
-    let e : t .result ≡ stepped.Faulted (g .0 .0) = search needs in
-    stepped-as (steppingOf (stepped.Faulted (g .0 .0)) (t .last .0) (t .last .1 .0)) _ _ (a .answer .now) (rw e at (t .ensures)) (c .before .before .lay2 .ensures)
-
-returns-3 : tie.Need-returns-3
-returns-3 c =
-    let a = c .before .before .before .before .before .before .before .before .before .before .before .before .before .before .before .before .before .before .args in
-    let t = c .before .before .before .before .before .before .before .before .before .before .before .step in
-    let e : t .result ≡ stepped.Stopped = search needs in
-    stepped-as (steppingOf (stepped.Stopped) (t .last .0) (t .last .1 .0)) _ _ (a .answer .now) (rw e at (t .ensures)) (c .before .before .lay3 .ensures)
-
-returns-4 : tie.Need-returns-4
-returns-4 c =
-    let a = c .before .before .before .before .before .before .before .before .before .before .before .before .before .before .before .before .before .before .before .args in
-    let t = c .before .before .before .before .before .before .before .before .before .before .before .before .step in
-    let g = c .before .before .before .before .before .before .stepped3 .given in
-    let e : t .result ≡ stepped.Refused (g .0 .0) = search needs in
-    stepped-as (steppingOf (stepped.Refused (g .0 .0)) (t .last .0) (t .last .1 .0)) _ _ (a .answer .now) (rw e at (t .ensures)) (c .before .before .lay4 .ensures)
+    let s = c .before .before .before .before .before .before .before .before .before .before .before .before .before .step in
+    let e = c .before .before .step-ended in
+    let l = c .before .before .before .before .before .before .before .before .before .before .before .before .before .before .before .before .before .before .before .before .args .answer .now in
+    stepped-as (steppingOf (s .result) (s .last .0) (s .last .1 .0)) _ _ _ _ l (s .ensures)
+    (c .number-of .ensures ∙ ap (λ v. refusalOf v .number) (e .ensures)) (c .before .place-of .ensures ∙ ap (λ v. refusalOf v .place) (e .ensures))
+    (c .before .before .before .before .before .lay .ensures ∙ ap (λ x. over x l) (c .before .before .before .before .before .before .before .before .step-numbers .ensures))
 
 pub currantplane-step-spec : {M : Type 1} → statement M
 currantplane-step-spec =
     tie.close
     (tie.spec
-    (λ c κs. search needs)
-    (λ c. search needs)
-    (λ c. search needs)
-    (λ c κs. search needs)
-    (λ c. search needs)
-    (λ c. search needs)
-    (λ c κs. search needs)
-    (λ c. search needs)
-    (λ c. search needs)
-    (λ c κs. search needs)
-    (λ c. search needs)
-    (λ c. search needs)
-    (λ c κs. search needs)
-    (λ c. search needs)
-    (λ c. search needs)
-    (λ c. search needs)
-    returns
-    (λ c. search needs)
-    (λ c. search needs)
-    (λ c. search needs)
-    returns-2
-    (λ c. search needs)
-    (λ c. search needs)
-    (λ c. search needs)
-    returns-3
-    (λ c. search needs)
-    (λ c. search needs)
-    (λ c. search needs)
-    returns-4)
+    step-requires
+    step-numbers-requires
+    slice-aggregate-lay
+    lay-requires
+    step-ended-requires
+    place-of-requires
+    number-of-requires
+    same-length
+    same-length-2
+    same-length-3
+    returns)

@@ -1,73 +1,49 @@
--- `lay` meets its contract: after i turns the first i elements are laid, up to the end of either list.
-use Prim.Native.Nat.{_≤_, _<_, _-_}
-use mathlib.Core.Path.{_≡_}
-use lib.ListN.{length, length-set}
-use native.Mathlib.Omega.{arith}
 use borrow.Author.Needs.{needs}
-use Rattle.exports.proofs.Laying.{laid, laid-next, laid-room, laid-end}
+use mathlib.Core.Path.{refl, sym}
+use lib.ListN.{length}
+use lib.Seq.{length-take-le}
+use native.Mathlib.Omega.{arith}
+use Rattle.exports.proofs.Laying.{copied-over, copied-part}
 use Rattle.exports.proofs.lay.Statement.{statement}
 use Rattle.exports.proofs.lay.Tie as tie
 
-abbrev Inv-loop : tie.InvT-loop
-Inv-loop from to₀ i₀ to i = (i ≤ length from) × (i ≤ length to₀) × (length to ≡ length to₀) × (to ≡ laid i from to₀)
+copy-requires : tie.Need-copy-requires
+copy-requires c κs = search needs
 
-abbrev μ-loop : tie.MeasureT-loop
-μ-loop from to₀ i₀ to i = length from - i
-
-loop-holds : tie.Need-loop-holds Inv-loop μ-loop
-loop-holds c = search needs
-
-same-length : tie.Need-same-length Inv-loop μ-loop
+same-length : tie.Need-same-length
 same-length c = search needs
 
-returns : tie.Need-returns Inv-loop μ-loop
+returns : tie.Need-returns
 returns c =
-    let l = c .before .before .loop in
-    let a = c .before .before .before .args in
-    laid-room (l .i) (a .from .now) (a .to .now) (l .to) (l .inv .1) (omega arith) (l .inv .0) (l .inv .3)
+    let a = c .before .before .before .before .before .before .before .args in
+    copied-over (a .from .now) (a .to .now) _ (omega arith) (c .before .before .copy .ensures .1)
 
-shared-slice-read-to : tie.Need-shared-slice-read-to Inv-loop μ-loop
-shared-slice-read-to c = search needs
-
-slice-write-to : tie.Need-slice-write-to Inv-loop μ-loop
-slice-write-to c = search needs
-
-add-i : tie.Need-add-i Inv-loop μ-loop
-add-i c = search needs
-
-loop-less : tie.Need-loop-less Inv-loop μ-loop
-loop-less c = search needs
-
-loop-again : tie.Need-loop-again Inv-loop μ-loop
-loop-again c =
-    let l = c .before .before .before .loop in
+slice-aggregate-copy : tie.Need-slice-aggregate-copy
+slice-aggregate-copy c =
     let a = c .before .before .before .before .args in
-    let h : l .i < length (a .from .now) = omega arith in
-    let k : l .i < length (a .to .now) = omega arith in
-    (omega arith, omega arith, simp length-set (l .inv .2), laid-next (l .i) (a .from .now) (a .to .now) (l .to) h k (l .inv .3))
+    sym (length-take-le (length (a .to .now)) (a .from .now) (omega arith))
 
-same-length-2 : tie.Need-same-length-2 Inv-loop μ-loop
+copy-requires-2 : tie.Need-copy-requires-2
+copy-requires-2 c κs =
+    let a = c .before .before .before .before .before .args in
+    omega (arith, length-take-le (length (a .to .now)) (a .from .now) (omega arith))
+
+same-length-2 : tie.Need-same-length-2
 same-length-2 c = search needs
 
-returns-2 : tie.Need-returns-2 Inv-loop μ-loop
+returns-2 : tie.Need-returns-2
 returns-2 c =
-    let l = c .before .loop in
-    let a = c .before .before .args in
-    laid-end (l .i) (a .from .now) (a .to .now) (l .to) (l .inv .1) (omega arith) (l .inv .0) (l .inv .3)
+    let a = c .before .before .before .before .before .before .before .before .args in
+    copied-part (a .from .now) (a .to .now) _ _ (omega arith) refl (c .before .before .copy2 .ensures .1)
 
 pub lay-spec : {M : Type 1} → statement M
 lay-spec =
     tie.close
     (tie.spec
-    Inv-loop
-    μ-loop
-    loop-holds
+    copy-requires
     same-length
     returns
-    shared-slice-read-to
-    slice-write-to
-    add-i
-    loop-less
-    loop-again
+    slice-aggregate-copy
+    copy-requires-2
     same-length-2
     returns-2)

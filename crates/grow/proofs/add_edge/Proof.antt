@@ -5,7 +5,7 @@ use lib.ListN.{length}
 use borrow.Author.Needs.{needs}
 use Rattle.model.specs.Translate.{places}
 use Rattle.grow.proofs.Kept.{place-within}
-use Rattle.grow.proofs.Held.{full-edges, full-locations, one-more}
+use Rattle.grow.proofs.Held.{full-edges, full-locations, one-more, target-tag}
 use Rattle.grow.proofs.add_edge.Statement.{statement}
 use Rattle.grow.proofs.add_edge.Tie as tie
 
@@ -23,10 +23,11 @@ returns-2 c t e H B =
 
 keep-target-requires : tie.Need-keep-target-requires
 keep-target-requires c κs =
-    let a = c .before .before .before .before .before .before .before .before .before .before .before .args in
+    let s = c .before .before .before .before .before .before .before .before .before .before .before in
+    let a = s .args in
     let j = c .before .before .before .before .before .find .result in
     let h : j < places 1024 (length (a .locations .now)) = search needs in
-    (place-within 1024 (length (a .locations .now)) j h, search needs)
+    (place-within 1024 (length (a .locations .now)) j h, search needs, target-tag (s .pre .bytes))
 
 put-edge-requires : tie.Need-put-edge-requires
 put-edge-requires c κs =

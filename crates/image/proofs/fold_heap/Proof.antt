@@ -14,16 +14,14 @@ slice-aggregate-write-head c =
 
 returns : tie.Need-returns
 returns c =
-    let z = c .before .clear-past in
-    let w = c .before .before .before .before .write-head in
-    let p = c .before .before .before .before .before .before .before .before .before .before in
+    let w = c .before .write-head in
+    let p = c .before .before .before .before .before .before .before in
     let s = p .shape-of in
     let t = s .last .1 .1 .1 .1 .1 in
-    fold-is (p .before .before .before .before .before .before .before .before .before .pre) (t .0) (t .1 .1 .0) (t .1 .1 .1 .0) (s .result) (s .ensures) (w .last .0) (z .last .0) (s .kept .1 .1 .1 .1 .1 .1 .1 .0) (w .ensures)
-    (z .ensures)
+    fold-is (p .before .before .before .before .before .before .before .before .before .pre) (t .0) (t .1 .1 .0) (t .1 .1 .1 .0) (s .result) (s .ensures .0) (w .last .0) (w .ensures) (s .ensures .1)
 
 pub fold-heap-spec : {M : Type 1} → statement M
 fold-heap-spec =
     tie.close
     (tie.spec (λ c. search needs) (λ c. search needs) (λ c. search needs) (λ c. search needs) (λ c. search needs) (λ c. search needs)
-    (λ c κs. search needs) slice-aggregate-write-head (λ c κs. search needs) (λ c. search needs) (λ c κs. search needs) returns)
+    (λ c κs. search needs) slice-aggregate-write-head (λ c κs. search needs) returns)

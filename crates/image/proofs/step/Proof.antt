@@ -1,7 +1,7 @@
 -- `image::step` meets its contract: a refusal leaves all, and without one the step is taken. Assumes nothing.
 use mathlib.Core.Path.{sym, _∙_}
 use borrow.Author.Needs.{needs}
-use Rattle.image.proofs.StepLaws.{step-checked, step-unchecked}
+use Rattle.image.proofs.StepLaws.{step-unchecked}
 use Rattle.image.proofs.step.Statement.{statement}
 use Rattle.image.proofs.step.Tie as tie
 
@@ -16,10 +16,7 @@ take-step-requires c κs = sym (c .before .before .before .step-refusal .ensures
 
 returns-2 : tie.Need-returns-2
 returns-2 c =
-    let t = c .before .before .before .before .before .before .before in
-    let a = t .before .before .before .before .before .before .before .args in
     c .before .before .before .before .take-step .ensures
-    ∙ step-checked (a .rec .now) (a .pick) (a .cell) (a .pointers .now) (a .cells .now) (sym (t .before .step-refusal .ensures) ∙ t .if1 .left)
 
 pub step-spec : {M : Type 1} → statement M
 step-spec = tie.close (tie.spec (λ c κs. search needs) (λ c. search needs) (λ c. search needs) returns take-step-requires (λ c. search needs)

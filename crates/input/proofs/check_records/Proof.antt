@@ -5,8 +5,8 @@ use mathlib.Core.List.{[]}
 use native.Mathlib.Omega.{arith}
 use lib.ListN.{drop}
 use borrow.Author.Needs.{needs}
-use Rattle.model.specs.Records.{recordAt}
-use Rattle.model.specs.Translate.{badRecord, refusal}
+use Rattle.model.specs.Records.{recordAt, refusal}
+use Rattle.model.specs.Translate.{badRecord}
 use Rattle.model.proofs.Listings.{recordsOf}
 use Rattle.input.specs.Parts.{earlier}
 use Rattle.input.proofs.Records.{records-pass, records-fail, records-pass-end}

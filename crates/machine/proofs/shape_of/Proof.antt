@@ -12,7 +12,7 @@ fold-values-requires c κs =
     let k = c .before .before .before .before .before .before .before .before in
     let s = k .before .before .before .before .before .before .before .before .before .before .before .before in
     let t = k .cut .last .1 .1 .1 in
-    values-ready (s .pre) (t .0) (t .1 .0) (t .1 .1 .0) (k .cut .result) (k .cut .ensures) (k .cut .kept .1 .1 .1 .0)
+    values-ready (s .pre) (t .0) (t .1 .0) (t .1 .1 .0) (k .cut .result) (k .cut .ensures .0) (k .cut .kept .1 .1 .1 .0)
 
 fold-successors-requires : tie.Need-fold-successors-requires
 fold-successors-requires c κs =
@@ -20,7 +20,7 @@ fold-successors-requires c κs =
     let k = c .before .before .before .before .before .before .before .before .before .before .before .before .before .before in
     let s = k .before .before .before .before .before .before .before .before .before .before .before .before in
     let t = k .cut .last .1 .1 .1 in
-    successors-ready (s .pre) (t .0) (t .1 .0) (t .1 .1 .0) (k .cut .result) (k .cut .ensures) (a .last .1 .1 .0) (a .ensures) (a .kept .1 .1 .0)
+    successors-ready (s .pre) (t .0) (t .1 .0) (t .1 .1 .0) (k .cut .result) (k .cut .ensures .0) (a .last .1 .1 .0) (a .ensures) (a .kept .1 .1 .0)
     (k .cut .kept .1 .1 .1 .0) (k .cut .kept .1 .1 .1 .1 .0)
 
 returns : tie.Need-returns
@@ -29,8 +29,10 @@ returns c =
     let a = c .before .before .before .before .before .before .before .before .fold-values in
     let k = c .before .before .before .before .before .before .before .before .before .before .before .before .before .before .before .before .before in
     let s = k .before .before .before .before .before .before .before .before .before .before .before .before in
-    let t = k .cut .last .1 .1 .1 in
-    shape-is (s .pre) (t .0) (t .1 .0) (t .1 .1 .0) (k .cut .result) (k .cut .ensures) (a .last .1 .1 .0) (a .ensures) (b .last .1 .1 .1 .1 .0) (b .ensures)
+    let t = k .cut .last .1 .1 .1 in (
+      shape-is (s .pre) (t .0) (t .1 .0) (t .1 .1 .0) (k .cut .result) (k .cut .ensures .0) (a .last .1 .1 .0) (a .ensures) (b .last .1 .1 .1 .1 .0) (b .ensures),
+      k .cut .ensures .1,
+    )
 
 pub shape-of-spec : {M : Type 1} → statement M
 shape-of-spec =

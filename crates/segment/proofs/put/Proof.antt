@@ -11,38 +11,29 @@ use Rattle.segment.proofs.put.Statement.{statement}
 use Rattle.segment.proofs.put.Tie as tie
 
 -- what the test says of the cell
-core : (c : tie.Then1) → let a = c .before .before .args in heldCore (a .held .now) (a .c) ≡ true
-core c = let t : 2 ≤ getD (c .before .before .args .held .now) (c .before .before .args .c) 0 = search needs in le-leb 2 _ t
+core : (c : tie.Then1) → let a = c .before .before .before .before .before .before .args in heldCore (a .held .now) (a .c) ≡ true
+core c = let a = c .before .before .before .before .before .before .args in let t : 2 ≤ getD (a .held .now) (a .c) 0 = search needs in le-leb 2 _ t
 
-inner : (c : tie.Else1) → let a = c .before .before .args in heldCore (a .held .now) (a .c) ≡ false
-inner c = let t : getD (c .before .before .args .held .now) (c .before .before .args .c) 0 < 2 = search needs in lt-leb 2 _ t
+inner : (c : tie.Else1) → let a = c .before .before .before .before .before .before .args in heldCore (a .held .now) (a .c) ≡ false
+inner c = let a = c .before .before .before .before .before .before .args in let t : getD (a .held .now) (a .c) 0 < 2 = search needs in lt-leb 2 _ t
 
-slice-write-last : tie.Need-slice-write-last
-slice-write-last c = c .before .before .pre .fresh (core c) .0
-
-slice-write-size : tie.Need-slice-write-size
-slice-write-size c = c .before .before .pre .fresh (core c) .1
+begin-requires : tie.Need-begin-requires
+begin-requires c κs = let p = c .before .before .before .before .before .before .before .before .before .pre in let f = p .fresh (core (c .before .before .before)) in (p .low .1, f .0, f .1)
 
 returns : tie.Need-returns
-returns c = rw (core c) (record { entered = record { node = refl; last = refl; size = refl }; number = refl })
+returns c = rw (core (c .before .before .before .before .before .before .before .before .before .before)) (record { entered = c .before .before .before .before .before .before .begin .ensures; number = refl })
 
-sub-j : tie.Need-sub-j
-sub-j c = c .before .before .pre .more (inner c) .0
+last-node-requires : tie.Need-last-node-requires
+last-node-requires c κs = let p = c .before .before .before .before .before .before .pre in (p .more (inner c) .0, p .few)
 
-slice-write-last-2 : tie.Need-slice-write-last-2
-slice-write-last-2 c = omega (arith, c .before .before .pre .more (inner c))
-
-slice-read-size : tie.Need-slice-read-size
-slice-read-size c = omega (arith, c .before .before .before .pre .more (inner (c .before)))
-
-add-size : tie.Need-add-size
-add-size c = omega (arith, c .before .before .before .pre .more (inner (c .before)))
-
-slice-write-size-2 : tie.Need-slice-write-size-2
-slice-write-size-2 c = omega (arith, c .before .before .before .pre .more (inner (c .before)))
+extend-requires : tie.Need-extend-requires
+extend-requires c κs =
+    let p = c .before .before .before .before .before .before .before .before .before .before .pre in
+    let m = p .more (inner (c .before .before .before .before)) in
+    rw (c .before .before .before .last-node .ensures) (p .low .1, omega arith, omega arith, m .3)
 
 returns-2 : tie.Need-returns-2
-returns-2 c = rw (inner (c .before)) (record { entered = record { node = refl; last = refl; size = refl }; number = refl })
+returns-2 c = rw (inner (c .before .before .before .before .before .before .before .before .before .before .before)) (record { entered = rw (c .before .before .before .before .before .before .before .before .before .before .last-node .ensures) at (c .before .before .before .before .before .before .extend .ensures); number = refl })
 
 pub put-spec : {M : Type 1} → statement M
 put-spec =
@@ -50,23 +41,14 @@ put-spec =
     (tie.spec
     (λ c. search needs)
     (λ c. search needs)
-    (λ c. search needs)
-    slice-write-last
-    (λ c. search needs)
-    slice-write-size
+    begin-requires
     (λ c. search needs)
     (λ c. search needs)
     (λ c. search needs)
     (λ c. search needs)
     returns
-    sub-j
-    (λ c. search needs)
-    (λ c. search needs)
-    slice-write-last-2
-    (λ c. search needs)
-    slice-read-size
-    add-size
-    slice-write-size-2
+    last-node-requires
+    extend-requires
     (λ c. search needs)
     (λ c. search needs)
     (λ c. search needs)

@@ -5,10 +5,10 @@ use Rattle.spread.proofs.placed.Statement.{statement}
 use Rattle.spread.proofs.placed.Tie as tie
 
 returns : tie.Need-returns
-returns c = simp (lt-ltb _ _ (c .before .if1 .taken))
+returns c = simp (lt-ltb _ _ (c .before .if1 .taken)) (c .first-of .ensures)
 
 returns-2 : tie.Need-returns-2
 returns-2 c = simp (le-ltb _ _ (c .if1 .left))
 
 pub placed-spec : {M : Type 1} → statement M
-placed-spec = tie.close (tie.spec (λ c. search needs) returns returns-2)
+placed-spec = tie.close (tie.spec (λ c κs. search needs) returns returns-2)

@@ -3,7 +3,7 @@ use mathlib.Core.Path.{_≡_, sym, _∙_}
 use native.Mathlib.Omega.{arith}
 use lib.ListN.{length}
 use borrow.Author.Needs.{needs}
-use Rattle.spread.proofs.Images.{ready-cells, ready-counters, ready-few, ready-nodes, ready-pointers, ready-positive, ready-successors, ready-total}
+use Rattle.spread.proofs.Images.{ready-cells, ready-counters, ready-few, ready-nodes, ready-pointers, ready-positive, ready-successors, ready-total, ready-twelve}
 use Rattle.spread.proofs.spread.Statement.{statement}
 use Rattle.spread.proofs.spread.Tie as tie
 
@@ -17,7 +17,7 @@ first-cells-requires : tie.Need-first-cells-requires
 first-cells-requires c κs =
     let s = c .before .before .before .before .before .before in
     let a = s .args in
-    omega (arith, ready-total (a .rec .now) (a .counters .now) (a .pointers .now) (a .cells .now) (s .pre), s .pre)
+    omega (arith, ready-total (a .rec .now) (a .counters .now) (a .pointers .now) (a .cells .now) (s .pre), ready-twelve (a .rec .now) (a .counters .now) (a .pointers .now) (a .cells .now) (s .pre), s .pre)
 
 part-write-cells-end : tie.Need-part-write-cells-end
 part-write-cells-end c =
@@ -53,7 +53,7 @@ returns c =
     let p = a .pointers .now in
     let l = a .cells .now in
     let t = f .last .1 .0 in
-    let same : length t ≡ length v = omega (arith, s .pre) in (
+    let same : length t ≡ length v = omega (arith, ready-twelve r v p l (s .pre)) in (
       c .before .before .before .before .before .before .before .before .before .place-pointers .ensures ∙ ready-pointers r v p l (s .pre) t (f .ensures) same,
       c .before .before .write-cells .ensures ∙ ready-cells r v p l (s .pre) t (f .ensures) same (length l),
     )

@@ -5,7 +5,7 @@ use native.Mathlib.Omega.{arith}
 use borrow.Author.Needs.{needs}
 use Rattle.model.specs.Records.{recordAt}
 use Rattle.model.proofs.Slices.{put-back}
-use Rattle.translator.specs.Starts.{startBytes}
+use Rattle.record.specs.Written.{locationBytes}
 use Rattle.translator.proofs.put_start.Statement.{statement}
 use Rattle.translator.proofs.put_start.Tie as tie
 
@@ -13,7 +13,7 @@ returns : tie.Need-returns
 returns c =
     let a = c .before .before .before .before .before .before .before .args in
     let e : (32 * a .i + 32) - 32 * a .i ≡ 32 = omega arith in
-    put-back (a .locations .now) (startBytes (recordAt (a .input .now) (a .i))) _ (32 * a .j) 32 (rw e at (c .before .before .enter-start .ensures))
+    put-back (a .locations .now) (locationBytes 0 0 (recordAt (a .input .now) (a .i))) _ (32 * a .j) 32 (rw e at (c .before .before .write-location .ensures))
 
 pub put-start-spec : {M : Type 1} → statement M
 put-start-spec =

@@ -2,7 +2,7 @@
 use Prim.Native.Nat.{_+_, _-_, _<_, _≤_}
 use mathlib.Core.Path.{_≡_, refl, ap, _∙_}
 use native.Mathlib.Omega.{arith}
-use lib.ListN.{getD, length, length-set}
+use lib.ListN.{getD, length, length-set, set}
 use lib.Seq.{take-all}
 use borrow.Author.Needs.{needs}
 use Rattle.model.proofs.Lists.{mem-at}
@@ -24,17 +24,12 @@ loop-holds c =
     let a = s .args in
     (omega arith, refl, added-none (a .node .now) (plusOf (a .split) (a .at .0) (a .k)) (a .cells .now) (a .updates .now) (s .pre .1))
 
-shared-slice-read-j : tie.Need-shared-slice-read-j Inv-loop μ-loop
-shared-slice-read-j c =
-    let s = c .before .before .before .before .before .before .before in
-    let i = c .before .before .before .loop .i in
+node-of-requires : tie.Need-node-of-requires Inv-loop μ-loop
+node-of-requires c κs =
+    let s = c .before .before .before .before .before .before in
+    let i = c .before .before .loop .i in
     let cells = s .args .cells .now in
     s .pre .0 .1 .tabled (getD cells i 0) (mem-at cells i (search needs))
-
-cast-j : tie.Need-cast-j Inv-loop μ-loop
-cast-j c =
-    let cells = c .before .before .before .before .before .before .before .args .cells .now in
-    omega (arith, c .shared-slice-known4 .given (getD cells (c .before .before .before .loop .i) 0))
 
 cell-plus-requires : tie.Need-cell-plus-requires Inv-loop μ-loop
 cell-plus-requires c κs =
@@ -44,45 +39,36 @@ cell-plus-requires c κs =
     let r = s .pre .0 .1 in
     (r .below (getD cells i 0) (mem-at cells i (search needs)), r .fewOld, r .isNode)
 
-mul-updates : tie.Need-mul-updates Inv-loop μ-loop
-mul-updates c =
-    let cells = c .before .before .before .before .before .before .before .before .args .cells .now in
-    omega (arith, c .before .shared-slice-known4 .given (getD cells (c .before .before .before .before .loop .i) 0))
-
 -- the cell's node has an entry
-node-below : (c : tie.After-slice-known2 Inv-loop μ-loop)
-    → let a = c .before .before .before .before .before .before .before .before .before .args in
-    let l = c .before .before .before .before .before .loop in
-    getD (a .node .now) (getD (a .cells .now) (l .i) 0) 0 < length (l .updates)
+node-below : (c : tie.After-node-of Inv-loop μ-loop) → c .node-of .result .0 < length (c .before .before .before .loop .updates)
 node-below c =
-    let s = c .before .before .before .before .before .before .before .before .before in
-    let i = c .before .before .before .before .before .loop .i in
+    let s = c .before .before .before .before .before .before .before in
+    let i = c .before .before .before .loop .i in
     let cells = s .args .cells .now in
-    omega (arith, s .pre .0 .1 .nodes (getD cells i 0) (mem-at cells i (search needs)))
+    omega (arith, c .node-of .ensures, s .pre .0 .1 .nodes (getD cells i 0) (mem-at cells i (search needs)))
 
-slice-read-updates : tie.Need-slice-read-updates Inv-loop μ-loop
-slice-read-updates c = node-below c
-
-add-updates : tie.Need-add-updates Inv-loop μ-loop
-add-updates c =
+add-code-requires : tie.Need-add-code-requires Inv-loop μ-loop
+add-code-requires c κs =
     let s = c .before .before .before .before .before .before .before .before .before in
     let l = c .before .before .before .before .before .loop in
-    let t = getD (s .args .node .now) (getD (s .args .cells .now) (l .i) 0) 0 in
-    let lt : t < length (s .args .updates .now) = omega (arith, node-below c) in
-    omega (arith, l .inv .2 t lt .1, s .pre .0 .0, c .before .cell-plus .ensures .1)
-
-slice-write-updates : tie.Need-slice-write-updates Inv-loop μ-loop
-slice-write-updates c = node-below c
+    let n = c .before .before .node-of .result .0 in
+    let lt : n < length (s .args .updates .now) = omega (arith, node-below (c .before .before), l .inv .1) in
+    (node-below (c .before .before), omega (arith, l .inv .2 n lt .1, s .pre .0 .0, c .before .cell-plus .ensures .1))
 
 loop-again : tie.Need-loop-again Inv-loop μ-loop
 loop-again c =
-    let a = c .before .before .before .before .before .before .before .before .before .args in
-    let l = c .before .before .before .before .before .loop in
-    let p = c .before .cell-plus in (
+    let a = c .before .before .before .before .before .before .before .before .before .before .before .before .args in
+    let l = c .before .before .before .before .before .before .before .before .loop in
+    let p = c .before .before .before .before .cell-plus in
+    let t = getD (a .node .now) (getD (a .cells .now) (l .i) 0) 0 in
+    let lt : t < length (l .updates) = omega (arith, c .before .before .before .before .before .node-of .ensures, node-below (c .before .before .before .before .before)) in
+    let e : c .before .before .add-code .last .0 ≡ set (l .updates) t (getD (l .updates) t 0 + p .result) =
+    c .before .before .add-code .ensures ∙ ap (λ x. set (l .updates) x (getD (l .updates) x 0 + p .result)) (c .before .before .before .before .before .node-of .ensures) in
+    rw e (
       omega arith,
       simp length-set (l .inv .1),
       added-more (a .node .now) (plusOf (a .split) (a .at .0) (a .k)) (a .cells .now) (a .updates .now) (l .updates) (l .i) (p .result)
-          (omega arith) (l .inv .1) (node-below c) (p .ensures .0) (p .ensures .1) (l .inv .2),
+          (omega arith) (l .inv .1) lt (p .ensures .0) (p .ensures .1) (l .inv .2),
     )
 
 returns : tie.Need-returns Inv-loop μ-loop
@@ -101,13 +87,9 @@ add-cells-spec =
     loop-holds
     (λ c. search needs)
     (λ c. omega (arith, c .shared-slice-known3 .given (c .before .before .loop .i)))
-    shared-slice-read-j
-    cast-j
+    node-of-requires
     cell-plus-requires
-    mul-updates
-    slice-read-updates
-    add-updates
-    slice-write-updates
+    add-code-requires
     (λ c. search needs)
     (λ c. search needs)
     loop-again

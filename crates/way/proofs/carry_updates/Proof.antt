@@ -18,14 +18,16 @@ abbrev μ-loop : tie.MeasureT-loop
 
 loop-again : tie.Need-loop-again Inv-loop μ-loop
 loop-again c =
-    let l = c .before .before .loop in
-    let v = 4096 + c .flag .result in
-    let below : l .j < length (l .updates) = omega arith in (
+    let l = c .before .before .before .before .before .before .loop in
+    let f = c .before .before .before .flag in
+    let v = 4096 + f .result in
+    let below : l .j < length (l .updates) = omega arith in
+    rw (c .before .before .set-code .ensures) (
       omega arith,
       simp length-set (l .inv .1),
       below-more (λ i. getD (set (l .updates) (l .j) v) i 0 ≡ 4096 + 2 ^ i) (l .j)
           (λ i lt. getD-set-other (l .updates) (l .j) i v 0 (λ e. omega arith) ∙ l .inv .2 i lt)
-          (getD-set-same (l .updates) (l .j) v 0 below ∙ ap (λ n. 4096 + n) (c .flag .ensures .0)),
+          (getD-set-same (l .updates) (l .j) v 0 below ∙ ap (λ n. 4096 + n) (f .ensures .0)),
     )
 
 returns : tie.Need-returns Inv-loop μ-loop
@@ -38,11 +40,9 @@ carry-updates-spec =
     Inv-loop
     μ-loop
     (λ c. search needs)
-    (λ c. search needs)
     (λ c κs. search needs)
     (λ c. search needs)
-    (λ c. search needs)
-    (λ c. search needs)
+    (λ c κs. search needs)
     (λ c. search needs)
     (λ c. search needs)
     loop-again

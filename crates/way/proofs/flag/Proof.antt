@@ -6,8 +6,9 @@ use Rattle.way.proofs.flag.Tie as tie
 
 returns : tie.Need-returns
 returns c =
-    let e = shifted (c .args .c) (c .pre) in
-    (e, rw e (power-most (c .args .c) (c .pre)))
+    let s = c .before in
+    let e = shifted (s .args .n .0) (s .pre) in
+    (e, rw e (power-most (s .args .n .0) (s .pre)))
 
 pub flag-spec : {M : Type 1} → statement M
-flag-spec = tie.close (tie.spec (λ c. search needs) returns)
+flag-spec = tie.close (tie.spec (λ c. search needs) (λ c. search needs) returns)

@@ -88,7 +88,7 @@ fn translations() {
     names.sort();
     for path in &names {
         let input = std::fs::read(path).unwrap();
-        let (_, [_, locations, edges]) = native::translate(&input, &mut [0; 32_768], &mut [0; 65_536]);
+        let (_, [locations, edges]) = native::translate(&input, &mut [0; 32_768], &mut [0; 65_536]);
         let [ours, theirs, c] = times(&input, 1024);
         let name = path.file_stem().unwrap().to_string_lossy();
         println!("{name:<16} {locations:>5} {edges:>5} {ours:>9.0} ns {theirs:>9.0} ns {c:>7.0} ns {:>13.1} {:>9.1}", theirs / ours, ours / c);
@@ -168,7 +168,7 @@ fn reached(input: &[u8], places: usize) -> usize {
     while low < high {
         let middle = (low + high) / 2;
         let (refusal, _) = native::translate(input, &mut vec![0; 32 * places], &mut vec![0; 32 * middle]);
-        if refusal == 12 { low = middle + 1 } else { high = middle }
+        if refusal.number == 12 { low = middle + 1 } else { high = middle }
     }
     low
 }

@@ -12,7 +12,7 @@ shape-of-requires c κs =
 sum-updates-requires : tie.Need-sum-updates-requires
 sum-updates-requires c κs =
     let f = c .before .before .before .before .before .before .before .before .before .before .before in
-    sum-ready (f .before .before .before .before .before .before .before .before .before .before .before .before .before .before .before .pre) (f .shape-of .ensures) (f .shape-of .kept .1 .1 .1 .1 .1 .0)
+    sum-ready (f .before .before .before .before .before .before .before .before .before .before .before .before .before .before .before .pre) (f .shape-of .ensures .0) (f .shape-of .kept .1 .1 .1 .1 .1 .0)
 
 returns : tie.Need-returns
 returns c =
@@ -21,7 +21,7 @@ returns c =
     let f = c .before .before .before .before .before .before .before .before .before .before .before .before .before .before in
     let b = f .before .before .before .before .before .before .before in
     let s = b .before .before .before .before .before .before .before .before in
-    is-left (s .pre) (b .blank .last .0) (b .blank .ensures) (f .shape-of .ensures) (s .args .to .0) (w .last .0) (u .last .1 .1 .1 .1 .1 .1 .0) (w .ensures)
+    is-left (s .pre) (b .blank .last .0) (b .blank .ensures) (f .shape-of .ensures .0) (s .args .to .0) (w .last .0) (u .last .1 .1 .1 .1 .1 .1 .0) (w .ensures)
     (u .kept .1 .1 .1 .1 .1 .1 .0) (u .ensures)
 
 pub leave-spec : {M : Type 1} → statement M

@@ -44,9 +44,9 @@ abbrev μ-loop : tie.MeasureT-loop
 
 loop-again : tie.Need-loop-again Inv-loop μ-loop
 loop-again c =
-    let s = c .before .before .before .before .before .before in
+    let s = c .before .before .before .before .before .before .before in
     let l = s .args .location .now in
-    let v = byte l (s .args .at) in
+    let v = byte l (s .args .u .0 + 4) in
     let q = c .before .before .before .loop in
     let C = Counted l v (q .i + 1) in (
       search needs,
@@ -59,15 +59,15 @@ loop-again c =
 
 returns : tie.Need-returns Inv-loop μ-loop
 returns c e i a b q =
-    let s = c .before .before .before .before in
+    let s = c .before .before .before .before .before in
     let l = s .args .location .now in
-    let at = s .args .at in
+    let at = s .args .u .0 + 4 in
     let loop = c .before .loop in
     let C = loop .inv .2 in
     let z : loop .count ≡ 1 = eqb-true (loop .count) 1 e in
     eq-case i at (λ t. t) (λ t. absurd (bool-case (ltb i at)
     (λ o. omega (arith, C .two i at a (ltb-true i at o) (omega arith) q refl))
-    (λ o. let d = eqb-false i at t in let g = ltb-false i at o in omega (arith, C .two at i (s .pre .1) (omega arith) (omega arith) refl q))))
+    (λ o. let d = eqb-false i at t in let g = ltb-false i at o in omega (arith, C .two at i (omega arith) (omega arith) (omega arith) refl q))))
 
 pub stands-once-spec : {M : Type 1} → statement M
 stands-once-spec =
@@ -79,9 +79,11 @@ stands-once-spec =
     (λ c. search needs)
     (λ c. search needs)
     (λ c. search needs)
+    (λ c. search needs)
+    (λ c. search needs)
     (λ c. (search needs, search needs, record { most = omega arith; one = λ j a b e. absurd (omega arith); two = λ j m a b d e f. absurd (omega arith) }))
     (λ c. search needs)
-    (λ c. let s = c .before .before .before .before .before .before in record { fits = omega (arith, c .before .before .before .loop .inv .2 .most, s .pre .3) })
+    (λ c. let s = c .before .before .before .before .before .before .before in record { fits = omega (arith, c .before .before .before .loop .inv .2 .most, s .pre .2) })
     (λ c. search needs)
     (λ c. search needs)
     loop-again

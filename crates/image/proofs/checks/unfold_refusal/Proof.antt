@@ -66,8 +66,7 @@ returns-4 c =
 
 counters-fit-requires : tie.Need-counters-fit-requires
 counters-fit-requires c κs =
-    let t = c .before .before .before .before .before in
-    (t .before .before .before .before .before .before .pre, few t)
+    few (c .before .before .before .before .before)
 
 returns-5 : tie.Need-returns-5
 returns-5 c =

@@ -4,10 +4,10 @@ use Rattle.image.proofs.steps.next_of.Statement.{statement}
 use Rattle.image.proofs.steps.next_of.Tie as tie
 
 returns : tie.Need-returns
-returns c op = let a = c .before .args in first-target op (a .first) (a .second) (a .branch) (c .if1 .taken)
+returns c op = let a = c .before .args in first-target op (a .first .0) (a .second .0) (a .branch) (c .if1 .taken)
 
 returns-2 : tie.Need-returns-2
-returns-2 c op = let a = c .before .args in second-target op (a .first) (a .second) (a .branch) (c .if1 .left)
+returns-2 c op = let a = c .before .args in second-target op (a .first .0) (a .second .0) (a .branch) (c .if1 .left)
 
 pub next-of-spec : {M : Type 1} → statement M
 next-of-spec = tie.close (tie.spec returns returns-2)

@@ -20,16 +20,18 @@ fields s = let a = s .args in checked-fields (a .rec .now) (a .pointers .now) (a
 
 returns : tie.Need-returns
 returns c =
-    let a = c .before .before .before .before .before .before .before .before .before .args in
+    let s = c .before .before .before .before .before .before .before .before .before in
+    let a = s .args in
     let r = a .rec .now in
-    step-refused r (a .pick) (a .cell) (a .pointers .now) (a .cells .now) (c .before .entry-ok .ensures (byte r 2) (byte r 3) (a .pointers .now))
+    step-refused r (a .pick) (a .cell) (a .pointers .now) (a .cells .now) (s .pre) (c .before .entry-ok .ensures (byte r 2) (byte r 3) (a .pointers .now))
     (not-true _ (c .if1 .taken))
 
 returns-2 : tie.Need-returns-2
 returns-2 c =
-    let a = c .before .before .before .before .before .before .before .before .before .before .args in
+    let s = c .before .before .before .before .before .before .before .before .before .before in
+    let a = s .args in
     let r = a .rec .now in
-    step-stopped r (a .pick) (a .cell) (a .pointers .now) (a .cells .now) (c .before .before .entry-ok .ensures (byte r 2) (byte r 3) (a .pointers .now))
+    step-stopped r (a .pick) (a .cell) (a .pointers .now) (a .cells .now) (s .pre) (c .before .before .entry-ok .ensures (byte r 2) (byte r 3) (a .pointers .now))
     (not-false _ (c .before .if1 .left)) (c .if2 .taken)
 
 branch-of-requires : tie.Need-branch-of-requires
@@ -55,7 +57,7 @@ returns-3 c =
     let s = t .before .before .before .before .before .before .before .before .before in
     let a = s .args in
     let r = a .rec .now in
-    step-faulted r (a .pick) (a .cell) (a .pointers .now) (a .cells .now) (t .before .entry-ok .ensures (byte r 2) (byte r 3) (a .pointers .now))
+    step-faulted r (a .pick) (a .cell) (a .pointers .now) (a .cells .now) (s .pre) (t .before .entry-ok .ensures (byte r 2) (byte r 3) (a .pointers .now))
     (not-false _ (t .if1 .left)) (fields s .0) (q .before .before .before .before .before .if2 .left) (q .run-statement .ensures) (c .if3 .taken)
 
 returns-4 : tie.Need-returns-4
@@ -67,7 +69,7 @@ returns-4 c =
     let s = t .before .before .before .before .before .before .before .before .before in
     let a = s .args in
     let r = a .rec .now in
-    step-went r (a .pick) (a .cell) (a .pointers .now) (a .cells .now) (t .before .entry-ok .ensures (byte r 2) (byte r 3) (a .pointers .now))
+    step-went r (a .pick) (a .cell) (a .pointers .now) (a .cells .now) (s .pre) (t .before .entry-ok .ensures (byte r 2) (byte r 3) (a .pointers .now))
     (not-false _ (t .if1 .left)) (fields s .0) (q .before .before .before .before .before .if2 .left) (q .run-statement .ensures) (c .before .before .before .if3 .left)
     (b .result) (b .ensures (a .cells .now)) (n .result .0) (n .ensures (opOf (byte r 1) (byte r 2) (byte r 3)))
 
