@@ -6,36 +6,38 @@ use native.Mathlib.Omega.{arith}
 use native.Mathlib.Numerals.{add-one}
 use lib.ListN.{length}
 use Rattle.model.specs.Machine.{Stmt}
-use Rattle.model.specs.Edges.{edgesOf}
+use Rattle.model.specs.Edges.{Edge, edgesOf}
 use Rattle.model.specs.Records.{refusal}
 use Rattle.model.specs.Translate.{Explored, Listing, addEdges, explore, full, listed, places}
-use Rattle.model.proofs.Listing.{explore-end, explore-full, explore-next}
-use Rattle.model.proofs.Listings.{locAt}
+use Rattle.model.proofs.Listing.{add-listed, explore-end, explore-full, explore-next, extend-prefix}
+use Rattle.model.proofs.Listings.{Placed, extend, locAt}
+use Rattle.model.proofs.Same.{prefix-length}
 use Rattle.grow.specs.Grow.{Holds}
 use Rattle.grow.specs.declared.Grown.{Grown}
 use Rattle.grow.specs.declared.Grown.the-variants.{Added, Full}
 use Rattle.explore.specs.declared.Explored.the-variants as explored
 use Rattle.explore.specs.Explore.{AddedTo, ExploredTo, ExploreReady, LocsOk, StatementsOk}
 
--- the listing t stands in the tables ls and es, and exploring it from location i on gives o
-pub record Left (n cl ce : ℕ) (sts : List Stmt) (o : Explored) (ls es : List ℕ) (nl ne i : ℕ) : Type 0 where
+-- the listing t, of no fewer locations than m, stands in the tables ls and es, and exploring it from location i on gives o
+pub record Left (m n cl ce : ℕ) (sts : List Stmt) (o : Explored) (ls es : List ℕ) (nl ne i : ℕ) : Type 0 where
   pub list : Listing
   pub held : Holds list ls es nl ne
   pub fine : LocsOk n list
+  pub grew : m ≤ nl
   pub rest : o ≡ explore sts cl ce (cl - i) i list
 
 -- whichever the statements and whichever listing was held at first, in ls and es
 abbrev pub Explores : List ℕ → ℕ → List ℕ → List ℕ → ℕ → ℕ → List ℕ → List ℕ → ℕ → ℕ → ℕ → Type 0
 Explores s n ls es nl ne ls′ es′ nl′ ne′ i =
     (sts : List Stmt) (t : Listing) → StatementsOk s n sts → Holds t ls es nl ne → LocsOk n t
-    → Left n (places 1024 (length ls)) (places 2048 (length es)) sts
+    → Left nl n (places 1024 (length ls)) (places 2048 (length es)) sts
     (explore sts (places 1024 (length ls)) (places 2048 (length es)) (places 1024 (length ls)) 0 t) ls′ es′ nl′ ne′ i
 
 pub explores-start : (s : List ℕ) (n : ℕ) (ls es : List ℕ) (nl ne : ℕ) → Explores s n ls es nl ne ls es nl ne 0
 explores-start s n ls es nl ne sts t K H O =
     let cl = places 1024 (length ls) in
     let e : cl ≡ cl - 0 = omega arith in
-    record { list = t; held = H; fine = O; rest = ap (λ f. explore sts cl (places 2048 (length es)) f 0 t) e }
+    record { list = t; held = H; fine = O; grew = omega arith; rest = ap (λ f. explore sts cl (places 2048 (length es)) f 0 t) e }
 
 -- what is given to the next turn
 pub next-ready : (s : List ℕ) (n : ℕ) (ls es : List ℕ) (nl ne : ℕ) (ls′ es′ : List ℕ) (nl′ ne′ i : ℕ) → ExploreReady s n ls es nl ne
@@ -43,6 +45,11 @@ pub next-ready : (s : List ℕ) (n : ℕ) (ls es : List ℕ) (nl ne : ℕ) (ls�
 next-ready s n ls es nl ne ls′ es′ nl′ ne′ i R X =
     let L = X (R .statements) (R .list) (R .readable) (R .held) (R .fine) in
     record { statements = R .statements; readable = R .readable; list = L .list; held = L .held; fine = L .fine }
+
+-- no location is lost on the way
+pub grown-since : (s : List ℕ) (n : ℕ) (ls es : List ℕ) (nl ne : ℕ) (ls′ es′ : List ℕ) (nl′ ne′ i : ℕ) → ExploreReady s n ls es nl ne
+    → Explores s n ls es nl ne ls′ es′ nl′ ne′ i → nl ≤ nl′
+grown-since s n ls es nl ne ls′ es′ nl′ ne′ i R X = X (R .statements) (R .list) (R .readable) (R .held) (R .fine) .grew
 
 -- there are at most 1,024 locations
 pub most-locations : (s : List ℕ) (n : ℕ) (ls es : List ℕ) (nl ne : ℕ) → ExploreReady s n ls es nl ne → nl ≤ 1024
@@ -59,6 +66,10 @@ added-case : (n i : ℕ) (o : Explored) (ls es : List ℕ) (nl ne : ℕ) → Add
 added-case n i (listed u) ls es nl ne A = (u, refl, A .0, A .1)
 added-case n i (full x) ls es nl ne A = absurd A
 
+-- edges that are added leave the locations that were there
+more-locations : (i : ℕ) (es : List Edge) (t u : Listing) → u ≡ extend i es t → length (t .locs) ≤ length (u .locs)
+more-locations i es t u e = rw e (prefix-length (t .locs) (extend i es t .locs) (extend-prefix i es t))
+
 full-case : (n i : ℕ) (o : Explored) (ls es : List ℕ) (m : ℕ) → AddedTo n i o ls es (Full m) → o ≡ full (refusal m i)
 full-case n i (listed u) ls es m A = absurd A
 full-case n i (full x) ls es m A = ap full A
@@ -70,6 +81,9 @@ module _ (s : List ℕ) (n : ℕ) (ls es : List ℕ) (nl ne : ℕ) (ls′ es′ 
       let few : length (t .locs) ≤ places 1024 (length ls) = subst (λ m. length (t .locs) ≤ places 1024 m) p (H .locsFit) in
       let num = H .locNumber in
       omega arith
+
+  fits : (t : Listing) → Holds t ls′ es′ nl′ ne′ → Placed (places 1024 (length ls)) (places 2048 (length es)) t
+  fits t H = (subst (λ m. length (t .locs) ≤ places 1024 m) p (H .locsFit), subst (λ m. length (t .links) ≤ places 2048 m) q (H .edgesFit))
 
   module _ (lt : i < nl′) (ls″ es″ : List ℕ) (x : Grown) (T : Turn s n ls′ es′ nl′ ne′ i ls″ es″ x) where
     -- the next location
@@ -86,6 +100,9 @@ module _ (s : List ℕ) (n : ℕ) (ls es : List ℕ) (nl ne : ℕ) (ls′ es′ 
           list = y .0;
           held = y .2;
           fine = y .3;
+          grew = let g = more-locations i (edgesOf sts (locAt (u .locs) i)) u (y .0)
+              (add-listed cl ce i (edgesOf sts (locAt (u .locs) i)) u (y .0) (fits u (L .held)) (y .1) .0) in
+              omega (arith, L .grew, y .2 .locNumber);
           rest = L .rest ∙ ap (λ f. explore sts cl ce f i u) (fuel u (L .held) lt) ∙ explore-next sts cl ce (cl - (i + 1)) i u (y .0) (omega arith) (y .1)
               ∙ ap (λ j. explore sts cl ce (cl - (i + 1)) j (y .0)) (sym (add-one i));
         }

@@ -5,7 +5,7 @@ use native.Mathlib.Omega.{arith}
 use lib.ListN.{length}
 use borrow.Author.Needs.{needs}
 use Rattle.explore.specs.Explore.{ExploreReady}
-use Rattle.explore.proofs.Turns.{Explores, explores-end, explores-full, explores-next, explores-start, most-locations, next-ready}
+use Rattle.explore.proofs.Turns.{Explores, explores-end, explores-full, explores-next, explores-start, grown-since, most-locations, next-ready}
 use Rattle.explore.proofs.explore_all.Statement.{statement}
 use Rattle.explore.proofs.explore_all.Tie as tie
 
@@ -30,6 +30,13 @@ ready c =
     let l = c .before .loop in
     next-ready (a .input .now) (a .n) (a .locations .now) (a .edges .now) (a .nl) (a .ne) (l .locations) (l .edges) (l .listed) (l .added) (l .i) (s .pre) (l .inv .2)
 
+since : (c : tie.In-loop Inv-loop μ-loop) → c .before .before .before .before .before .args .nl ≤ c .before .loop .listed
+since c =
+    let s = c .before .before .before .before .before in
+    let a = s .args in
+    let l = c .before .loop in
+    grown-since (a .input .now) (a .n) (a .locations .now) (a .edges .now) (a .nl) (a .ne) (l .locations) (l .edges) (l .listed) (l .added) (l .i) (s .pre) (l .inv .2)
+
 few : (c : tie.In-loop Inv-loop μ-loop) → c .before .loop .listed ≤ 1024
 few c =
     let a = c .before .before .before .before .before .args in
@@ -37,7 +44,7 @@ few c =
     most-locations (a .input .now) (a .n) (l .locations) (l .edges) (l .listed) (l .added) (ready c)
 
 explore-location-requires : tie.Need-explore-location-requires Inv-loop μ-loop
-explore-location-requires c κs = (ready (c .before .before), search needs)
+explore-location-requires c κs = (ready (c .before .before), omega (arith, since (c .before .before)))
 
 returns : tie.Need-returns Inv-loop μ-loop
 returns c =
@@ -45,13 +52,13 @@ returns c =
     let l = c .before .before .before .before .before .before .before .before .before .before .before .loop in
     let w = c .before .before .before .before .before .before .before .explore-location in
     explores-full (a .input .now) (a .n) (a .locations .now) (a .edges .now) (a .nl) (a .ne) (l .locations) (l .edges) (l .listed) (l .added) (l .i)
-    (l .inv .0) (l .inv .1) (l .inv .2) (search needs) _ _ (w .result) (w .ensures) _ (c .before .number .given .1)
+    (l .inv .0) (l .inv .1) (l .inv .2) (omega (arith, since (c .before .before .before .before .before .before .before .before .before .before))) _ _ (w .result) (w .ensures) _ (c .before .number .given .1)
 
 add-i : tie.Need-add-i Inv-loop μ-loop
-add-i c = omega (arith, few (c .before .before .before .before .before .before .before .before .before .before))
+add-i c = omega (arith, few (c .before .before .before .before .before .before .before .before .before .before), since (c .before .before .before .before .before .before .before .before .before .before))
 
 loop-less : tie.Need-loop-less Inv-loop μ-loop
-loop-less c = omega (arith, few (c .before .before .before .before .before .before .before .before .before .before))
+loop-less c = omega (arith, few (c .before .before .before .before .before .before .before .before .before .before), since (c .before .before .before .before .before .before .before .before .before .before))
 
 loop-again : tie.Need-loop-again Inv-loop μ-loop
 loop-again c =
@@ -61,7 +68,7 @@ loop-again c =
       w .kept .1 .1 .0 ∙ l .inv .0,
       w .kept .1 .1 .1 .0 ∙ l .inv .1,
       explores-next (a .input .now) (a .n) (a .locations .now) (a .edges .now) (a .nl) (a .ne) (l .locations) (l .edges) (l .listed) (l .added) (l .i)
-          (l .inv .0) (l .inv .1) (l .inv .2) (search needs) _ _ (w .result) (w .ensures) _ _ (c .before .a .given .1),
+          (l .inv .0) (l .inv .1) (l .inv .2) (omega (arith, since (c .before .before .before .before .before .before .before .before .before .before))) _ _ (w .result) (w .ensures) _ _ (c .before .a .given .1),
     )
 
 returns-2 : tie.Need-returns-2 Inv-loop μ-loop
