@@ -14,15 +14,15 @@ use Rattle.model.specs.Image.{heapOf}
 use Rattle.model.specs.Records.{byte, locRecord, stmtOf, updateCode}
 use Rattle.model.specs.Runs.{isStop}
 use Rattle.model.specs.Shape.{segments, shape}
-use Rattle.model.proofs.Leave.{accept-room}
-use Rattle.model.proofs.Step.{step-go}
-use Rattle.model.proofs.Walks.{Used}
-use Rattle.model.proofs.Ways.{access-facts, access-same, room-of}
+use Rattle.model.proofs.ways.Leave.{accept-room}
+use Rattle.model.proofs.expansion.Step.{step-go}
+use Rattle.model.specs.Notions.{Used}
+use Rattle.model.proofs.ways.Ways.{access-facts, access-same, room-of}
 use Rattle.effect.specs.Effect.{effectOf}
 use Rattle.record.specs.Written.{faultBytes}
 use Rattle.way.specs.Way.{weightAt}
 use Rattle.edge.specs.Edge.{LeavesBy, WayReady, wayOf}
-use Rattle.edge.specs.Parts.{GoneReady, IsLeft, LeaveReady, WayRan}
+use Rattle.edge.specs.WayRun.{GoneReady, IsLeft, LeaveReady, WayRan}
 use Rattle.edge.proofs.Heaps.{tail-used}
 use Rattle.edge.proofs.Ready.{node-below, node-used, nodes-few, nodes-is, shape-is, statement-is}
 

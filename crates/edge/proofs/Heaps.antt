@@ -11,13 +11,13 @@ use Rattle.model.specs.Heap.{Heap, Slot, Val, cell, closed, holds, inUse, kept,
 use Rattle.model.specs.Machine.{Effect, Op, choose, clear, copy, done, effect, fault, free, isNull, keep, load, new, putSlot, carryOut, same, setNull, skip, stop, store, wipe}
 use Rattle.model.specs.Edges.{Guard, access, splitHeap}
 use Rattle.model.specs.Records.{opOf}
-use Rattle.model.proofs.Effects.{next-free, next-put}
-use Rattle.model.proofs.Facts.{closed-test}
-use Rattle.model.proofs.Logic.{bool-case, eq-case}
-use Rattle.model.proofs.Walks.{AllClosed, Closed, ClosedHeap, Used, closed-up}
-use Rattle.model.proofs.Ways.{no-access}
-use Rattle.model.proofs.Notions.{upd}
-use Rattle.model.proofs.Writes.{holds-inj, upd-at, upd-off}
+use Rattle.model.proofs.expansion.Effects.{next-free, next-put}
+use Rattle.model.proofs.expansion.Facts.{closed-test}
+use Rattle.model.proofs.lists.Logic.{bool-case, eq-case}
+use Rattle.model.specs.Notions.{AllClosed, Closed, ClosedHeap, Used, upd}
+use Rattle.model.proofs.visits.Walks.{closed-up}
+use Rattle.model.proofs.ways.Ways.{no-access}
+use Rattle.model.proofs.expansion.Writes.{holds-inj, upd-at, upd-off}
 use Rattle.way.specs.Way.{openedHeap, withUnused}
 use Rattle.way.proofs.Opened.{run-opened}
 use Rattle.edge.specs.Edge.{wayOf}

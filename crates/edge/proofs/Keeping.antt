@@ -14,11 +14,12 @@ use Rattle.model.specs.Edges.{Edge, access, at, stepBy, updateOf}
 use Rattle.model.specs.Image.{heapOf}
 use Rattle.model.specs.Records.{byte, locRecord, opOf, shapeOf, stmtOf, updateCode}
 use Rattle.model.specs.Shape.{Seg, segments, shape}
-use Rattle.model.proofs.Canon.{Canon, canon-fold, canon-segments, single}
-use Rattle.model.proofs.Facts.{kept-test}
-use Rattle.model.proofs.Lists.{in-single, map-same, mem-in}
-use Rattle.model.proofs.Numbers.{in-numbers, length-numbers, read-all}
-use Rattle.model.proofs.Ways.{no-access}
+use Rattle.model.specs.Notions.{Canon}
+use Rattle.model.proofs.shapes.Canon.{canon-fold, canon-segments, single}
+use Rattle.model.proofs.expansion.Facts.{kept-test}
+use Rattle.model.proofs.lists.Lists.{in-single, map-same, mem-in}
+use Rattle.model.proofs.lists.Numbers.{in-numbers, length-numbers, read-all}
+use Rattle.model.proofs.ways.Ways.{no-access}
 use Rattle.way.specs.Way.{plusBy, weightAt}
 use Rattle.way.proofs.Codes.{segment-update}
 use Rattle.edge.specs.Edge.{EdgeReady, LeavesBy, wayOf}

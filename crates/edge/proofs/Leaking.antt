@@ -13,16 +13,16 @@ use Rattle.model.specs.Machine.{copy, done, fault, held, keep, kind, leak, load
 use Rattle.model.specs.Edges.{access, splitHeap}
 use Rattle.model.specs.Records.{byte, opOf, shapeOf, stmtOf, valByte, valOf}
 use Rattle.model.specs.Runs.{isStop}
-use Rattle.model.proofs.Bytes.{byte-back, val-cell}
-use Rattle.model.proofs.Effects.{closed-ptr}
-use Rattle.model.proofs.Lists.{getD-map}
-use Rattle.model.proofs.Logic.{clash, or-cases}
-use Rattle.model.proofs.Ops.{each-op}
-use Rattle.model.proofs.Order.{used-below}
-use Rattle.model.proofs.Statements.{statement-fields}
-use Rattle.model.proofs.Walks.{Closed, Used}
-use Rattle.model.proofs.Ways.{no-access}
-use Rattle.model.proofs.Writes.{holds-inj}
+use Rattle.model.proofs.records.Bytes.{byte-back, val-cell}
+use Rattle.model.proofs.expansion.Effects.{closed-ptr}
+use Rattle.model.proofs.lists.Lists.{getD-map}
+use Rattle.model.proofs.lists.Logic.{clash, or-cases}
+use Rattle.model.proofs.records.Ops.{each-op}
+use Rattle.model.proofs.visits.Order.{used-below}
+use Rattle.model.proofs.records.Statements.{statement-fields}
+use Rattle.model.specs.Notions.{Closed, Used}
+use Rattle.model.proofs.ways.Ways.{no-access}
+use Rattle.model.proofs.expansion.Writes.{holds-inj}
 use Rattle.edge.specs.Edge.{WayReady}
 use Rattle.edge.specs.Loss.{AloneHolds, Leaks, Overwrites, cutsNext}
 use Rattle.edge.proofs.Ready.{location-wide, node-used, nodes-few, nodes-is, shape-is}

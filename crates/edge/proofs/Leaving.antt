@@ -11,17 +11,16 @@ use Rattle.model.specs.Heap.{next}
 use Rattle.model.specs.Image.{cellSlot, heapOf}
 use Rattle.model.specs.Records.{valOf}
 use Rattle.model.specs.Shape.{segments}
-use Rattle.model.proofs.Facts.{heap-closed, heap-kept}
-use Rattle.model.proofs.Logic.{NoDup}
-use Rattle.model.proofs.Order.{Toured, toured, used-below}
-use Rattle.model.proofs.Segments.{each-cell-once}
-use Rattle.model.proofs.Start.{where-is}
-use Rattle.model.proofs.Walks.{Used}
+use Rattle.model.proofs.expansion.Facts.{heap-closed, heap-kept}
+use Rattle.model.specs.Notions.{NoDup, Used}
+use Rattle.model.proofs.visits.Order.{Toured, toured, used-below}
+use Rattle.model.proofs.shapes.Segments.{each-cell-once}
+use Rattle.model.proofs.expansion.Start.{where-is}
 use Rattle.machine.specs.Run.{IsShape, ShapeReady}
 use Rattle.record.proofs.Bytes.{headed-is}
 use Rattle.way.specs.Way.{SumReady, codeAt}
 use Rattle.way.proofs.Updates.{Segmented, update-codes}
-use Rattle.edge.specs.Parts.{IsLeft, LeaveReady}
+use Rattle.edge.specs.WayRun.{IsLeft, LeaveReady}
 
 module _ {ps cs o : List ℕ} {n : ℕ} {h : List ℕ} {k : ℕ} {sp : Bool} {v : ℕ} {t us : List ℕ} (L : LeaveReady ps cs o n h k sp v t us) where
   tour-facts : Toured (heapOf ps cs)

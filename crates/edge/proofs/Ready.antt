@@ -8,12 +8,12 @@ use lib.ListN.{drop, length, take}
 use Rattle.model.specs.Base.{all}
 use Rattle.model.specs.Heap.{Heap, next}
 use Rattle.model.specs.Records.{byte, shapeOf, stmtOf, valueByte}
-use Rattle.model.proofs.Order.{used-below}
-use Rattle.model.proofs.ReadBack.{canon-writable, location-length, location-shape}
-use Rattle.model.proofs.Walks.{Closed, Used}
-use Rattle.model.proofs.Ways.{access-closed}
-use Rattle.model.proofs.Listings.{Writable}
-use Rattle.model.proofs.ShapeBack.{values-pass}
+use Rattle.model.proofs.visits.Order.{used-below}
+use Rattle.model.proofs.records.ReadBack.{canon-writable, location-length, location-shape}
+use Rattle.model.specs.Notions.{Closed, Used}
+use Rattle.model.proofs.ways.Ways.{access-closed}
+use Rattle.model.specs.Listings.{Writable}
+use Rattle.model.proofs.records.ShapeBack.{values-pass}
 use Rattle.way.specs.Way.{OpenReady}
 use Rattle.edge.specs.Edge.{WayReady}
 

@@ -12,12 +12,12 @@ use Rattle.model.specs.Machine.{Op, branch, choose, clear, copy, free, isNull, 
 use Rattle.model.specs.Edges.{always}
 use Rattle.model.specs.Records.{byte, opOf, shapeOf, stmtOf, valOf}
 use Rattle.model.specs.Image.{heapOf}
-use Rattle.model.proofs.Statements.{statement-fields}
+use Rattle.model.proofs.records.Statements.{statement-fields}
 use Rattle.machine.specs.Run.{IsRun, RunReady}
 use Rattle.way.specs.Way.{openedCount, openedHeap}
 use Rattle.way.proofs.Opened.{count-most}
 use Rattle.edge.specs.Edge.{WayReady, wayOf}
-use Rattle.edge.specs.Parts.{WayRan}
+use Rattle.edge.specs.WayRun.{WayRan}
 use Rattle.edge.proofs.Heaps.{new-whole, opened-closed, opened-fresh, opened-run}
 use Rattle.edge.proofs.Ready.{location-wide, nodes-few, nodes-is, node-used, shape-is}
 

@@ -12,15 +12,15 @@ use Rattle.model.specs.Base.{mem}
 use Rattle.model.specs.Heap.{Heap, Slot, Val, cell, holds, kept, next, null, order, ptr, tour, undef, unused, walk}
 use Rattle.model.specs.Machine.{done, fault, freeCell, held, keep, leak, putSlot, setPtr, wipe, wipeSlot}
 use Rattle.model.specs.Edges.{splitHeap}
-use Rattle.model.proofs.Changes.{freed}
-use Rattle.model.proofs.Effects.{next-free, next-put}
-use Rattle.model.proofs.Facts.{test-kept}
-use Rattle.model.proofs.Lists.{In, in-getD, in-map}
-use Rattle.model.proofs.Logic.{bool-case, clash, eq-case, mem-append, not-true}
-use Rattle.model.proofs.Notions.{upd}
-use Rattle.model.proofs.Order.{used-below}
-use Rattle.model.proofs.Walks.{Closed, ClosedHeap, Used, closed-in}
-use Rattle.model.proofs.Writes.{holds-inj, slot-clash, upd-at, upd-off}
+use Rattle.model.proofs.expansion.Changes.{freed}
+use Rattle.model.proofs.expansion.Effects.{next-free, next-put}
+use Rattle.model.proofs.expansion.Facts.{test-kept}
+use Rattle.model.specs.Notions.{In, upd, Closed, ClosedHeap, Used}
+use Rattle.model.proofs.lists.Lists.{in-getD, in-map}
+use Rattle.model.proofs.lists.Logic.{bool-case, clash, eq-case, mem-append, not-true}
+use Rattle.model.proofs.visits.Order.{used-below}
+use Rattle.model.proofs.visits.Walks.{closed-in}
+use Rattle.model.proofs.expansion.Writes.{holds-inj, slot-clash, upd-at, upd-off}
 use Rattle.edge.proofs.Heaps.{next-split, put-used, still-used, tail-in}
 
 -- ---- the walks

@@ -9,7 +9,7 @@ use Rattle.model.specs.Machine.{kind}
 use Rattle.model.specs.Edges.{Guard, Way, whole, split, access, Edge, at, edgeBy, stepBy}
 use Rattle.model.specs.Records.{isS, refusalS, stmtOf, locRecord, updateCode}
 use Rattle.model.specs.Runs.{isStop}
-use Rattle.model.proofs.Canon.{Canon}
+use Rattle.model.specs.Notions.{Canon}
 
 -- an accepted S record among n statements
 pub record StatementOk (r : List ℕ) (n : ℕ) : Type 0 where

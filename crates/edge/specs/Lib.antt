@@ -1,3 +1,3 @@
 pub mod Edge
 pub mod Loss
-pub mod Parts
+pub mod WayRun

@@ -1,7 +1,7 @@
 // What a run leaves, folded by the marks of the run.
 use model::Node;
 use model::Statement;
-ghost use Rattle.edge.specs.Parts.{IsLeft, LeaveReady};
+ghost use Rattle.edge.specs.WayRun.{IsLeft, LeaveReady};
 
 // Folds what a run left, by the marks of the run: the target's record, and an update for each new node. Answers how many there are.
 pub fn leave(

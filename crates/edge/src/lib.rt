@@ -15,7 +15,7 @@ ghost use Rattle.model.specs.Machine.{target};
 ghost use Rattle.model.specs.Records.{byte, stmtOf};
 ghost use Rattle.edge.specs.Edge.{EdgeReady, LeavesBy};
 ghost use Rattle.record.specs.Written.{faultBytes};
-ghost use Rattle.edge.specs.Parts.{GoneReady, RunsReady, WayRan};
+ghost use Rattle.edge.specs.WayRun.{GoneReady, RunsReady, WayRan};
 
 // A way out of a location: split at a node, or whole with a pick; and the byte of its guard, which is on the node.
 pub struct Way {

@@ -11,14 +11,14 @@ use Rattle.model.specs.Heap.{Val, Slot, unused, holds, Heap, ptr, next, closed,
 use Rattle.model.specs.Machine.{done, put, putSlot, setPtr, held, wipe, wipeSlot, freeVal, effect, new}
 use Rattle.model.specs.Records.{valOf}
 use Rattle.model.specs.Image.{cellSlot, heapOf}
-use Rattle.model.proofs.Bytes.{val-cell}
-use Rattle.model.proofs.Logic.{bool-case}
-use Rattle.model.proofs.Walks.{Closed, Used}
-use Rattle.model.proofs.Order.{used-below}
-use Rattle.model.proofs.Effects.{closed-ptr}
-use Rattle.model.proofs.Facts.{test-closed}
-use Rattle.model.proofs.Lists.{getD-map, map-set}
-use Rattle.model.proofs.Writes.{slot-clash}
+use Rattle.model.proofs.records.Bytes.{val-cell}
+use Rattle.model.proofs.lists.Logic.{bool-case}
+use Rattle.model.specs.Notions.{Closed, Used}
+use Rattle.model.proofs.visits.Order.{used-below}
+use Rattle.model.proofs.expansion.Effects.{closed-ptr}
+use Rattle.model.proofs.expansion.Facts.{test-closed}
+use Rattle.model.proofs.lists.Lists.{getD-map, map-set}
+use Rattle.model.proofs.expansion.Writes.{slot-clash}
 use Rattle.effect.specs.Effect.{Access, EffectReady, Named, Ran, assigned, loaded, stored, wipeByte}
 
 -- ---- reading

@@ -5,7 +5,7 @@ use mathlib.Core.Path.{_∙_, _≡_, ap, refl}
 use mathlib.Core.List.{List, _++_, map, append-nil}
 use lib.ListN.{drop, drop-of-length-le, getD, length, length-map, set, take}
 use lib.Seq.{drop-cons, getD-at, length-take-le, take-all}
-use Rattle.model.proofs.Slices.{map-fill}
+use Rattle.model.proofs.lists.Slices.{map-fill}
 
 -- the first i elements went through f
 abbrev pub partMap : {A : Type 0} → (A → A) → List A → ℕ → List A

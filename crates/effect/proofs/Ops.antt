@@ -8,10 +8,10 @@ use borrow.Author.Tests.{eqb-true, eq-eqb}
 use Rattle.model.specs.Heap.{Heap, sameVal}
 use Rattle.model.specs.Machine.{allocates, branch, done, effect, kind, other}
 use Rattle.model.specs.Records.{opOf, valByte, valOf}
-use Rattle.model.proofs.Logic.{bool-ext}
-use Rattle.model.proofs.Bytes.{byte-back}
-use Rattle.model.proofs.Ops.{each-op}
-use Rattle.model.proofs.Same.{val-same, same-val-refl}
+use Rattle.model.proofs.lists.Logic.{bool-ext}
+use Rattle.model.proofs.records.Bytes.{byte-back}
+use Rattle.model.proofs.records.Ops.{each-op}
+use Rattle.model.proofs.shapes.Same.{val-same, same-val-refl}
 
 pub same-bytes : (a b : ℕ) → sameVal (valOf a) (valOf b) ≡ eqb a b
 same-bytes a b =

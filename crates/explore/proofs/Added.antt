@@ -11,10 +11,10 @@ use Rattle.model.specs.Base.{placeOf}
 use Rattle.model.specs.Edges.{Edge, at, sameLoc}
 use Rattle.model.specs.Records.{refusal}
 use Rattle.model.specs.Translate.{Listing, addEdges, full, grown, places}
-use Rattle.model.proofs.Lists.{in-append-cases, in-single}
-use Rattle.model.proofs.Logic.{bool-case}
-use Rattle.grow.specs.Grow.{GrownTo}
-use Rattle.grow.specs.declared.Grown.the-variants.{Added, Full}
+use Rattle.model.proofs.lists.Lists.{in-append-cases, in-single}
+use Rattle.model.proofs.lists.Logic.{bool-case}
+use Rattle.listing.specs.Grow.{GrownTo}
+use Rattle.listing.specs.declared.Grown.the-variants.{Added, Full}
 use Rattle.explore.specs.Explore.{AddedTo, LocOk, LocsOk}
 
 -- the listing with the edge e of location i

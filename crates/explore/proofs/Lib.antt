@@ -1,7 +1,7 @@
 pub mod Ops
-pub mod Made
+pub mod EdgesByWay
 pub mod Added
-pub mod Here
+pub mod LocationBytes
 pub mod Ways
 pub mod Located
-pub mod Turns
+pub mod Exploration

@@ -10,16 +10,16 @@ use Rattle.model.specs.Machine.{Stmt, leak}
 use Rattle.model.specs.Edges.{Loc, at, edgesAt, edgesOf, failed, stmtAt}
 use Rattle.model.specs.Records.{byte, locRecord, recordAt, stmtOf}
 use Rattle.model.specs.Translate.{Listing, addEdges, places}
-use Rattle.model.proofs.Bytes.{records-wide, table-record}
-use Rattle.model.proofs.Listings.{locAt}
-use Rattle.model.proofs.Lists.{getD-in, getD-map}
-use Rattle.model.proofs.ReadBack.{fault-positive, record-length}
-use Rattle.grow.specs.Grow.{Holds}
-use Rattle.grow.specs.declared.Grown.{Grown}
-use Rattle.grow.specs.declared.Grown.the-variants.{Added}
-use Rattle.grow.proofs.Kept.{place-within}
+use Rattle.model.proofs.records.Bytes.{records-wide, table-record}
+use Rattle.model.specs.Listings.{locAt}
+use Rattle.model.proofs.lists.Lists.{getD-in, getD-map}
+use Rattle.model.proofs.records.ReadBack.{fault-positive, record-length}
+use Rattle.listing.specs.Grow.{Holds}
+use Rattle.listing.specs.declared.Grown.{Grown}
+use Rattle.listing.specs.declared.Grown.the-variants.{Added}
+use Rattle.listing.proofs.Kept.{place-within}
 use Rattle.explore.specs.Explore.{AddedTo, ExploreReady, LocOk, LocsOk, StatementsOk}
-use Rattle.explore.specs.Parts.{AtShape, EdgesAdded, ShapeGiven}
+use Rattle.explore.specs.LocationEdges.{AtShape, EdgesAdded, ShapeGiven}
 
 -- a location whose byte 2 is not zero has no edges
 fault-edges : (sts : List Stmt) (l : Loc) → (byte (locRecord l) 2 ≡ 0 → ⊥) → edgesOf sts l ≡ []

@@ -11,9 +11,9 @@ use Rattle.model.specs.Machine.{Op, Stmt, allocates, branch, choose, clear, cop
 use Rattle.model.specs.Edges.{access}
 use Rattle.model.specs.Records.{byte, opOf, refusalS, stmtOf, targetBelow, usesFirst, usesSecond}
 use Rattle.model.specs.Runs.{isStop}
-use Rattle.model.proofs.Logic.{and-l, and-r, clash}
-use Rattle.model.proofs.Ops.{each-op}
-use Rattle.model.proofs.Statements.{passed-s}
+use Rattle.model.proofs.lists.Logic.{and-l, and-r, clash}
+use Rattle.model.proofs.records.Ops.{each-op}
+use Rattle.model.proofs.records.Statements.{passed-s}
 
 -- ---- kinds
 

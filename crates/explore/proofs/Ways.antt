@@ -12,11 +12,11 @@ use Rattle.model.specs.Records.{stmtOf}
 use Rattle.model.specs.Translate.{Listing, addEdges, places}
 use Rattle.edge.specs.Edge.{LeavesBy}
 use Rattle.edge.specs.declared.Way.{Way}
-use Rattle.grow.specs.Grow.{EdgeBytes, GrownTo, Holds}
-use Rattle.grow.specs.declared.Grown.{Grown}
-use Rattle.grow.specs.declared.Grown.the-variants.{Added, Full}
+use Rattle.listing.specs.Grow.{EdgeBytes, GrownTo, Holds}
+use Rattle.listing.specs.declared.Grown.{Grown}
+use Rattle.listing.specs.declared.Grown.the-variants.{Added, Full}
 use Rattle.explore.specs.Explore.{LocsOk}
-use Rattle.explore.specs.Parts.{AreWays, AtShape, EdgesAdded, ShapeGiven, WayAdded, WayEdge, WayGiven, wayAt}
+use Rattle.explore.specs.LocationEdges.{AreWays, AtShape, EdgesAdded, ShapeGiven, WayAdded, WayEdge, WayGiven, wayAt}
 use Rattle.explore.proofs.Added.{add-step, more, more-fine, none-added}
 
 -- the bytes that a way leaves are those of its edge

@@ -7,12 +7,12 @@ use Rattle.model.specs.Edges.{Loc, at, failed, stmtAt}
 use Rattle.model.specs.Machine.{Stmt}
 use Rattle.model.specs.Records.{recordAt, refusal, stmtOf}
 use Rattle.model.specs.Translate.{Listing, Explored, full, listed}
-use Rattle.model.proofs.Lists.{In}
-use Rattle.model.proofs.Reached.{GoodLoc}
+use Rattle.model.specs.Notions.{In}
+use Rattle.model.specs.Listings.{GoodLoc}
 use Rattle.edge.specs.Edge.{StatementOk}
-use Rattle.grow.specs.Grow.{Holds}
-use Rattle.grow.specs.declared.Grown.{Grown}
-use Rattle.grow.specs.declared.Grown.the-variants as grown
+use Rattle.listing.specs.Grow.{Holds}
+use Rattle.listing.specs.declared.Grown.{Grown}
+use Rattle.listing.specs.declared.Grown.the-variants as grown
 use Rattle.explore.specs.declared.Explored as declared
 use Rattle.explore.specs.declared.Explored.the-variants as explored
 

@@ -1,6 +1,6 @@
 // The exploration: the edges of each location, by number, into the two tables.
 use edge::Way;
-use grow::Grown;
+use listing::Grown;
 use model::Node;
 use model::Pointer;
 use model::Statement;
@@ -11,10 +11,10 @@ ghost use lib.ListN.{length, take};
 ghost use Rattle.model.specs.Edges.{edgesOf};
 ghost use Rattle.model.specs.Machine.{Stmt};
 ghost use Rattle.model.specs.Translate.{Listing, places, addEdges, explore};
-ghost use Rattle.model.proofs.Listings.{locAt};
-ghost use Rattle.grow.specs.Grow.{Holds};
+ghost use Rattle.model.specs.Listings.{locAt};
+ghost use Rattle.listing.specs.Grow.{Holds};
 ghost use Rattle.explore.specs.Explore.{StatementsOk, LocsOk, AddedTo, ExploredTo, ExploreReady};
-ghost use Rattle.explore.specs.Parts.{wayCount, wayAt, WayGiven, WayAdded, AreWays, ShapeGiven, EdgesAdded};
+ghost use Rattle.explore.specs.LocationEdges.{wayCount, wayAt, WayGiven, WayAdded, AreWays, ShapeGiven, EdgesAdded};
 
 // The counts of a full listing, or the refusal: 11 or 12, and the number of the location being explored.
 pub enum Explored {
@@ -82,7 +82,7 @@ fn add_way(
     let mut target = [0u8; 32];
     let mut updates = [0u16; 16];
     let left = edge::one_edge(location, statement, way, &mut target, &mut updates);
-    grow::add_edge(
+    listing::add_edge(
         locations,
         edges,
         nl,

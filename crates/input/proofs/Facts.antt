@@ -14,15 +14,15 @@ use Rattle.model.specs.Edges.{at, stmtAt}
 use Rattle.model.specs.Records.{isH, isS, layoutH, locRecord, recordAt, shapeOf, stmtOf}
 use Rattle.model.specs.Shape.{canonical}
 use Rattle.model.specs.Translate.{Routine, between, check, good}
-use Rattle.model.proofs.Checked.{accepted-h}
-use Rattle.model.proofs.Sorted.{Sorted, kinds-sorted, not-both}
-use Rattle.model.proofs.Listings.{recordsOf}
-use Rattle.model.proofs.Lists.{all-at, getD-map}
-use Rattle.model.proofs.Logic.{and-l, and-r}
-use Rattle.model.proofs.ShapeBack.{shape-record-back}
+use Rattle.model.proofs.records.Checked.{accepted-h}
+use Rattle.model.proofs.lists.Sorted.{Sorted, kinds-sorted, not-both}
+use Rattle.model.specs.Listings.{recordsOf}
+use Rattle.model.proofs.lists.Lists.{all-at, getD-map}
+use Rattle.model.proofs.lists.Logic.{and-l, and-r}
+use Rattle.model.proofs.records.ShapeBack.{shape-record-back}
 use Rattle.input.specs.declared.Checked.the-variants.{Good}
 use Rattle.input.specs.Input.{checkedOf, GoodCounts, routineOf}
-use Rattle.input.specs.Parts.{earlier, recordRefusal}
+use Rattle.input.specs.RecordChecks.{earlier, recordRefusal}
 use Rattle.input.specs.Accepted.{Accepted}
 use Rattle.input.proofs.Records.{counts-whole, record-wide, records-at, records-length}
 use Rattle.input.proofs.Shapes.{refusal-by-h, refusal-by-s}

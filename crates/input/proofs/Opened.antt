@@ -12,12 +12,12 @@ use borrow.Author.Tests.{eqb-true, not-false}
 use Rattle.model.specs.Base.{count}
 use Rattle.model.specs.Records.{Refusal, isH, isS, shapeOf, stmtOf}
 use Rattle.model.specs.Translate.{Routine, good, badKind, badRecord, between, check, checkCounts, checkKinds, checkRecords}
-use Rattle.model.proofs.Checked.{bad-good, good-inj}
-use Rattle.model.proofs.Listings.{recordsOf}
-use Rattle.model.proofs.Lists.{some-none}
-use Rattle.model.proofs.Logic.{bool-case, or-false-r}
+use Rattle.model.proofs.records.Checked.{bad-good, good-inj}
+use Rattle.model.specs.Listings.{recordsOf}
+use Rattle.model.proofs.lists.Lists.{some-none}
+use Rattle.model.proofs.lists.Logic.{bool-case, or-false-r}
 use Rattle.input.specs.Input.{routineOf}
-use Rattle.input.specs.Parts.{earlier, recordRefusal}
+use Rattle.input.specs.RecordChecks.{earlier, recordRefusal}
 use Rattle.input.proofs.Records.{records-fail, records-pass}
 
 pub record Opened (s : List ℕ) (r : Routine) : Type 0 where

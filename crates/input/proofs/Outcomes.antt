@@ -9,7 +9,7 @@ use lib.ListN.{length, take, drop}
 use Rattle.model.specs.Base.{count}
 use Rattle.model.specs.Records.{Refusal, isH, isS, refusal, shapeOf, stmtOf}
 use Rattle.model.specs.Translate.{bad, good, badKind, badRecord, between, check, checkCounts, checkKinds, checkRecords}
-use Rattle.model.proofs.Listings.{recordsOf}
+use Rattle.model.specs.Listings.{recordsOf}
 
 module _ (n : ℕ) (rs : List (List ℕ)) where
   pub records-bad : (x : Refusal) → badRecord n 0 [] rs ≡ some x → bad x ≡ checkRecords n rs

@@ -13,10 +13,10 @@ use lib.Seq.{drop-cons, drop-drop, getD-drop, getD-take, length-take-le}
 use Rattle.model.specs.Base.{any, count}
 use Rattle.model.specs.Records.{byte, isH, isS, recordAt, refusal, refusalH, refusalS}
 use Rattle.model.specs.Translate.{badKind, badRecord, chunks}
-use Rattle.model.proofs.Sorted.{kinds-sorted}
-use Rattle.model.proofs.Listings.{recordsOf}
-use Rattle.model.proofs.Logic.{bool-case, clash, or-l}
-use Rattle.input.specs.Parts.{kindFits, earlier, recordRefusal}
+use Rattle.model.proofs.lists.Sorted.{kinds-sorted}
+use Rattle.model.specs.Listings.{recordsOf}
+use Rattle.model.proofs.lists.Logic.{bool-case, clash, or-l}
+use Rattle.input.specs.RecordChecks.{kindFits, earlier, recordRefusal}
 
 chunks-length : (n : ℕ) (s : List ℕ) → length (chunks n s) ≡ n
 chunks-length zero s = refl

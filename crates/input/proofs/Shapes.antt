@@ -1,6 +1,6 @@
 -- The shape of an H record that keeps the layout, as the heap image of its pointer and successor bytes; the refusals' numbers.
 use Prim.Native.Nat.{ℕ, _≤_}
-use Rattle.model.proofs.Checks.{given-failed, pass-none}
+use Rattle.model.proofs.records.Checks.{given-failed, pass-none}
 use native.Mathlib.Omega.{arith}
 use mathlib.Core.Path.{_≡_, sym, ap, _∙_, refl}
 use mathlib.Core.Bool.{true, false, cond, not}
@@ -12,8 +12,8 @@ use Rattle.model.specs.Heap.{closed}
 use Rattle.model.specs.Image.{heapOf}
 use Rattle.model.specs.Records.{byte, isS, layoutH, refusalH, refusalS, shapeOf, Row, checksS, checksH, firstFailed}
 use Rattle.model.specs.Shape.{canonical}
-use Rattle.model.proofs.Logic.{bool-case, and-l, and-r}
-use Rattle.model.proofs.ShapeBack.{layout-closed, shape-image}
+use Rattle.model.proofs.lists.Logic.{bool-case, and-l, and-r}
+use Rattle.model.proofs.records.ShapeBack.{layout-closed, shape-image}
 use mathlib.Core.Logic.{inl, inr}
 use borrow.Author.Tests.{leb-true}
 

@@ -5,7 +5,7 @@ use mathlib.Core.List.{List, map}
 use lib.ListN.{length, take, drop}
 use Rattle.model.specs.Records.{refusal, shapeOf, stmtOf}
 use Rattle.model.specs.Translate.{Checked as CheckedInput, bad, good, Routine}
-use Rattle.model.proofs.Listings.{recordsOf}
+use Rattle.model.specs.Listings.{recordsOf}
 use Rattle.input.specs.declared.Checked.{Checked}
 use Rattle.input.specs.declared.Checked.the-variants.{Good, Bad}
 

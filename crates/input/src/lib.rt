@@ -13,9 +13,9 @@ ghost use Rattle.model.specs.Base.{any, count, sameList};
 ghost use Rattle.model.specs.Records.{isS, layoutH, recordAt, refusalH, shapeOf};
 ghost use Rattle.model.specs.Shape.{canonical};
 ghost use Rattle.model.specs.Translate.{badKind, between, check, checkCounts, checkKinds, checkRecords};
-ghost use Rattle.model.proofs.Listings.{recordsOf};
+ghost use Rattle.model.specs.Listings.{recordsOf};
 ghost use Rattle.input.specs.Input.{checkedOf, GoodCounts};
-ghost use Rattle.input.specs.Parts.{kindFits, kindFound, earlier, recordRefusal};
+ghost use Rattle.input.specs.RecordChecks.{kindFits, kindFound, earlier, recordRefusal};
 
 // A routine with its numbers of statements and of starting shapes, or the refusal's number and place.
 pub enum Checked {

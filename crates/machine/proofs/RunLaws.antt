@@ -15,22 +15,22 @@ use Rattle.model.specs.Image.{cellSlot, heapOf}
 use Rattle.model.specs.Machine.{Fault, atNull, atUndef, effect, faultNumber, leak}
 use Rattle.model.specs.Records.{opOf, slotByte}
 use Rattle.model.specs.Shape.{core, segments, shape}
-use Rattle.model.proofs.Facts.{heap-closed, kept-test, test-closed, unused-of}
-use Rattle.model.proofs.Logic.{bool-case, eq-case, or-cases}
-use Rattle.model.proofs.Order.{pigeon, toured, used-below}
-use Rattle.model.proofs.Segments.{twelve}
-use Rattle.model.proofs.Slices.{part-from, put-back}
-use Rattle.model.proofs.Walks.{Used}
+use Rattle.model.proofs.expansion.Facts.{heap-closed, kept-test, test-closed, unused-of}
+use Rattle.model.proofs.lists.Logic.{bool-case, eq-case, or-cases}
+use Rattle.model.proofs.visits.Order.{pigeon, toured, used-below}
+use Rattle.model.proofs.shapes.Segments.{twelve}
+use Rattle.model.proofs.lists.Slices.{part-from, put-back}
+use Rattle.model.specs.Notions.{Used}
 use Rattle.effect.specs.Effect.{effectOf}
-use Rattle.effect.specs.Laws.{answer-done, answer-fault, effect-closed, image-slots}
+use Rattle.effect.proofs.Laws.{answer-done, answer-fault, effect-closed, image-slots}
 use Rattle.effect.proofs.Ops.{new-op}
-use Rattle.visit.specs.Laws.{kept-marked, visited-length}
+use Rattle.visit.proofs.Laws.{kept-marked, visited-length}
 use Rattle.visit.specs.Visit.{VisitReady, Visited}
 use Rattle.segment.specs.Cut.{CutReady, IsCut, heldCore, segs}
 use Rattle.segment.specs.Fold.{AllIn, LastsIn, foldByte}
 use Rattle.segment.proofs.ImageLaws.{image-ready, lasts-in, pointers-in}
 use Rattle.segment.proofs.ShapeLaws.{cell-low, segs-same, shape-pointers, shape-successors}
-use Rattle.machine.specs.Laws.{run-fault, run-kept, run-lost}
+use Rattle.machine.proofs.Laws.{run-fault, run-kept, run-lost}
 use Rattle.machine.specs.Run.{IsRun, IsShape, RunReady, ShapeReady}
 
 fault-most : (f : Fault) → faultNumber f ≤ 3

@@ -10,7 +10,7 @@ use Rattle.model.specs.Image.{heapOf}
 use Rattle.model.specs.Machine.{carryOut}
 use Rattle.model.specs.Records.{opOf, valByte, slotByte}
 use Rattle.model.specs.Shape.{cells, segments, shape, counters}
-use Rattle.model.proofs.Notions.{segAt}
+use Rattle.model.specs.Notions.{segAt}
 use Rattle.effect.specs.Effect.{EffectReady, effectOf}
 use Rattle.visit.specs.Visit.{Held}
 

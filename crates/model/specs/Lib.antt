@@ -8,4 +8,6 @@ pub mod Translate
 pub mod Image
 pub mod Answers
 pub mod Runs
+pub mod Notions
+pub mod Listings
 pub mod Cases

@@ -36,3 +36,38 @@ pub enum Stepped {
     Stopped,
     Refused { number: u8, place: usize },
 }
+
+// A statement's record, decoded: the op, its pointers and its targets.
+pub struct Decoded {
+    pub op: u8,
+    pub u: Pointer,
+    pub w: Pointer,
+    pub first: Statement,
+    pub second: Statement,
+}
+
+// A guard on the counter of a node: 0 for none, 1 for = 1, 2 for at least 2.
+pub struct Guard {
+    pub test: u8,
+    pub node: Node,
+}
+
+// The guards of a way or an edge: as many as an E record holds.
+pub struct Guards {
+    pub first: Guard,
+}
+
+// How many locations and edges a listing has.
+pub struct Counts {
+    pub locations: usize,
+    pub edges: usize,
+}
+
+// An edge's fields beside its updates: its branch, its ends, its guards, and how many new nodes there are.
+pub struct EdgeFields {
+    pub branch: u8,
+    pub from: usize,
+    pub to: usize,
+    pub guards: Guards,
+    pub nodes: usize,
+}

@@ -11,7 +11,7 @@ use Rattle.model.specs.Heap.{Heap}
 use Rattle.model.specs.Edges.{Edge}
 use Rattle.model.specs.Records.{edgeRecord, filled, guardBytes, shapeBytes, slotByte, twoBytes, updateCode, valByte}
 use Rattle.model.specs.Shape.{segments, shape}
-use Rattle.model.proofs.Slices.{joined-next, put-back, put-next}
+use Rattle.model.proofs.lists.Slices.{joined-next, put-back, put-next}
 use Rattle.record.specs.Written.{edgeBytes, updateBytes}
 use Rattle.record.proofs.ListLaws.{drop-zeros}
 

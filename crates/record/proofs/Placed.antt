@@ -7,8 +7,9 @@ use lib.ListN.{length, take, drop, replicate, length-append}
 use lib.Seq.{drop-append-add, take-at}
 use Rattle.model.specs.Base.{joined}
 use Rattle.model.specs.Translate.{tableOf}
-use Rattle.model.proofs.Bytes.{joined-length}
-use Rattle.model.proofs.Lists.{In, joined-snoc}
+use Rattle.model.proofs.records.Bytes.{joined-length}
+use Rattle.model.specs.Notions.{In}
+use Rattle.model.proofs.lists.Lists.{joined-snoc}
 use Rattle.record.specs.Written.{placed}
 use Rattle.record.proofs.ListLaws.{drop-zeros}
 

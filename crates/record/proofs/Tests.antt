@@ -1,6 +1,6 @@
 -- Tests in a row, as the code makes them: a conjunction whose first part is known, the ops that use w, and the refusals of an S record.
 use Prim.Native.Nat.{ℕ, zero, suc, _+_, _≤_, _<_}
-use Rattle.model.proofs.Checks.{given-failed, pass-none}
+use Rattle.model.proofs.records.Checks.{given-failed, pass-none}
 use mathlib.Core.Path.{_≡_, refl, sym, _∙_}
 use mathlib.Core.Bool.{Bool, true, false, _&&_, and-assoc}
 use mathlib.Core.List.{List}

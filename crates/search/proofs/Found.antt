@@ -11,12 +11,13 @@ use Rattle.model.specs.Base.{sameList, placeOf, numbers}
 use Rattle.model.specs.Edges.{Loc, sameLoc}
 use Rattle.model.specs.Records.{locRecord, recordAt}
 use Rattle.model.specs.Translate.{tableOf}
-use Rattle.model.proofs.Bytes.{records-wide, table-record}
-use Rattle.model.proofs.Listings.{WritableLoc}
-use Rattle.model.proofs.Lists.{In, getD-in, getD-map}
-use Rattle.model.proofs.Logic.{bool-ext}
-use Rattle.model.proofs.ReadBack.{location-injective, record-length}
-use Rattle.model.proofs.Same.{bytes-same, same-bytes-refl, loc-same, same-loc-refl}
+use Rattle.model.proofs.records.Bytes.{records-wide, table-record}
+use Rattle.model.specs.Listings.{WritableLoc}
+use Rattle.model.specs.Notions.{In}
+use Rattle.model.proofs.lists.Lists.{getD-in, getD-map}
+use Rattle.model.proofs.lists.Logic.{bool-ext}
+use Rattle.model.proofs.records.ReadBack.{location-injective, record-length}
+use Rattle.model.proofs.shapes.Same.{bytes-same, same-bytes-refl, loc-same, same-loc-refl}
 use Rattle.search.specs.Search.{foundAt}
 use Rattle.search.proofs.ListLaws.{place-numbers}
 

@@ -10,7 +10,7 @@ use lib.ListN.{take, drop, getD, length}
 use lib.Seq.{take-all}
 use Rattle.model.specs.Base.{sameList}
 use Rattle.model.specs.Records.{word}
-use Rattle.model.proofs.Logic.{bool-case, bool-ext, clash, not-true}
+use Rattle.model.proofs.lists.Logic.{bool-case, bool-ext, clash, not-true}
 use Rattle.search.specs.Search.{fourAt, eightAt, keyAt}
 use Rattle.search.proofs.ListLaws.{Agree, agree-same, same-agree}
 

@@ -8,7 +8,7 @@ use lib.Dec.{eqb}
 use lib.ListN.{length, take, drop, getD, length-take, length-drop}
 use lib.Seq.{ext-getD, getD-take, getD-drop}
 use Rattle.model.specs.Base.{sameList, placeOf, numbers}
-use Rattle.model.proofs.Same.{bytes-same, same-bytes-refl}
+use Rattle.model.proofs.shapes.Same.{bytes-same, same-bytes-refl}
 
 -- a part of a list, by place
 pub part-at : (t : List ℕ) (a n k : ℕ) → k < n → getD (take n (drop a t)) k 0 ≡ getD t (a + k) 0

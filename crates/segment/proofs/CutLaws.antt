@@ -7,10 +7,9 @@ use native.Mathlib.Omega.{arith}
 use lib.ListN.{length, length-append}
 use Rattle.model.specs.Base.{mem}
 use Rattle.model.specs.Shape.{Seg, cells, cut, cutFrom, size}
-use Rattle.model.proofs.Cuts.{flat-cut, mem-flat}
-use Rattle.model.proofs.Logic.{bool-case, mem-here, mem-there}
-use Rattle.model.proofs.Notions.{segAt}
-use Rattle.model.proofs.Walks.{seg}
+use Rattle.model.proofs.expansion.Cuts.{flat-cut, mem-flat}
+use Rattle.model.proofs.lists.Logic.{bool-case, mem-here, mem-there}
+use Rattle.model.specs.Notions.{segAt, seg}
 
 -- a segment with one cell more
 abbrev pub behind : Seg → ℕ → Seg

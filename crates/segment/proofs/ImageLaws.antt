@@ -11,14 +11,13 @@ use Rattle.model.specs.Heap.{Heap, IsHeap, cell, next, order}
 use Rattle.model.specs.Shape.{Seg, cells, core, last, segments}
 use Rattle.model.specs.Records.{valOf}
 use Rattle.model.specs.Image.{heapOf}
-use Rattle.model.proofs.Bytes.{val-cell}
-use Rattle.model.proofs.Facts.{heap-closed, heap-kept}
-use Rattle.model.proofs.Lists.{mem-at}
-use Rattle.model.proofs.Notions.{flat, segAt}
-use Rattle.model.proofs.Order.{pigeon, toured}
-use Rattle.model.proofs.Segments.{each-cell-once, segments-are}
-use Rattle.model.proofs.Start.{end}
-use Rattle.model.proofs.Walks.{AllClosed, Closed, seg}
+use Rattle.model.proofs.records.Bytes.{val-cell}
+use Rattle.model.proofs.expansion.Facts.{heap-closed, heap-kept}
+use Rattle.model.proofs.lists.Lists.{mem-at}
+use Rattle.model.specs.Notions.{flat, segAt, AllClosed, Closed, seg}
+use Rattle.model.proofs.visits.Order.{pigeon, toured}
+use Rattle.model.proofs.shapes.Segments.{each-cell-once, segments-are}
+use Rattle.model.proofs.expansion.Start.{end}
 use Rattle.segment.specs.Cut.{CutReady, heldCore, segs}
 use Rattle.segment.specs.Fold.{AllIn, InTable, LastsIn}
 use Rattle.segment.proofs.ShapeLaws.{cell-low, segs-same, slot-of}

@@ -12,17 +12,17 @@ use Rattle.model.specs.Heap.{Heap, IsHeap, Val, cell, holds, next, null, order,
 use Rattle.model.specs.Shape.{Seg, cells, core, last, node, nodeSlot, nodeVal, segments, shape}
 use Rattle.model.specs.Records.{slotByte, valByte, valOf}
 use Rattle.model.specs.Image.{cellSlot, heapOf}
-use Rattle.model.proofs.Bytes.{byte-back}
-use Rattle.model.proofs.Cuts.{AllCore, Head, core-of-pointed, node-head}
-use Rattle.model.proofs.Facts.{heap-closed, heap-kept}
-use Rattle.model.proofs.Lists.{getD-map}
-use Rattle.model.proofs.Logic.{bool-case, mem-here, or-l}
-use Rattle.model.proofs.Notions.{segAt}
-use Rattle.model.proofs.Order.{used-below}
-use Rattle.model.proofs.Segments.{core-first}
-use Rattle.model.proofs.Start.{end, last-head}
-use Rattle.model.proofs.Walks.{AllClosed, Closed, Used, holders, pointed, seg}
-use Rattle.model.proofs.Writes.{holds-inj, slot-clash}
+use Rattle.model.proofs.records.Bytes.{byte-back}
+use Rattle.model.proofs.expansion.Cuts.{AllCore, Head, core-of-pointed, node-head}
+use Rattle.model.proofs.expansion.Facts.{heap-closed, heap-kept}
+use Rattle.model.proofs.lists.Lists.{getD-map}
+use Rattle.model.proofs.lists.Logic.{bool-case, mem-here, or-l}
+use Rattle.model.specs.Notions.{segAt, AllClosed, Closed, Used, seg}
+use Rattle.model.proofs.visits.Order.{used-below}
+use Rattle.model.proofs.shapes.Segments.{core-first}
+use Rattle.model.proofs.expansion.Start.{end, last-head}
+use Rattle.model.proofs.visits.Walks.{holders, pointed}
+use Rattle.model.proofs.expansion.Writes.{holds-inj, slot-clash}
 use Rattle.segment.specs.Cut.{heldCore, segs}
 use Rattle.segment.specs.Fold.{foldByte}
 use Rattle.segment.proofs.CutLaws.{cut-same}

@@ -7,8 +7,7 @@ use lib.Dec.{leb}
 use lib.ListN.{length, getD, take, set}
 use Rattle.model.specs.Base.{mem}
 use Rattle.model.specs.Shape.{Seg, cells, cut, last, size}
-use Rattle.model.proofs.Logic.{NoDup}
-use Rattle.model.proofs.Notions.{segAt}
+use Rattle.model.specs.Notions.{NoDup, segAt}
 
 -- h has a byte for each cell that counts its holders: two or more make the cell core
 abbrev pub heldCore : List ℕ → ℕ → Bool

@@ -10,7 +10,7 @@ use Rattle.model.specs.Records.{refusal}
 use Rattle.model.specs.Translate.{translate}
 use Rattle.model.specs.declared.Translated.{Translated}
 use Rattle.model.specs.declared.Translated.the-variants as translated
-use Rattle.model.proofs.Outcomes.{fitting}
+use Rattle.model.proofs.listings.Outcomes.{fitting}
 use Rattle.translate.specs.Text.{linesOf, printed, refusalLine, textOf}
 
 -- the records that are counted stand in the tables

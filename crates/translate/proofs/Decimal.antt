@@ -7,7 +7,7 @@ use native.Mathlib.Omega.{arith}
 use lib.Dec.{leb}
 use borrow.Author.Tests.{le-ltb, leb-false, leb-true, lt-ltb}
 use Rattle.io.specs.Digits.{Fewest, digits, glyph}
-use Rattle.model.proofs.Logic.{bool-case}
+use Rattle.model.proofs.lists.Logic.{bool-case}
 use Rattle.translate.specs.Text.{decimalOf, digitsWithin}
 
 glyph-is : (n : ℕ) → glyph (n % 10) ≡ 48 + n % 10

@@ -8,7 +8,7 @@ use lib.ListN.{length, take, drop}
 use lib.Seq.{drop-drop}
 use Rattle.model.specs.Base.{joined}
 use Rattle.model.specs.Translate.{chunks}
-use Rattle.model.proofs.Slices.{front-is}
+use Rattle.model.proofs.lists.Slices.{front-is}
 use Rattle.translate.specs.Text.{lineOf, linesOf}
 
 -- one record more of a table, f of each

@@ -121,7 +121,7 @@ fn write_answer(input: &[u8], text: &mut [u8]) -> usize
 {
     let mut locations = location_table();
     let mut edges = io::large_buffer();
-    match translator::translate(input, &mut locations, &mut edges) {
+    match automaton::translate(input, &mut locations, &mut edges) {
         Translated::Listed {
             locations: l,
             edges: e,

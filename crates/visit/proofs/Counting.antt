@@ -15,14 +15,15 @@ use Rattle.model.specs.Heap.{cell, holds, unused}
 use Rattle.model.specs.Image.{cellSlot, heapOf}
 use Rattle.model.specs.Records.{valOf}
 use Rattle.model.specs.Shape.{core, isCell}
-use Rattle.model.proofs.Cores.{of-two, two-of}
-use Rattle.model.proofs.Lists.{getD-map, in-getD, mem-in}
-use Rattle.model.proofs.Logic.{NoDup, bool-case, bool-ext, eq-case, eqb-same}
-use Rattle.model.proofs.Order.{used-below}
-use Rattle.model.proofs.Slices.{drop-step}
-use Rattle.model.proofs.Walks.{Used, holders}
-use Rattle.visit.specs.ByteLaws.{holds-byte, is-byte, slot-at}
-use Rattle.visit.specs.ListLaws.{nodup-at}
+use Rattle.model.proofs.expansion.Cores.{of-two, two-of}
+use Rattle.model.proofs.lists.Lists.{getD-map, in-getD, mem-in}
+use Rattle.model.specs.Notions.{NoDup, Used}
+use Rattle.model.proofs.lists.Logic.{bool-case, bool-ext, eq-case, eqb-same}
+use Rattle.model.proofs.visits.Order.{used-below}
+use Rattle.model.proofs.lists.Slices.{drop-step}
+use Rattle.model.proofs.visits.Walks.{holders}
+use Rattle.visit.proofs.ByteLaws.{holds-byte, is-byte, slot-at}
+use Rattle.visit.proofs.ListLaws.{nodup-at}
 use Rattle.visit.specs.Steps.{Alike, heldBy, slotAt}
 
 -- ---- one cell

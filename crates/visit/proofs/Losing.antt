@@ -8,8 +8,8 @@ use lib.Dec.{eqb}
 use lib.ListN.{length, getD, drop}
 use Rattle.model.specs.Heap.{Slot, eachUsed}
 use Rattle.model.specs.Image.{cellSlot}
-use Rattle.model.proofs.Logic.{bool-case}
-use Rattle.model.proofs.Slices.{map-end, map-step}
+use Rattle.model.proofs.lists.Logic.{bool-case}
+use Rattle.model.proofs.lists.Slices.{map-end, map-step}
 use Rattle.visit.specs.Steps.{lostAt}
 
 -- the cell has a mark

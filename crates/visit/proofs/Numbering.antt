@@ -12,8 +12,8 @@ use Rattle.model.specs.Base.{all, numbers, sameList}
 use Rattle.model.specs.Heap.{kept, order}
 use Rattle.model.specs.Image.{cellSlot, heapOf}
 use Rattle.model.specs.Shape.{allCore, canonical, core, numbered}
-use Rattle.visit.specs.Laws.{visited-length}
-use Rattle.visit.specs.ListLaws.{all-both, numbered-by, numbered-length, numbers-same}
+use Rattle.visit.proofs.Laws.{visited-length}
+use Rattle.visit.proofs.ListLaws.{all-both, numbered-by, numbered-length, numbers-same}
 use Rattle.visit.specs.Steps.{placed}
 use Rattle.visit.specs.Visit.{Visited}
 

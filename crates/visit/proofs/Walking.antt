@@ -13,13 +13,13 @@ use Rattle.model.specs.Base.{mem}
 use Rattle.model.specs.Heap.{Val, cell, null, undef, Slot, holds, closed, order}
 use Rattle.model.specs.Image.{heapOf}
 use Rattle.model.specs.Records.{valOf}
-use Rattle.model.proofs.Bytes.{val-cell}
-use Rattle.model.proofs.Facts.{test-closed, test-kept}
-use Rattle.model.proofs.Logic.{bool-case, clash, eq-case, mem-append, mem-append-r, mem-here, not-true}
-use Rattle.model.proofs.Order.{nodup-snoc, pigeon, tours-same, toured, used-snoc}
-use Rattle.model.proofs.Slices.{map-end, map-step}
-use Rattle.model.proofs.Walks.{Closed, Tours, Used, Walks, at-null, at-seen, at-undef, go, tour-done, tour-more}
-use Rattle.visit.specs.ByteLaws.{cell-val, slot-val, used-few}
+use Rattle.model.proofs.records.Bytes.{val-cell}
+use Rattle.model.proofs.expansion.Facts.{test-closed, test-kept}
+use Rattle.model.proofs.lists.Logic.{bool-case, clash, eq-case, mem-append, mem-append-r, mem-here, not-true}
+use Rattle.model.proofs.visits.Order.{nodup-snoc, pigeon, tours-same, toured, used-snoc}
+use Rattle.model.proofs.lists.Slices.{map-end, map-step}
+use Rattle.model.specs.Notions.{Closed, Tours, Used, Walks, at-null, at-seen, at-undef, go, tour-done, tour-more}
+use Rattle.visit.proofs.ByteLaws.{cell-val, slot-val, used-few}
 use Rattle.visit.specs.Steps.{Alike, Visiting, Walked, heldBy, slotAt}
 use Rattle.visit.specs.Visit.{VisitReady, Visited}
 use Rattle.visit.proofs.Counting.{held-core, pointing}

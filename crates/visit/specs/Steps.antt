@@ -11,8 +11,7 @@ use Rattle.model.specs.Heap.{Val, Slot, unused, holds}
 use Rattle.model.specs.Image.{cellSlot}
 use Rattle.model.specs.Records.{valOf}
 use Rattle.model.specs.Shape.{holdsCell}
-use Rattle.model.proofs.Logic.{NoDup}
-use Rattle.model.proofs.Walks.{AllUsed, Closed, Walks}
+use Rattle.model.specs.Notions.{NoDup, AllUsed, Closed, Walks}
 
 -- the slot of a cell of the image; past the end there is none
 abbrev pub slotAt : List ℕ → ℕ → Slot

@@ -13,10 +13,10 @@ use Rattle.model.specs.Base.{count, mem, sum}
 use Rattle.model.specs.Edges.{Weight, counter, isOneCell, isLess, one, less, updateOf}
 use Rattle.model.specs.Records.{bits, updateCode}
 use Rattle.model.specs.Shape.{Seg, cells}
-use Rattle.model.proofs.Logic.{NoDup, bool-case, eqb-same, eqb-sym, mem-here, mem-there}
-use Rattle.model.proofs.Notions.{flagged}
-use Rattle.model.proofs.Ways.{split-fair, whole-fair}
-use Rattle.model.proofs.Weights.{Fair, update-small, update-value, weigh}
+use Rattle.model.specs.Notions.{NoDup, flagged}
+use Rattle.model.proofs.lists.Logic.{bool-case, eqb-same, eqb-sym, mem-here, mem-there}
+use Rattle.model.proofs.ways.Ways.{split-fair, whole-fair}
+use Rattle.model.proofs.ways.Weights.{Fair, update-small, update-value, weigh}
 use Rattle.way.specs.Way.{plusBy, plusOf, weightAt}
 
 -- ---- counters a, 2a, 4a, ..: flagged ones add up to a times the flags' number

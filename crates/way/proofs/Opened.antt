@@ -13,8 +13,8 @@ use Rattle.model.specs.Heap.{Heap, Slot, unused, holds, cell, undef}
 use Rattle.model.specs.Image.{cellSlot, heapOf}
 use Rattle.model.specs.Machine.{done, setPtr, new, effect, carryOut, keep, put}
 use Rattle.model.specs.Records.{byte, shapeOf, valOf, valueByte}
-use Rattle.model.proofs.Lists.{getD-map, map-set}
-use Rattle.model.proofs.Logic.{and-l, and-r, bool-case, or-cases}
+use Rattle.model.proofs.lists.Lists.{getD-map, map-set}
+use Rattle.model.proofs.lists.Logic.{and-l, and-r, bool-case, or-cases}
 use Rattle.way.specs.Way.{OpenReady, openedBytes, openedCount, openedHeap, withUnused}
 use Rattle.way.proofs.ListLaws.{take-push}
 

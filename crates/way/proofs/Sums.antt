@@ -10,8 +10,8 @@ use lib.ListN.{getD, getD-replicate, length, length-replicate, replicate, set, t
 use lib.Pow.{pow-mono, shl-exact}
 use lib.Seq.{getD-set-other, getD-set-same}
 use borrow.Author.Tests.{eq-eqb, eqb-false}
-use Rattle.model.proofs.Logic.{eq-case}
-use Rattle.model.proofs.Slices.{sum-append, take-next}
+use Rattle.model.proofs.lists.Logic.{eq-case}
+use Rattle.model.proofs.lists.Slices.{sum-append, take-next}
 use Rattle.way.specs.Way.{CellsReady, baseAt, sumAt}
 
 -- a power of two that fits

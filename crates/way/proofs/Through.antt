@@ -6,7 +6,7 @@ use lib.ListN.{getD, length}
 use Rattle.model.specs.Edges.{access}
 use Rattle.model.specs.Heap.{Heap, null, undef}
 use Rattle.model.specs.Records.{opOf, valOf}
-use Rattle.model.proofs.Lists.{getD-map}
+use Rattle.model.proofs.lists.Lists.{getD-map}
 
 pub pointer-value : (ps : List ℕ) (u : ℕ) → u < length ps → valOf (getD ps u 0) ≡ getD (map valOf ps) u undef
 pointer-value ps u h = sym (getD-map valOf ps u 0 undef h)

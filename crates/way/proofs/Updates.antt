@@ -12,12 +12,11 @@ use Rattle.model.specs.Base.{mem, sum}
 use Rattle.model.specs.Edges.{updateOf}
 use Rattle.model.specs.Records.{updateCode}
 use Rattle.model.specs.Shape.{Seg, cells}
-use Rattle.model.proofs.Cuts.{flat-mem, flat-nodup, mem-flat}
-use Rattle.model.proofs.Lists.{getD-map}
-use Rattle.model.proofs.Logic.{NoDup, bool-ext, mem-here, mem-there}
-use Rattle.model.proofs.Notions.{flat, segAt}
-use Rattle.model.proofs.Slices.{sum-append}
-use Rattle.model.proofs.Walks.{seg}
+use Rattle.model.proofs.expansion.Cuts.{flat-mem, flat-nodup, mem-flat}
+use Rattle.model.proofs.lists.Lists.{getD-map}
+use Rattle.model.specs.Notions.{NoDup, flat, segAt, seg}
+use Rattle.model.proofs.lists.Logic.{bool-ext, mem-here, mem-there}
+use Rattle.model.proofs.lists.Slices.{sum-append}
 use Rattle.way.specs.Way.{codeAt, plusOf, sumAt, weightAt}
 use Rattle.way.proofs.Codes.{segment-update}
 

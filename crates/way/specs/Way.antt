@@ -10,7 +10,7 @@ use Rattle.model.specs.Base.{all, mem, sum}
 use Rattle.model.specs.Edges.{Weight, counter, one, less, splitHeap}
 use Rattle.model.specs.Heap.{unused, Heap}
 use Rattle.model.specs.Records.{byte, valueByte}
-use Rattle.model.proofs.Logic.{NoDup}
+use Rattle.model.specs.Notions.{NoDup}
 
 -- ---- opening a shape
 

@@ -5,7 +5,7 @@ use lib.ListN.{drop, length-drop}
 use lib.Seq.{length-take-le}
 use borrow.Author.Needs.{needs}
 use Rattle.edge.proofs.Keeping.{keep-leaves}
-use Rattle.model.proofs.Statements.{statement-fields}
+use Rattle.model.proofs.records.Statements.{statement-fields}
 use Rattle.edge.proofs.Ready.{location-wide, nodes-few}
 use Rattle.edge.proofs.keep_edge.Statement.{statement}
 use Rattle.edge.proofs.keep_edge.Tie as tie

@@ -3,7 +3,7 @@ use mathlib.Core.Path.{sym, _∙_}
 use native.Mathlib.Omega.{arith}
 use lib.Seq.{length-take-le}
 use borrow.Author.Needs.{needs}
-use Rattle.model.proofs.Statements.{statement-fields}
+use Rattle.model.proofs.records.Statements.{statement-fields}
 use Rattle.edge.proofs.Ready.{location-wide, nodes-few, open-ready}
 use Rattle.edge.proofs.Running.{run-ready, way-ran}
 use Rattle.edge.proofs.run_way.Statement.{statement}

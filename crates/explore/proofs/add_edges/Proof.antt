@@ -1,7 +1,7 @@
 -- `explore::add_edges` meets its contract: the op and the value that it reads through tell which ways there are.
 use native.Mathlib.Omega.{arith}
 use borrow.Author.Needs.{needs}
-use Rattle.explore.proofs.Here.{access-is, fields, location-wide, six-taken, ways-are}
+use Rattle.explore.proofs.LocationBytes.{access-is, fields, location-wide, six-taken, ways-are}
 use Rattle.explore.proofs.add_edges.Statement.{statement}
 use Rattle.explore.proofs.add_edges.Tie as tie
 

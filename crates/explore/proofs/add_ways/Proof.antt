@@ -3,7 +3,7 @@ use Prim.Native.Nat.{_-_}
 use mathlib.Core.Path.{_≡_, refl, _∙_}
 use lib.ListN.{length}
 use borrow.Author.Needs.{needs}
-use Rattle.explore.specs.Parts.{AreWays}
+use Rattle.explore.specs.LocationEdges.{AreWays}
 use Rattle.explore.proofs.Ways.{Adds, adds-end, adds-full, adds-next, adds-start, way-given}
 use Rattle.explore.proofs.add_ways.Statement.{statement}
 use Rattle.explore.proofs.add_ways.Tie as tie

@@ -5,7 +5,7 @@ use native.Mathlib.Omega.{arith}
 use lib.ListN.{length}
 use borrow.Author.Needs.{needs}
 use Rattle.explore.specs.Explore.{ExploreReady}
-use Rattle.explore.proofs.Turns.{Explores, explores-end, explores-full, explores-next, explores-start, grown-since, most-locations, next-ready}
+use Rattle.explore.proofs.Exploration.{Explores, explores-end, explores-full, explores-next, explores-start, grown-since, most-locations, next-ready}
 use Rattle.explore.proofs.explore_all.Statement.{statement}
 use Rattle.explore.proofs.explore_all.Tie as tie
 

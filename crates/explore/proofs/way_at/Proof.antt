@@ -2,7 +2,7 @@
 use mathlib.Core.Path.{refl}
 use borrow.Author.Needs.{needs}
 use borrow.Author.Tests.{le-ltb, lt-ltb}
-use Rattle.explore.specs.Parts.{wayAt}
+use Rattle.explore.specs.LocationEdges.{wayAt}
 use Rattle.explore.proofs.way_at.Statement.{statement}
 use Rattle.explore.proofs.way_at.Tie as tie
 

@@ -1,7 +1,7 @@
 -- `explore::way_count` meets its contract: each answer is the case that the tests say.
 use mathlib.Core.Path.{refl}
 use borrow.Author.Tests.{eq-eqb, le-ltb, lt-ltb, ne-eqb}
-use Rattle.explore.specs.Parts.{wayCount}
+use Rattle.explore.specs.LocationEdges.{wayCount}
 use Rattle.explore.proofs.way_count.Statement.{statement}
 use Rattle.explore.proofs.way_count.Tie as tie
 

@@ -7,7 +7,7 @@ use lib.Seq.{length-take-le}
 use borrow.Author.Needs.{needs}
 use Rattle.model.specs.Records.{byte}
 use Rattle.model.specs.Shape.{canonical}
-use Rattle.model.proofs.ShapeBack.{layout-few, shape-image}
+use Rattle.model.proofs.records.ShapeBack.{layout-few, shape-image}
 use Rattle.input.proofs.Shapes.{image-closed}
 use Rattle.input.proofs.canonical_shape.Statement.{statement}
 use Rattle.input.proofs.canonical_shape.Tie as tie

@@ -9,8 +9,8 @@ use borrow.Author.Tests.{leb-true, not-true, not-false}
 use Rattle.model.specs.Base.{count}
 use Rattle.model.specs.Records.{isH}
 use Rattle.model.specs.Translate.{between, checkRecords}
-use Rattle.model.proofs.Listings.{recordsOf}
-use Rattle.model.proofs.Logic.{and-l, and-r}
+use Rattle.model.specs.Listings.{recordsOf}
+use Rattle.model.proofs.lists.Logic.{and-l, and-r}
 use Rattle.input.proofs.Outcomes.{counts-2, counts-3, counts-rest}
 use Rattle.input.proofs.Records.{counts-whole}
 use Rattle.input.proofs.check_counts.Statement.{statement}

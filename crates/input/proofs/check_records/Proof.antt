@@ -7,8 +7,8 @@ use lib.ListN.{drop}
 use borrow.Author.Needs.{needs}
 use Rattle.model.specs.Records.{recordAt, refusal}
 use Rattle.model.specs.Translate.{badRecord}
-use Rattle.model.proofs.Listings.{recordsOf}
-use Rattle.input.specs.Parts.{earlier}
+use Rattle.model.specs.Listings.{recordsOf}
+use Rattle.input.specs.RecordChecks.{earlier}
 use Rattle.input.proofs.Records.{records-pass, records-fail, records-pass-end}
 use Rattle.input.proofs.Shapes.{number-few}
 use Rattle.input.proofs.Outcomes.{records-bad, records-good}

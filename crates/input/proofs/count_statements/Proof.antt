@@ -8,7 +8,7 @@ use borrow.Author.Needs.{needs}
 use borrow.Author.Tests.{eq-eqb, ne-eqb}
 use Rattle.model.specs.Base.{count}
 use Rattle.model.specs.Records.{isS}
-use Rattle.model.proofs.Listings.{recordsOf}
+use Rattle.model.specs.Listings.{recordsOf}
 use Rattle.input.proofs.Records.{count-step, count-end}
 use Rattle.input.proofs.count_statements.Statement.{statement}
 use Rattle.input.proofs.count_statements.Tie as tie

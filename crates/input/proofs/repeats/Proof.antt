@@ -5,7 +5,7 @@ use native.Mathlib.Omega.{arith}
 use lib.Dec.{eqb}
 use borrow.Author.Needs.{needs}
 use Rattle.model.specs.Base.{any, sameList}
-use Rattle.input.specs.Parts.{earlier}
+use Rattle.input.specs.RecordChecks.{earlier}
 use Rattle.input.proofs.Records.{earlier-step}
 use Rattle.input.proofs.repeats.Statement.{statement}
 use Rattle.input.proofs.repeats.Tie as tie

@@ -2,7 +2,7 @@
 use mathlib.Core.Path.{sym, _∙_}
 use borrow.Author.Needs.{needs}
 use borrow.Author.Tests.{not-true, not-false}
-use Rattle.input.specs.Parts.{earlier}
+use Rattle.input.specs.RecordChecks.{earlier}
 use Rattle.input.proofs.Shapes.{refusal-8, refusal-9, refusal-10, refusal-none}
 use Rattle.input.proofs.shape_refusal.Statement.{statement}
 use Rattle.input.proofs.shape_refusal.Tie as tie

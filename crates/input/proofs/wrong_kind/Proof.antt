@@ -7,7 +7,7 @@ use lib.ListN.{drop}
 use borrow.Author.Needs.{needs}
 use borrow.Author.Tests.{lt-ltb, le-ltb, not-true, not-false}
 use Rattle.model.specs.Translate.{badKind}
-use Rattle.model.proofs.Listings.{recordsOf}
+use Rattle.model.specs.Listings.{recordsOf}
 use Rattle.input.proofs.Records.{kinds-pass, kinds-fail, kinds-end}
 use Rattle.input.proofs.wrong_kind.Statement.{statement}
 use Rattle.input.proofs.wrong_kind.Tie as tie

@@ -9,8 +9,8 @@ use borrow.Author.Needs.{needs}
 use borrow.Author.Tests.{leb-true, not-true, not-false}
 use Rattle.model.specs.Base.{all}
 use Rattle.model.specs.Records.{byte, isZero, valueByte}
-use Rattle.model.proofs.Logic.{and-r}
-use Rattle.model.proofs.Slices.{part-from}
+use Rattle.model.proofs.lists.Logic.{and-r}
+use Rattle.model.proofs.lists.Slices.{part-from}
 use Rattle.record.specs.Checked.{headH}
 use Rattle.record.proofs.Tests.{and-taken, and-left, layout-is}
 use Rattle.record.proofs.layout_ok.Statement.{statement}

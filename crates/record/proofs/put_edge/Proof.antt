@@ -1,7 +1,7 @@
 -- `put_edge` meets its contract: the part that was lent is back in its place.
 use Prim.Native.Nat.{_*_}
 use borrow.Author.Needs.{needs}
-use Rattle.model.proofs.Slices.{put-back}
+use Rattle.model.proofs.lists.Slices.{put-back}
 use Rattle.record.specs.Written.{edgeBytes}
 use Rattle.record.proofs.put_edge.Statement.{statement}
 use Rattle.record.proofs.put_edge.Tie as tie

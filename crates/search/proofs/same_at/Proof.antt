@@ -6,7 +6,7 @@ use lib.Dec.{eqb}
 use lib.ListN.{drop, take}
 use borrow.Author.Needs.{needs}
 use Rattle.model.specs.Base.{sameList}
-use Rattle.model.proofs.Logic.{bool-ext}
+use Rattle.model.proofs.lists.Logic.{bool-ext}
 use Rattle.search.proofs.Keys.{part-differ, part-same, parts-same}
 use Rattle.search.proofs.same_at.Statement.{statement}
 use Rattle.search.proofs.same_at.Tie as tie

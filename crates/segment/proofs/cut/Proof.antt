@@ -5,7 +5,7 @@ use native.Mathlib.Omega.{arith}
 use lib.ListN.{drop, length, take}
 use borrow.Author.Needs.{needs}
 use Rattle.segment.specs.Cut.{IsCut, segs}
-use Rattle.segment.proofs.Turn.{ready-at, size-past, turn-at}
+use Rattle.segment.proofs.CutStep.{ready-at, size-past, turn-at}
 use Rattle.segment.proofs.cut.Statement.{statement}
 use Rattle.segment.proofs.cut.Tie as tie
 

@@ -5,7 +5,7 @@ use mathlib.Core.List.{_++_, map}
 use native.Mathlib.Omega.{arith}
 use lib.ListN.{length, getD, take, drop}
 use borrow.Author.Needs.{needs}
-use Rattle.model.proofs.Slices.{map-fill}
+use Rattle.model.proofs.lists.Slices.{map-fill}
 use Rattle.segment.specs.Fold.{foldByte}
 use Rattle.segment.proofs.fold_successors.Statement.{statement}
 use Rattle.segment.proofs.fold_successors.Tie as tie

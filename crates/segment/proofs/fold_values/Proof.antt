@@ -6,7 +6,7 @@ use native.Mathlib.Omega.{arith}
 use lib.ListN.{length, take, drop}
 use lib.Seq.{take-length}
 use borrow.Author.Needs.{needs}
-use Rattle.model.proofs.Slices.{map-fill}
+use Rattle.model.proofs.lists.Slices.{map-fill}
 use Rattle.segment.specs.Fold.{foldByte}
 use Rattle.segment.proofs.fold_values.Statement.{statement}
 use Rattle.segment.proofs.fold_values.Tie as tie

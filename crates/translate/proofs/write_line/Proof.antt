@@ -7,7 +7,7 @@ use lib.ListN.{length, getD, take, drop}
 use lib.Seq.{set-split}
 use borrow.Author.Needs.{needs}
 use Rattle.model.specs.Base.{joined}
-use Rattle.model.proofs.Slices.{joined-next, put-next}
+use Rattle.model.proofs.lists.Slices.{joined-next, put-next}
 use Rattle.translate.specs.Text.{byteOf}
 use Rattle.translate.proofs.write_line.Statement.{statement}
 use Rattle.translate.proofs.write_line.Tie as tie

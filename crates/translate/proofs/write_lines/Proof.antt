@@ -6,7 +6,7 @@ use native.Mathlib.Omega.{arith}
 use lib.ListN.{length, take, drop}
 use borrow.Author.Needs.{needs}
 use borrow.Rule.Slice.PartMut.{putMid}
-use Rattle.model.proofs.Slices.{part-from, put-back}
+use Rattle.model.proofs.lists.Slices.{part-from, put-back}
 use Rattle.translate.specs.Text.{lineOf, linesOf}
 use Rattle.translate.proofs.Lines.{lines-next, part-appends}
 use Rattle.translate.proofs.write_lines.Statement.{statement}

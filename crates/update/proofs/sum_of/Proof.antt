@@ -7,7 +7,7 @@ use lib.ListN.{getD}
 use lib.Pow.{pow-pos}
 use borrow.Author.Needs.{needs}
 use Rattle.model.specs.Runs.{added}
-use Rattle.model.proofs.Bytes.{added-none}
+use Rattle.model.proofs.records.Bytes.{added-none}
 use Rattle.update.proofs.Bits.{added-most, lowest-added, lowest-bit, lowest-small, lowest-within}
 use Rattle.update.proofs.sum_of.Statement.{statement}
 use Rattle.update.proofs.sum_of.Tie as tie

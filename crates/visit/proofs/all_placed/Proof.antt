@@ -5,7 +5,7 @@ use mathlib.Core.Path.{_≡_, ap, sym, _∙_}
 use borrow.Author.Needs.{needs}
 use borrow.Author.Tests.{eq-eqb, le-leb, lt-leb, ne-eqb}
 use Rattle.model.specs.Base.{all, numbers}
-use Rattle.visit.specs.ListLaws.{numbers-end, numbers-fail, numbers-pass}
+use Rattle.visit.proofs.ListLaws.{numbers-end, numbers-fail, numbers-pass}
 use Rattle.visit.specs.Steps.{placed}
 use Rattle.visit.proofs.all_placed.Statement.{statement}
 use Rattle.visit.proofs.all_placed.Tie as tie

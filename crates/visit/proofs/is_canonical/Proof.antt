@@ -5,7 +5,7 @@ use mathlib.Core.Path.{_≡_, sym, _∙_}
 use lib.ListN.{length, getD-replicate}
 use borrow.Author.Needs.{needs}
 use borrow.Author.Tests.{not-false, not-true}
-use Rattle.visit.specs.Laws.{kept-marked}
+use Rattle.visit.proofs.Laws.{kept-marked}
 use Rattle.visit.proofs.Numbering.{canonical-placed, not-kept, not-numbered}
 use Rattle.visit.proofs.is_canonical.Statement.{statement}
 use Rattle.visit.proofs.is_canonical.Tie as tie

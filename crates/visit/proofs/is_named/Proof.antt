@@ -2,7 +2,7 @@
 use mathlib.Core.Path.{sym}
 use borrow.Author.Needs.{needs}
 use borrow.Author.Tests.{eq-eqb, ne-eqb}
-use Rattle.visit.specs.ByteLaws.{named-in, named-past}
+use Rattle.visit.proofs.ByteLaws.{named-in, named-past}
 use Rattle.visit.proofs.is_named.Statement.{statement}
 use Rattle.visit.proofs.is_named.Tie as tie
 

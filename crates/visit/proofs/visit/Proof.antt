@@ -11,9 +11,9 @@ use lib.ListN.{length, getD, take, drop}
 use borrow.Author.Needs.{needs}
 use Rattle.model.specs.Image.{heapOf}
 use Rattle.model.specs.Records.{valOf}
-use Rattle.model.proofs.Facts.{test-closed}
-use Rattle.model.proofs.Walks.{Tours}
-use Rattle.visit.specs.ByteLaws.{pointer-closed}
+use Rattle.model.proofs.expansion.Facts.{test-closed}
+use Rattle.model.specs.Notions.{Tours}
+use Rattle.visit.proofs.ByteLaws.{pointer-closed}
 use Rattle.visit.specs.Steps.{Alike, Visiting, heldBy, slotAt}
 use Rattle.visit.proofs.Counting.{pointing, pointing-end, pointing-step}
 use Rattle.visit.proofs.Walking.{tour-end, tour-step, visited-of, visiting-none}

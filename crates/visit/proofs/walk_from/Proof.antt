@@ -10,7 +10,7 @@ use lib.Dec.{eqb}
 use lib.ListN.{length, getD, take, length-set}
 use borrow.Author.Needs.{needs}
 use Rattle.model.specs.Records.{valOf}
-use Rattle.model.proofs.Walks.{Closed, Walks}
+use Rattle.model.specs.Notions.{Closed, Walks}
 use Rattle.visit.specs.Steps.{Alike, Visiting, heldBy, slotAt}
 use Rattle.visit.proofs.Counting.{count-again, count-new, count-past}
 use Rattle.visit.proofs.Walking.{next-closed, place-left, put-behind, visiting-again, visiting-more, walk-go, walk-past, walk-stop}

@@ -5,7 +5,7 @@ use native.Mathlib.Omega.{arith}
 use lib.ListN.{getD, length, length-set, set}
 use lib.Seq.{take-all}
 use borrow.Author.Needs.{needs}
-use Rattle.model.proofs.Lists.{mem-at}
+use Rattle.model.proofs.lists.Lists.{mem-at}
 use Rattle.way.specs.Way.{plusOf, sumAt}
 use Rattle.way.proofs.Sums.{Added, added-more, added-none}
 use Rattle.way.proofs.add_cells.Statement.{statement}

@@ -1,7 +1,7 @@
 -- `edge::loss::alone_holds` meets its contract: the pointer's byte is a node, and stands once.
 use borrow.Author.Needs.{needs}
 use borrow.Author.Tests.{le-ltb}
-use Rattle.model.proofs.Logic.{clash}
+use Rattle.model.proofs.lists.Logic.{clash}
 use Rattle.edge.proofs.loss.alone_holds.Statement.{statement}
 use Rattle.edge.proofs.loss.alone_holds.Tie as tie
 

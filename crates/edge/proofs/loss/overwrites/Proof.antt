@@ -4,7 +4,7 @@ use mathlib.Core.Bool.{not}
 use native.Mathlib.Omega.{arith}
 use borrow.Author.Needs.{needs}
 use borrow.Author.Tests.{eq-eqb, ltb-true}
-use Rattle.model.proofs.Logic.{clash}
+use Rattle.model.proofs.lists.Logic.{clash}
 use Rattle.edge.proofs.loss.overwrites.Statement.{statement}
 use Rattle.edge.proofs.loss.overwrites.Tie as tie
 

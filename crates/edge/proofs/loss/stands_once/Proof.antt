@@ -8,7 +8,7 @@ use lib.Dec.{ltb}
 use borrow.Author.Needs.{needs}
 use borrow.Author.Tests.{eqb-false, eqb-true, ltb-false, ltb-true}
 use Rattle.model.specs.Records.{byte}
-use Rattle.model.proofs.Logic.{bool-case, eq-case}
+use Rattle.model.proofs.lists.Logic.{bool-case, eq-case}
 use Rattle.edge.proofs.loss.stands_once.Statement.{statement}
 use Rattle.edge.proofs.loss.stands_once.Tie as tie
 

@@ -1,8 +1,8 @@
 -- `edge::loss::surely_lost` meets its contract: a split whose tail is cut off, or a node whose only pointer is overwritten.
 use mathlib.Core.Path.{refl, sym, _∙_}
 use borrow.Author.Needs.{needs}
-use Rattle.model.proofs.Logic.{clash}
-use Rattle.model.proofs.Statements.{statement-fields}
+use Rattle.model.proofs.lists.Logic.{clash}
+use Rattle.model.proofs.records.Statements.{statement-fields}
 use Rattle.edge.proofs.Leaking.{alone-leaks, cut-leaks}
 use Rattle.edge.proofs.Ready.{location-wide, nodes-few}
 use Rattle.edge.proofs.loss.surely_lost.Statement.{statement}

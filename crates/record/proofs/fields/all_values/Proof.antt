@@ -8,7 +8,7 @@ use borrow.Author.Needs.{needs}
 use borrow.Author.Tests.{not-true, not-false}
 use Rattle.model.specs.Base.{all}
 use Rattle.model.specs.Records.{valueByte}
-use Rattle.model.proofs.Slices.{all-end, all-step}
+use Rattle.model.proofs.lists.Slices.{all-end, all-step}
 use Rattle.record.proofs.fields.all_values.Statement.{statement}
 use Rattle.record.proofs.fields.all_values.Tie as tie
 

@@ -7,7 +7,7 @@ use borrow.Author.Tests.{eq-eqb, ne-eqb}
 use Rattle.model.specs.Base.{all}
 use Rattle.model.specs.Records.{isZero}
 use borrow.Author.Needs.{needs}
-use Rattle.model.proofs.Slices.{all-end, all-step}
+use Rattle.model.proofs.lists.Slices.{all-end, all-step}
 use Rattle.record.proofs.fields.all_zero.Statement.{statement}
 use Rattle.record.proofs.fields.all_zero.Tie as tie
 

@@ -5,7 +5,7 @@ use borrow.Author.Needs.{needs}
 use lib.ListN.{drop}
 use Rattle.model.specs.Base.{all}
 use Rattle.model.specs.Records.{byte, isZero}
-use Rattle.model.proofs.Slices.{part-from}
+use Rattle.model.proofs.lists.Slices.{part-from}
 use Rattle.record.specs.Checked.{pointersS, unusedS}
 use Rattle.record.proofs.Tests.{and-taken, and-left, fields-are}
 use Rattle.record.proofs.fields.fields_ok.Statement.{statement}

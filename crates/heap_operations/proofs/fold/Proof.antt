@@ -1,0 +1,24 @@
+-- `image::fold` meets its contract: a refusal, and the fold of an image that passes the checks. Assumes nothing.
+use mathlib.Core.Path.{sym, _∙_}
+use borrow.Author.Needs.{needs}
+use Rattle.heap_operations.proofs.ImageLaws.{fold-passed, fold-ready, fold-refused}
+use Rattle.heap_operations.proofs.fold.Statement.{statement}
+use Rattle.heap_operations.proofs.fold.Tie as tie
+
+returns : tie.Need-returns
+returns c =
+    let a = c .before .before .before .before .before .before .before .before .before .args in
+    let k = c .before .before .before .before .check-image in
+    fold-refused (a .pointers .now) (a .cells .now) (k .result .refusal) (k .ensures .refusal) (c .if1 .taken)
+
+fold-heap-requires : tie.Need-fold-heap-requires
+fold-heap-requires c κs = let k = c .before .before .before .before .before .before .check-image in fold-ready (k .ensures) (c .before .before .if1 .left) (k .kept .1 .1 .0) (k .kept .1 .1 .1 .0)
+
+returns-2 : tie.Need-returns-2
+returns-2 c =
+    let k = c .before .before .before .before .before .before .before in
+    let a = k .before .before .before .before .before .args in
+    c .fold-heap .ensures ∙ fold-passed (a .pointers .now) (a .cells .now) (sym (k .check-image .ensures .refusal) ∙ c .before .before .before .if1 .left)
+
+pub fold-spec : {M : Type 1} → statement M
+fold-spec = tie.close (tie.spec (λ c. search needs) (λ c. search needs) (λ c κs. search needs) returns (λ c. search needs) (λ c. search needs) fold-heap-requires returns-2)

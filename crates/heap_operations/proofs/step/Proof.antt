@@ -1,0 +1,23 @@
+-- `image::step` meets its contract: a refusal leaves all, and without one the step is taken. Assumes nothing.
+use mathlib.Core.Path.{sym, _∙_}
+use borrow.Author.Needs.{needs}
+use Rattle.heap_operations.proofs.StepLaws.{step-unchecked}
+use Rattle.heap_operations.proofs.step.Statement.{statement}
+use Rattle.heap_operations.proofs.step.Tie as tie
+
+returns : tie.Need-returns
+returns c =
+    let a = c .before .before .before .before .before .before .before .args in
+    let s = c .before .step-refusal in
+    step-unchecked (a .rec .now) (a .pick) (a .cell) (a .pointers .now) (a .cells .now) (s .result) (s .ensures) (c .if1 .taken)
+
+take-step-requires : tie.Need-take-step-requires
+take-step-requires c κs = sym (c .before .before .before .step-refusal .ensures) ∙ c .before .before .if1 .left
+
+returns-2 : tie.Need-returns-2
+returns-2 c =
+    c .before .before .before .before .take-step .ensures
+
+pub step-spec : {M : Type 1} → statement M
+step-spec = tie.close (tie.spec (λ c κs. search needs) (λ c. search needs) (λ c. search needs) returns take-step-requires (λ c. search needs)
+    (λ c. search needs) returns-2)

@@ -1,0 +1,14 @@
+-- `image::steps::run_on` meets its contract: the work lists are clear. Assumes nothing.
+use borrow.Author.Needs.{needs}
+use Rattle.heap_operations.proofs.StepLaws.{ran-on, run-ready}
+use Rattle.heap_operations.proofs.steps.run_on.Statement.{statement}
+use Rattle.heap_operations.proofs.steps.run_on.Tie as tie
+
+run-requires : tie.Need-run-requires
+run-requires c κs = run-ready (c .before .before .before .before .before .before .pre)
+
+returns : tie.Need-returns
+returns c = ran-on (c .before .before .before .before .before .before .run .ensures)
+
+pub run-on-spec : {M : Type 1} → statement M
+run-on-spec = tie.close (tie.spec (λ c. search needs) (λ c. search needs) run-requires (λ c. search needs) (λ c. search needs) returns)

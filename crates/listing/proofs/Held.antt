@@ -1,0 +1,115 @@
+-- A listing held in the two tables after one edge more, and the two refusals: from what the code has found and written.
+use Prim.Native.Nat.{ℕ, _+_, _≤_, _<_}
+use mathlib.Core.Path.{_≡_, refl, ap, _∙_, subst}
+use mathlib.Core.Bool.{Bool, true, false, cond}
+use mathlib.Core.List.{List, [], _∷_, _++_}
+use native.Mathlib.Omega.{arith}
+use lib.Dec.{ltb}
+use lib.ListN.{length}
+use borrow.Author.Tests.{le-ltb, lt-ltb, ltb-false}
+use Rattle.model.specs.Base.{placeOf}
+use Rattle.model.specs.Edges.{Loc, Edge, sameLoc, at, failed}
+use Rattle.model.specs.Records.{locRecord, byte}
+use Rattle.model.specs.Translate.{Link, Listing, linkRecord, places, grown}
+use Rattle.model.proofs.records.EdgeBack.{edge-length}
+use Rattle.model.specs.Listings.{WritableLoc}
+use Rattle.model.proofs.records.ReadBack.{record-length}
+use Rattle.record.specs.Written.{edgeBytes, placed}
+use Rattle.record.proofs.Bytes.{edge-record}
+use Rattle.search.specs.Search.{foundAt}
+use Rattle.search.proofs.Found.{found-location}
+use Rattle.listing.specs.declared.Grown.the-variants.{Added, Full}
+use Rattle.listing.specs.Grow.{Holds, EdgeBytes, GrownTo}
+use Rattle.listing.specs.Target.{countKept, targetKept}
+use Rattle.listing.proofs.Kept.{Kept, kept-next}
+
+-- the location table, and the edge table
+abbrev LocsKept : ℕ → List Loc → List ℕ → ℕ → Type 0
+LocsKept = Kept locRecord WritableLoc 1024
+
+abbrev FewUpdates : Link → Type 0
+FewUpdates k = length (k .edge .updates) ≤ 12
+
+abbrev LinksKept : ℕ → List Link → List ℕ → ℕ → Type 0
+LinksKept = Kept linkRecord FewUpdates 2048
+
+locs-kept : (t : Listing) (ls es : List ℕ) (nl ne : ℕ) → Holds t ls es nl ne → LocsKept (length ls) (t .locs) ls nl
+locs-kept t ls es nl ne H = record { same = refl; held = H .locs; number = H .locNumber; fits = H .locsFit; good = H .goodLocs }
+
+links-kept : (t : Listing) (ls es : List ℕ) (nl ne : ℕ) → Holds t ls es nl ne → LinksKept (length es) (t .links) es ne
+links-kept t ls es nl ne H = record { same = refl; held = H .edges; number = H .edgeNumber; fits = H .edgesFit; good = H .goodLinks }
+
+-- the location table once the target is kept, where b says that it is known
+target-case : (b : Bool) (ls : List Loc) (l : Loc) (tab r : List ℕ) (size nl j : ℕ) → ltb j nl ≡ b → LocsKept size ls tab nl → WritableLoc l → r ≡ locRecord l
+    → j < places 1024 size → LocsKept size (cond b ls (ls ++ l ∷ [])) (cond b tab (placed tab nl r)) (cond b nl (nl + 1))
+target-case true ls l tab r size nl j e K W p h = K
+target-case false ls l tab r size nl j e K W p h =
+    kept-next locRecord WritableLoc record-length 1024 size ls tab r nl l K W p (omega (arith, ltb-false j nl e))
+
+holds-both : (t : Listing) (ls es : List ℕ) (a b nl ne : ℕ) → LocsKept a (t .locs) ls nl → LinksKept b (t .links) es ne → Holds t ls es nl ne
+holds-both t ls es a b nl ne K L =
+    let p = K .same in
+    let q = L .same in
+    record {
+      locs = rw p (K .held);
+      edges = rw q (L .held);
+      locNumber = K .number;
+      edgeNumber = L .number;
+      locsFit = rw p (K .fits);
+      edgesFit = rw q (L .fits);
+      goodLocs = K .good;
+      goodLinks = L .good;
+    }
+
+-- the listing t is held, the edge e of location i is given as bytes, and j is where its target was found
+module _ (t : Listing) (i : ℕ) (e : Edge) (ls es r us : List ℕ) (b g v m nl ne : ℕ) (H : Holds t ls es nl ne) (B : EdgeBytes e r us b g v m)
+    (j : ℕ) (found : j ≡ foundAt ls r nl) where
+  number-is : j ≡ placeOf (sameLoc (e .to)) (t .locs)
+  number-is = found ∙ ap (foundAt ls r) (H .locNumber) ∙ found-location (t .locs) (e .to) (length ls) ls r (H .goodLocs) (B .good) (H .locs) (B .target)
+
+  -- 11: no place for a new location
+  pub full-locations : places 1024 (length ls) ≤ j → GrownTo t i e ls es (Full 11)
+  full-locations h = rw (← number-is) (le-ltb j (places 1024 (length ls)) h, ((λ z. absurd (omega arith)), (omega arith, omega arith)))
+
+  -- 12: no place for the edge
+  pub full-edges : j < places 1024 (length ls) → places 2048 (length es) ≤ ne → GrownTo t i e ls es (Full 12)
+  full-edges h k =
+      let n = H .edgeNumber in
+      rw (← number-is) (lt-ltb j (places 1024 (length ls)) h, ((λ z. le-ltb (length (t .links)) (places 2048 (length es)) (omega arith)), (omega arith, omega arith)))
+
+  links-next : ne < places 2048 (length es)
+      → LinksKept (length es) (grown i j e t .links) (placed es ne (edgeBytes b i j g v us m)) (ne + 1)
+  links-next k =
+      let few : length (e .updates) ≤ 12 = omega (arith, B .number, B .few) in
+      let bytes : edgeBytes b i j g v us m ≡ linkRecord (record { from = i; dest = j; edge = e }) =
+      ap (λ x. edgeBytes x i j g v us m) (B .branch) ∙ edge-record i j g v m us e (B .guard) (B .updates) in
+      kept-next linkRecord FewUpdates (λ l h. edge-length (l .from) (l .dest) (l .edge) h) 2048 (length es) (t .links) es (edgeBytes b i j g v us m) ne
+      (record { from = i; dest = j; edge = e }) (links-kept t ls es nl ne H) few bytes k
+
+  locs-next : j < places 1024 (length ls) → LocsKept (length ls) (grown i j e t .locs) (targetKept ls nl j r) (countKept nl j)
+  locs-next h =
+      let K = target-case (ltb j nl) (t .locs) (e .to) ls r (length ls) nl j refl (locs-kept t ls es nl ne H) (B .good) (B .target) h in
+      subst (λ n. LocsKept (length ls) (cond (ltb j n) (t .locs) (t .locs ++ e .to ∷ [])) (targetKept ls nl j r) (countKept nl j)) (H .locNumber) K
+
+  -- one edge more: the target has its place, and the edge's record stands behind the others
+  pub one-more : j < places 1024 (length ls) → ne < places 2048 (length es)
+      → (ls′ es′ : List ℕ) (n : ℕ) → n ≡ countKept nl j → ls′ ≡ targetKept ls nl j r → es′ ≡ placed es ne (edgeBytes b i j g v us m)
+      → GrownTo t i e ls′ es′ (Added n (ne + 1))
+  one-more h k ls′ es′ n p q s =
+      let K = locs-next h in
+      let L = links-next k in
+      let num = H .edgeNumber in
+      let sl : length ls′ ≡ length ls = ap length q ∙ K .same in
+      let se : length es′ ≡ length es = ap length s ∙ L .same in
+      let X : Holds (grown i j e t) ls′ es′ n (ne + 1) =
+      rw (p, q, s) (holds-both (grown i j e t) (targetKept ls nl j r) (placed es ne (edgeBytes b i j g v us m)) (length ls) (length es) (countKept nl j) (ne + 1) K L) in
+      subst (λ x. (ltb x (places 1024 (length ls′)) ≡ true) × (ltb (length (t .links)) (places 2048 (length es′)) ≡ true) × Holds (grown i x e t) ls′ es′ n (ne + 1)) number-is
+      (rw sl (lt-ltb j (places 1024 (length ls)) h), rw (se, ← num) (lt-ltb ne (places 2048 (length es)) k), X)
+
+-- the record of an edge's target is that of a location
+location-tag : (l : Loc) → byte (locRecord l) 0 ≡ 0x4c
+location-tag (at s h) = refl
+location-tag (failed s f) = refl
+
+pub target-tag : {e : Edge} {r us : List ℕ} {b g v m : ℕ} → EdgeBytes e r us b g v m → byte r 0 ≡ 0x4c
+target-tag {e} B = ap (λ x. byte x 0) (B .target) ∙ location-tag (e .to)

@@ -1,0 +1,11 @@
+-- One heap as the expansion of another, and what the machine does to both.
+pub mod Expand
+pub mod Cores
+pub mod Folds
+pub mod Cuts
+pub mod Start
+pub mod Writes
+pub mod Facts
+pub mod Changes
+pub mod Effects
+pub mod Step

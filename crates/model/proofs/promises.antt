@@ -1,0 +1,5 @@
+-- What is claimed: each promise is a type, and its proof under it cites a law.
+pub mod Promises
+pub mod PromisesShapes
+pub mod PromisesListings
+pub mod PromisesRuns
