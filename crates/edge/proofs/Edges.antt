@@ -8,11 +8,10 @@ use lib.ListN.{List·getD-eq-default, length, length-map, take}
 use lib.Seq.{length-take-le}
 use borrow.Author.Tests.{ne-eqb}
 use Rattle.model.specs.Heap.{Heap, cell, next, unused}
-use Rattle.model.specs.Machine.{Answer, Fault, Stmt, accepts, answerOf, atNull, atUndef, branch, fault, faultNumber, faulted, kind, leak, carryOut, target, went}
+use Rattle.model.specs.Machine.{Answer, Fault, Stmt, accepts, answerOf, atNull, atUndef, branch, fault, faultNumber, faulted, kind, leak, carryOut, target, went, isStop}
 use Rattle.model.specs.Edges.{Edge, Guard, Way, Weight, access, always, at, edgeBy, failed, splitHeap, stepBy, updateOf}
 use Rattle.model.specs.Image.{heapOf}
 use Rattle.model.specs.Records.{byte, locRecord, stmtOf, updateCode}
-use Rattle.model.specs.Runs.{isStop}
 use Rattle.model.specs.Shape.{segments, shape}
 use Rattle.model.proofs.ways.Leave.{accept-room}
 use Rattle.model.proofs.expansion.Step.{step-go}

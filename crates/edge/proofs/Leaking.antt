@@ -9,10 +9,9 @@ use lib.ListN.{drop, getD, length, length-drop, take}
 use lib.Seq.{getD-drop, getD-take, length-take-le}
 use borrow.Author.Tests.{eqb-true}
 use Rattle.model.specs.Heap.{Heap, Val, cell, holds, next, null, ptr, undef, unused}
-use Rattle.model.specs.Machine.{copy, done, fault, held, keep, kind, leak, load, putSlot, carryOut}
+use Rattle.model.specs.Machine.{copy, done, fault, held, keep, kind, leak, load, putSlot, carryOut, isStop}
 use Rattle.model.specs.Edges.{access, splitHeap}
 use Rattle.model.specs.Records.{byte, opOf, shapeOf, stmtOf, valByte, valOf}
-use Rattle.model.specs.Runs.{isStop}
 use Rattle.model.proofs.records.Bytes.{byte-back, val-cell}
 use Rattle.model.proofs.expansion.Effects.{closed-ptr}
 use Rattle.model.proofs.lists.Lists.{getD-map}

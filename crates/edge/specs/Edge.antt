@@ -5,10 +5,9 @@ use mathlib.Core.Bool.{Bool, true, false}
 use mathlib.Core.List.{List, [], _∷_, map}
 use lib.ListN.{length, take}
 use Rattle.model.specs.Heap.{Heap, cell}
-use Rattle.model.specs.Machine.{kind}
+use Rattle.model.specs.Machine.{kind, isStop}
 use Rattle.model.specs.Edges.{Guard, Way, whole, split, access, Edge, at, edgeBy, stepBy}
 use Rattle.model.specs.Records.{isS, refusalS, stmtOf, locRecord, updateCode}
-use Rattle.model.specs.Runs.{isStop}
 use Rattle.model.specs.Notions.{Canon}
 
 -- an accepted S record among n statements

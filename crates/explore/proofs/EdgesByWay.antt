@@ -7,9 +7,8 @@ use native.Mathlib.Omega.{arith}
 use lib.ListN.{List·getD-eq-default, length}
 use Rattle.model.specs.Base.{joined}
 use Rattle.model.specs.Heap.{Heap, Val, cell, null, undef, unused}
-use Rattle.model.specs.Machine.{Effect, Kind, Stmt, accepts, allocates, answerOf, branch, done, fault, kind, other, picks, carryOut, stops, target}
+use Rattle.model.specs.Machine.{Effect, Kind, Stmt, accepts, allocates, answerOf, branch, done, fault, kind, other, picks, carryOut, stops, target, isStop}
 use Rattle.model.specs.Edges.{Edge, Guard, Loc, Way, access, always, at, edgeBy, edgesAt, failed, isOne, picksOf, split, splitHeap, stepBy, ways, waysAt, whole}
-use Rattle.model.specs.Runs.{isStop}
 use Rattle.model.proofs.ways.Leave.{accept-room}
 use Rattle.model.proofs.expansion.Step.{step-go}
 use Rattle.model.proofs.ways.Ways.{access-facts, room-of}

@@ -10,11 +10,10 @@ use lib.ListN.{drop, length, length-drop, take}
 use lib.Seq.{length-take-le}
 use borrow.Author.Tests.{eqb-false, eqb-true, le-ltb, lt-ltb, ltb-false, ltb-true}
 use Rattle.model.specs.Heap.{Heap, cell, next, undef}
-use Rattle.model.specs.Machine.{branch, kind, leak, picks, target}
+use Rattle.model.specs.Machine.{branch, kind, leak, picks, target, isStop}
 use Rattle.model.specs.Edges.{Edge, Guard, Loc, access, always, at, edgesAt, failed, isMore, isOne, whole}
 use Rattle.model.specs.Image.{heapOf}
 use Rattle.model.specs.Records.{byte, guardBytes, opOf, shapeOf, stmtOf, valOf}
-use Rattle.model.specs.Runs.{isStop}
 use Rattle.model.proofs.records.Bytes.{val-cell}
 use Rattle.model.specs.Listings.{Writable, WritableLoc, GoodLoc}
 use Rattle.model.specs.Notions.{In, Closed}

@@ -7,10 +7,9 @@ use native.Mathlib.Omega.{arith}
 use lib.ListN.{getD}
 use borrow.Author.Tests.{ltb-true}
 use Rattle.model.specs.Heap.{Heap, Val, null, ptr, sameVal, undef}
-use Rattle.model.specs.Machine.{Op, Stmt, allocates, branch, choose, clear, copy, free, isNull, kind, load, new, other, picks, same, setNull, skip, stop, stops, store, target, test}
+use Rattle.model.specs.Machine.{Op, Stmt, allocates, branch, choose, clear, copy, free, isNull, kind, load, new, other, picks, same, setNull, skip, stop, stops, store, target, test, isStop}
 use Rattle.model.specs.Edges.{access}
 use Rattle.model.specs.Records.{byte, opOf, refusalS, stmtOf, targetBelow, usesFirst, usesSecond}
-use Rattle.model.specs.Runs.{isStop}
 use Rattle.model.proofs.lists.Logic.{and-l, and-r, clash}
 use Rattle.model.proofs.records.Ops.{each-op}
 use Rattle.model.proofs.records.Statements.{passed-s}

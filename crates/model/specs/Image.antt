@@ -7,7 +7,7 @@ use lib.ListN.{length, take, drop, replicate}
 use Rattle.model.specs.Base.{all, sum}
 use Rattle.model.specs.Heap.{Val, cell, null, undef, Slot, unused, holds, Heap, closed, kept}
 use Rattle.model.specs.Shape.{shape, counters, canonical}
-use Rattle.model.specs.Machine.{faultNumber, Kind, stops, picks, allocates, other, kind, Entry, entry, accepts, Answer, refused, stopped, faulted, went, step}
+use Rattle.model.specs.Machine.{Op, faultNumber, Action, stay, point, follow, link, make, release, action, Entry, entry, accepts, Answer, refused, stopped, faulted, went, step}
 use Rattle.model.specs.Records.{valByte, valOf, slotByte, byte, isZero, isS, filled, shapeRecord, layoutH, shapeOf, stmtOf, Refusal, refusal, Verdict, isAccepted, isRefused, Row, unless, firstFailed, checksS}
 
 -- "six pointer bytes and 0 to 240 cell bytes: a cell number, 0xfe, 0xff, or for a cell 0xfd (not in use)"
@@ -143,11 +143,13 @@ stepVerdict toStop = isAccepted
 stepVerdict (noStep x) = isRefused x
 
 -- at new, the cell c is past the end of n cells
-abbrev pub pastEnd : Kind → ℕ → ℕ → Bool
-pastEnd stops c n = false
-pastEnd picks c n = false
-pastEnd allocates c n = leb n c
-pastEnd other c n = false
+abbrev pub pastEnd : Action → ℕ → ℕ → Bool
+pastEnd stay c n = false
+pastEnd (point u s) c n = false
+pastEnd (follow u w) c n = false
+pastEnd (link u s) c n = false
+pastEnd (make u) c n = leb n c
+pastEnd (release u) c n = false
 
 abbrev pub answered : Answer → List ℕ → List ℕ → Stepping
 answered refused ps cs = stays (noStep (refusal 16 0)) ps cs
@@ -160,8 +162,8 @@ answered (went b t h) ps cs = record {
 }
 
 -- "16: pick above 1 at choose; at new, a cell in use or past the end"
-abbrev pub entryFits : Kind → Entry → Heap → Bool
-entryFits k e h = not (pastEnd k (e .cellNo) (length (h .slots))) && accepts k e h
+abbrev pub entryFits : Op → Entry → Heap → Bool
+entryFits op e h = not (pastEnd (action op) (e .cellNo) (length (h .slots))) && accepts op e h
 
 -- "a plain step 13, 14, 4 (its record is no S), 5, 6, 7": "Its targets need only be below 64."
 abbrev pub checksStatement : List ℕ → List ℕ → List ℕ → List Row
@@ -169,7 +171,7 @@ checksStatement r ps cs = checksImage ps cs ++ unless 4 (eqb (length r) 32 && is
 
 -- and then 16
 abbrev pub checksStep : List ℕ → Entry → List ℕ → List ℕ → List Row
-checksStep r e ps cs = checksStatement r ps cs ++ unless 16 (entryFits (kind (stmtOf r .op)) e (heapOf ps cs)) ∷ []
+checksStep r e ps cs = checksStatement r ps cs ++ unless 16 (entryFits (stmtOf r .op) e (heapOf ps cs)) ∷ []
 
 -- statement record r, pick p, cell c, pointers ps, cells cs
 unfoldable pub stepImage : List ℕ → ℕ → ℕ → List ℕ → List ℕ → Stepping
