@@ -1,0 +1,36 @@
+-- What the structs that the code passes by value stand for. Assumes nothing.
+use Prim.Native.Nat.{ℕ, zero, suc}
+use mathlib.Core.List.{List, [], _∷_}
+use Rattle.model.specs.Edges.{Guard, isMore, isOne}
+use Rattle.model.specs.Machine.{Op, Stmt}
+use Rattle.model.specs.Records.{byte, opOf}
+use Rattle.model.specs.declared.Decoded.{Decoded}
+use Rattle.model.specs.declared.Guards.{Guards}
+
+-- ---- a statement's record, decoded
+
+-- the struct that the record r is decoded into
+abbrev pub decoded : List ℕ → Decoded
+decoded r = record {
+  op = byte r 1;
+  u = record { 0 = byte r 2 };
+  w = record { 0 = byte r 3 };
+  first = record { 0 = byte r 4 };
+  second = record { 0 = byte r 5 };
+}
+
+abbrev pub opIn : Decoded → Op
+opIn d = opOf (d .op) (d .u .0) (d .w .0)
+
+abbrev pub stmtIn : Decoded → Stmt
+stmtIn d = record { op = opIn d; firstTarget = d .first .0; secondTarget = d .second .0 }
+
+-- ---- guards
+
+abbrev pub guardBy : ℕ → ℕ → List Guard
+guardBy zero n = []
+guardBy (suc zero) n = record { node = n; test = isOne } ∷ []
+guardBy (suc (suc t)) n = record { node = n; test = isMore } ∷ []
+
+abbrev pub guardsIn : Guards → List Guard
+guardsIn g = guardBy (g .first .test) (g .first .node .0)
