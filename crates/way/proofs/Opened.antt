@@ -101,7 +101,7 @@ all-after q [] m h = h
 all-after q (x ∷ l) m h = all-after q l m (and-r (q x) (all q (l ++ m)) h)
 
 -- a ready record: what stands after the copies, and the opened heap
-module _ (r p c : List ℕ) (op n : ℕ) (sp : Bool) (R : OpenReady r p c op n sp) where
+module _ (r p c : List ℕ) (op n : ℕ) (sp : Bool) (R : OpenReady r p c n sp) where
   pub ready-pointers : take 6 (drop 4 r) ++ drop (length (take 6 (drop 4 r))) p ≡ take 6 (drop 4 r)
   ready-pointers =
       let len : length (take 6 (drop 4 r)) ≡ 6 = length-take-le 6 (drop 4 r) (omega (arith, R .wide, length-drop 4 r)) in

@@ -17,7 +17,7 @@ use Rattle.model.specs.Notions.{NoDup, flagged}
 use Rattle.model.proofs.lists.Logic.{bool-case, eqb-same, eqb-sym, mem-here, mem-there}
 use Rattle.model.proofs.ways.Ways.{split-fair, whole-fair}
 use Rattle.model.proofs.ways.Weights.{Fair, update-small, update-value, weigh}
-use Rattle.way.specs.Way.{plusBy, plusOf, weightAt}
+use Rattle.update.specs.Codes.{plusBy, weightBy}
 
 -- ---- counters a, 2a, 4a, ..: flagged ones add up to a times the flags' number
 
@@ -94,7 +94,7 @@ module _ (k : ℕ) (w : ℕ → Weight) (F : Fair k (doubles 2 k) w) where
 -- ---- the weights of a way
 
 -- a rest is cell k alone
-tail-rest : (n k c : ℕ) → n < k → isLess (weightAt true n k c) ≡ eqb c k
+tail-rest : (n k c : ℕ) → n < k → isLess (weightBy true n k c) ≡ eqb c k
 tail-rest n k c h = bool-case (eqb c n)
     (λ e. let q = eqb-true c n e in rw e (sym (ne-eqb c k (λ z. omega arith))))
     (λ e. bool-case (eqb c k) (λ f. rw (e, f)) (λ f. rw (e, f)))
@@ -110,30 +110,30 @@ count-one k (c ∷ l) nd =
     rw (e, eqb-sym k c, e) (omega arith))
     (λ e. rw (e, eqb-sym k c, e) (omega arith))
 
-no-rests : (n k : ℕ) (l : List ℕ) → count (λ c. isLess (weightAt false n k c)) l ≡ 0
+no-rests : (n k : ℕ) (l : List ℕ) → count (λ c. isLess (weightBy false n k c)) l ≡ 0
 no-rests n k [] = refl
 no-rests n k (c ∷ l) = bool-case (eqb c k) (λ e. rw e (omega (arith, no-rests n k l))) (λ e. rw e (omega (arith, no-rests n k l)))
 
-one-rest : (n k : ℕ) (l : List ℕ) → n < k → NoDup l → count (λ c. isLess (weightAt true n k c)) l ≡ cond (mem k l) 1 0
+one-rest : (n k : ℕ) (l : List ℕ) → n < k → NoDup l → count (λ c. isLess (weightBy true n k c)) l ≡ cond (mem k l) 1 0
 one-rest n k l h nd = count-same l ∙ count-one k l nd
   where
-    count-same : (m : List ℕ) → count (λ c. isLess (weightAt true n k c)) m ≡ count (λ c. eqb c k) m
+    count-same : (m : List ℕ) → count (λ c. isLess (weightBy true n k c)) m ≡ count (λ c. eqb c k) m
     count-same [] = refl
     count-same (c ∷ m) = ap₂ (λ b x. cond b 1 0 + x) (tail-rest n k c h) (count-same m)
 
 base-rests : (sp : Bool) (n k : ℕ) (l : List ℕ) → (sp ≡ true → n < k) → NoDup l
-    → cond (sp && mem k l) 0 4096 + 4096 * count (λ c. isLess (weightAt sp n k c)) l ≡ 4096
+    → cond (sp && mem k l) 0 4096 + 4096 * count (λ c. isLess (weightBy sp n k c)) l ≡ 4096
 base-rests true n k l h nd =
     let r = one-rest n k l (h refl) nd in
     bool-case (mem k l) (λ e. let z = r ∙ ap (λ b. cond b 1 0) e in rw e (omega arith)) (λ e. let z = r ∙ ap (λ b. cond b 1 0) e in rw e (omega arith))
 base-rests false n k l h nd = omega (arith, no-rests n k l)
 
-weights-fair : (sp : Bool) (n k : ℕ) → (sp ≡ true → n < k) → Fair k (doubles 2 k) (weightAt sp n k)
+weights-fair : (sp : Bool) (n k : ℕ) → (sp ≡ true → n < k) → Fair k (doubles 2 k) (weightBy sp n k)
 weights-fair true n k h = split-fair k (doubles 2 k) n (h refl) (let e = doubles-at 2 k n (h refl) in omega (arith, pow-pos n))
 weights-fair false n k h = whole-fair k (doubles 2 k)
 
 -- the code of a segment's update: 4096 for the constant 0, or 0 where the tail is a cell of it, and what its cells add
 pub segment-update : (sp : Bool) (n k : ℕ) (s : Seg) → (sp ≡ true → n < k) → NoDup (cells s) → ((c : ℕ) → mem c (cells s) ≡ true → c ≤ k)
-    → cond (sp && mem k (cells s)) 0 4096 + sum (plusOf sp n k) (cells s) ≡ updateCode (updateOf k (weightAt sp n k) s)
+    → cond (sp && mem k (cells s)) 0 4096 + sum (λ c. plusBy (weightBy sp n k c)) (cells s) ≡ updateCode (updateOf k (weightBy sp n k) s)
 segment-update sp n k s h nd below =
-    segment-code k (weightAt sp n k) (weights-fair sp n k h) s (cond (sp && mem k (cells s)) 0 4096) nd (λ c q. omega (arith, below c q)) (base-rests sp n k (cells s) h nd)
+    segment-code k (weightBy sp n k) (weights-fair sp n k h) s (cond (sp && mem k (cells s)) 0 4096) nd (λ c q. omega (arith, below c q)) (base-rests sp n k (cells s) h nd)

@@ -17,8 +17,9 @@ use Rattle.model.proofs.lists.Lists.{getD-map}
 use Rattle.model.specs.Notions.{NoDup, flat, segAt, seg}
 use Rattle.model.proofs.lists.Logic.{bool-ext, mem-here, mem-there}
 use Rattle.model.proofs.lists.Slices.{sum-append}
-use Rattle.way.specs.Way.{codeAt, plusOf, sumAt, weightAt}
-use Rattle.way.proofs.Codes.{segment-update}
+use Rattle.update.specs.declared.Weights.{Weights}
+use Rattle.update.specs.Codes.{codeAt, plusIn, sumAt, weightIn}
+use Rattle.update.proofs.Codes.{segment-update}
 
 -- ---- sums over all cells
 
@@ -60,17 +61,20 @@ module _ (node : List ℕ) (f : ℕ → ℕ) where
 -- ---- the codes
 
 -- the cells l cut into the segments ss, with the segment of each cell in the table; at a split, at is an old node and the tail is a cell of l
-pub record Segmented (l node : List ℕ) (k : ℕ) (sp : Bool) (at : ℕ) (ss : List Seg) : Type 0 where
+pub record Segmented (l node : List ℕ) (w : Weights) (ss : List Seg) : Type 0 where
   pub isFlat : flat ss ≡ l
   pub different : NoDup l
   pub tabled : (j c : ℕ) → j < length ss → mem c (cells (segAt ss j)) ≡ true → getD node c 0 ≡ j
-  pub below : (c : ℕ) → mem c l ≡ true → c ≤ k
-  pub isNode : sp ≡ true → at < k
-  pub hasTail : sp ≡ true → mem k l ≡ true
+  pub below : (c : ℕ) → mem c l ≡ true → c ≤ w .nodes
+  pub isNode : w .split ≡ true → w .node .0 < w .nodes
+  pub hasTail : w .split ≡ true → mem (w .nodes) l ≡ true
 
-module _ (l node : List ℕ) (k : ℕ) (sp : Bool) (at : ℕ) (ss : List Seg) (S : Segmented l node k sp at ss) where
+module _ (l node : List ℕ) (w : Weights) (ss : List Seg) (S : Segmented l node w ss) where
+  abbrev k : ℕ
+  k = w .nodes
+
   -- the tail's segment is the one that the table says
-  tail-in : (j : ℕ) → j < length ss → (b : Bool) → sp ≡ b → b && eqb (getD node k 0) j ≡ b && mem k (cells (segAt ss j))
+  tail-in : (j : ℕ) → j < length ss → (b : Bool) → w .split ≡ b → b && eqb (getD node k 0) j ≡ b && mem k (cells (segAt ss j))
   tail-in j h false e = refl
   tail-in j h true e = bool-ext (eqb (getD node k 0) j) (mem k (cells (segAt ss j)))
       (λ q.
@@ -80,21 +84,20 @@ module _ (l node : List ℕ) (k : ℕ) (sp : Bool) (at : ℕ) (ss : List Seg) (S
       subst (λ i. mem k (cells (segAt ss i)) ≡ true) (sym n ∙ t) (r .2))
       (λ q. eq-eqb (getD node k 0) j (S .tabled j k h q))
 
-  pub update-code : (j : ℕ) → j < length ss
-      → codeAt node k sp at l j ≡ updateCode (updateOf k (weightAt sp at k) (segAt ss j))
+  pub update-code : (j : ℕ) → j < length ss → codeAt node w l j ≡ updateCode (updateOf k (weightIn w) (segAt ss j))
   update-code j h =
-      ap₂ (λ b n. cond b 0 4096 + n) (tail-in j h sp refl)
-      (ap (sumAt node (plusOf sp at k) j) (sym (S .isFlat))
-      ∙ sum-flat node (plusOf sp at k) ss 0 j j (omega arith) h (λ i c lt q. S .tabled i c lt q ∙ omega arith))
-      ∙ segment-update sp at k (segAt ss j) (S .isNode) (flat-nodup ss j (subst NoDup (sym (S .isFlat)) (S .different)) h)
+      ap₂ (λ b n. cond b 0 4096 + n) (tail-in j h (w .split) refl)
+      (ap (sumAt node (plusIn w) j) (sym (S .isFlat))
+      ∙ sum-flat node (plusIn w) ss 0 j j (omega arith) h (λ i c lt q. S .tabled i c lt q ∙ omega arith))
+      ∙ segment-update (w .split) (w .node .0) k (segAt ss j) (S .isNode)
+      (flat-nodup ss j (subst NoDup (sym (S .isFlat)) (S .different)) h)
       (λ c q. S .below c (subst (λ m. mem c m ≡ true) (S .isFlat) (mem-flat ss j c h q)))
 
   -- so the first entries are the codes of the edge's updates, one for each segment
-  pub update-codes : (us : List ℕ) → length ss ≤ length us
-      → ((j : ℕ) → j < length ss → getD us j 0 ≡ codeAt node k sp at l j)
-      → take (length ss) us ≡ map (λ s. updateCode (updateOf k (weightAt sp at k) s)) ss
+  pub update-codes : (us : List ℕ) → length ss ≤ length us → ((j : ℕ) → j < length ss → getD us j 0 ≡ codeAt node w l j)
+      → take (length ss) us ≡ map (λ s. updateCode (updateOf k (weightIn w) s)) ss
   update-codes us h e =
-      let code : Seg → ℕ = λ s. updateCode (updateOf k (weightAt sp at k) s) in
+      let code : Seg → ℕ = λ s. updateCode (updateOf k (weightIn w) s) in
       let len = length-take-le (length ss) us h in
       ext-getD 0 (take (length ss) us) (map code ss) (len ∙ sym (length-map ss code))
       (λ j lt.

@@ -1,11 +1,11 @@
--- `way::write_bases` meets its contract: 4096 everywhere, then 0 at the tail's node.
+-- `update::write_bases` meets its contract: 4096 everywhere, then 0 at the tail's node.
 use mathlib.Core.Path.{_≡_, ap, ap₂, _∙_}
 use native.Mathlib.Omega.{arith}
 use lib.ListN.{getD, getD-replicate, length, replicate, set}
 use borrow.Author.Needs.{needs}
-use Rattle.way.proofs.Sums.{bases}
-use Rattle.way.proofs.write_bases.Statement.{statement}
-use Rattle.way.proofs.write_bases.Tie as tie
+use Rattle.update.proofs.Sums.{bases}
+use Rattle.update.proofs.write_bases.Statement.{statement}
+use Rattle.update.proofs.write_bases.Tie as tie
 
 node-of-requires : tie.Need-node-of-requires
 node-of-requires c κs = c .before .before .before .before .before .before .before .before .pre .0 (c .before .if1 .taken)
@@ -19,7 +19,7 @@ returns c j lt =
     let a = s .args in
     let t = c .before .before .before .before .before .if1 .taken in
     let n = length (a .updates .now) in
-    let m = getD (a .node .now) (a .k) 0 in
+    let m = getD (a .node .now) (a .weights .nodes) 0 in
     let z = c .before .before .before .before .before .before .before .before .clear-updates in
     let b = c .before .before .before .node-of in
     let k = c .before .before .set-code in

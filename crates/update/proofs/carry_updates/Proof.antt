@@ -1,4 +1,4 @@
--- `way::carry_updates` meets its contract: the first j entries carry their own counters.
+-- `update::carry_updates` meets its contract: the first j entries carry their own counters.
 use Prim.Native.Nat.{ℕ, _+_, _-_, _^_, _≤_, _<_}
 use mathlib.Core.Path.{_≡_, ap, _∙_}
 use native.Mathlib.Omega.{arith}
@@ -6,8 +6,8 @@ use lib.ListN.{getD, length, length-set, set}
 use lib.Seq.{getD-set-other, getD-set-same}
 use borrow.Author.Count.{below-more}
 use borrow.Author.Needs.{needs}
-use Rattle.way.proofs.carry_updates.Statement.{statement}
-use Rattle.way.proofs.carry_updates.Tie as tie
+use Rattle.update.proofs.carry_updates.Statement.{statement}
+use Rattle.update.proofs.carry_updates.Tie as tie
 
 abbrev Inv-loop : tie.InvT-loop
 Inv-loop updates₀ j₀ updates j =

@@ -1,4 +1,4 @@
--- `way::add_cells` meets its contract: after i cells each entry has grown by what those of its node add, and is at most 4096 for each.
+-- `update::add_cells` meets its contract: after i cells each entry has grown by what those of its node add, and is at most 4096 for each.
 use Prim.Native.Nat.{_+_, _-_, _<_, _≤_}
 use mathlib.Core.Path.{_≡_, refl, ap, _∙_}
 use native.Mathlib.Omega.{arith}
@@ -6,23 +6,23 @@ use lib.ListN.{getD, length, length-set, set}
 use lib.Seq.{take-all}
 use borrow.Author.Needs.{needs}
 use Rattle.model.proofs.lists.Lists.{mem-at}
-use Rattle.way.specs.Way.{plusOf, sumAt}
-use Rattle.way.proofs.Sums.{Added, added-more, added-none}
-use Rattle.way.proofs.add_cells.Statement.{statement}
-use Rattle.way.proofs.add_cells.Tie as tie
+use Rattle.update.specs.Codes.{plusIn, sumAt}
+use Rattle.update.proofs.Sums.{Added, added-more, added-none}
+use Rattle.update.proofs.add_cells.Statement.{statement}
+use Rattle.update.proofs.add_cells.Tie as tie
 
 abbrev Inv-loop : tie.InvT-loop
-Inv-loop cells node k split at updates₀ i₀ updates i =
-    (i ≤ length cells) × (length updates ≡ length updates₀) × Added node (plusOf split (at .0) k) cells updates₀ updates i
+Inv-loop cells node weights updates₀ i₀ updates i =
+    (i ≤ length cells) × (length updates ≡ length updates₀) × Added node (plusIn weights) cells updates₀ updates i
 
 abbrev μ-loop : tie.MeasureT-loop
-μ-loop cells node k split at updates₀ i₀ updates i = length cells - i
+μ-loop cells node weights updates₀ i₀ updates i = length cells - i
 
 loop-holds : tie.Need-loop-holds Inv-loop μ-loop
 loop-holds c =
     let s = c .before .before .before in
     let a = s .args in
-    (omega arith, refl, added-none (a .node .now) (plusOf (a .split) (a .at .0) (a .k)) (a .cells .now) (a .updates .now) (s .pre .1))
+    (omega arith, refl, added-none (a .node .now) (plusIn (a .weights)) (a .cells .now) (a .updates .now) (s .pre .1))
 
 node-of-requires : tie.Need-node-of-requires Inv-loop μ-loop
 node-of-requires c κs =
@@ -67,7 +67,7 @@ loop-again c =
     rw e (
       omega arith,
       simp length-set (l .inv .1),
-      added-more (a .node .now) (plusOf (a .split) (a .at .0) (a .k)) (a .cells .now) (a .updates .now) (l .updates) (l .i) (p .result)
+      added-more (a .node .now) (plusIn (a .weights)) (a .cells .now) (a .updates .now) (l .updates) (l .i) (p .result)
           (omega arith) (l .inv .1) lt (p .ensures .0) (p .ensures .1) (l .inv .2),
     )
 
@@ -76,7 +76,7 @@ returns c j lt =
     let a = c .before .before .before .before .before .args in
     let l = c .before .loop in
     l .inv .2 j lt .0
-    ∙ ap (λ t. getD (a .updates .now) j 0 + sumAt (a .node .now) (plusOf (a .split) (a .at .0) (a .k)) j t) (take-all (l .i) (a .cells .now) (omega arith))
+    ∙ ap (λ t. getD (a .updates .now) j 0 + sumAt (a .node .now) (plusIn (a .weights)) j t) (take-all (l .i) (a .cells .now) (omega arith))
 
 pub add-cells-spec : {M : Type 1} → statement M
 add-cells-spec =

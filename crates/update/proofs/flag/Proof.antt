@@ -1,8 +1,8 @@
--- `way::flag` meets its contract: the bit does not leave the 16.
+-- `update::flag` meets its contract: the bit does not leave the 16.
 use borrow.Author.Needs.{needs}
-use Rattle.way.proofs.Sums.{power-most, shifted}
-use Rattle.way.proofs.flag.Statement.{statement}
-use Rattle.way.proofs.flag.Tie as tie
+use Rattle.update.proofs.Sums.{power-most, shifted}
+use Rattle.update.proofs.flag.Statement.{statement}
+use Rattle.update.proofs.flag.Tie as tie
 
 returns : tie.Need-returns
 returns c =

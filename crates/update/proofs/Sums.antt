@@ -12,7 +12,8 @@ use lib.Seq.{getD-set-other, getD-set-same}
 use borrow.Author.Tests.{eq-eqb, eqb-false}
 use Rattle.model.proofs.lists.Logic.{eq-case}
 use Rattle.model.proofs.lists.Slices.{sum-append, take-next}
-use Rattle.way.specs.Way.{CellsReady, baseAt, sumAt}
+use Rattle.update.specs.declared.Weights.{Weights}
+use Rattle.update.specs.Codes.{CellsReady, baseAt, sumAt}
 
 -- a power of two that fits
 pub shifted : (c : ℕ) → c ≤ 11 → (1 * 2 ^ c) % 2 ^ 16 ≡ 2 ^ c
@@ -70,5 +71,5 @@ base-most true t j = eq-case t j (λ e. rw (eq-eqb t j e) (omega arith)) (λ e. 
 base-most false t j = omega arith
 
 -- what is asked of the cells, for a table of updates of the same length
-pub ready-same : (l node : List ℕ) (k : ℕ) (sp : Bool) (at m n : ℕ) → n ≡ m → CellsReady l node k sp at m → CellsReady l node k sp at n
-ready-same l node k sp at m n e = subst (CellsReady l node k sp at) (sym e)
+pub ready-same : (l node : List ℕ) (w : Weights) (m n : ℕ) → n ≡ m → CellsReady l node w m → CellsReady l node w n
+ready-same l node w m n e = subst (CellsReady l node w) (sym e)
