@@ -4,6 +4,8 @@ import re
 
 ROOT = pathlib.Path(__file__).resolve().parent.parent
 CRATES = ROOT / "crates"
+# the crate that Rust and C link
+LIBRARY = "currantplane"
 KIT = {"bytes", "check", "io", "libc", "os"}
 
 # Rattle.NAME.specs.X of another crate, Rattle.NAME.specs.X of the own one; the same with proofs
