@@ -10,3 +10,5 @@ pub mod Changes
 pub mod Effects
 pub mod Kinds
 pub mod Step
+pub mod Splits
+pub mod Unheld

@@ -6,9 +6,9 @@ use mathlib.Core.Option.{some}
 use mathlib.Core.Path.{_≡_, _∙_, ap, refl, sym}
 use native.Mathlib.Omega.{arith}
 use lib.ListN.{getD, getElem?, length, length-map}
-use borrow.Author.Tests.{ne-eqb, eqb-false}
+use borrow.Author.Tests.{lt-leb, ne-eqb, eqb-false}
 use Rattle.model.specs.Edges.{noNode, oneNode, picksOf, view, viewVal, waysOf, whole}
-use Rattle.model.specs.Heap.{Heap, undef}
+use Rattle.model.specs.Heap.{Heap, undef, next, unused}
 use Rattle.model.specs.Machine.{Action, Kind, action, acts, follow, halts, ifNull, ifSame, kind, link, make, picks, point, release, stay}
 use Rattle.model.specs.Records.{opCount, opOf, valOf, isZero}
 use Rattle.model.proofs.lists.Lists.{getD-map}
@@ -17,6 +17,9 @@ use Rattle.model.proofs.records.Ops.{each-op, op-stops, op-goes}
 use Rattle.model.specs.declared.Guards.{Guards}
 use Rattle.way.specs.Way.{IsWay, wayBy, looksAt, makesAt, picksAt, wayNumber}
 use lib.Dec.{eqb}
+use Rattle.model.proofs.ways.Ways.{no-view}
+use Rattle.model.specs.Image.{pastEnd}
+use Rattle.model.specs.Notions.{Room}
 
 pub pointer-value : (ps : List ℕ) (u : ℕ) → u < length ps → valOf (getD ps u 0) ≡ getD (map valOf ps) u undef
 pointer-value ps u h = sym (getD-map valOf ps u 0 undef h)
@@ -43,13 +46,37 @@ looks-not (release u) h e = clash refl e
 pub view-none : (op u w : ℕ) (h : Heap) → op < opCount → looksAt op ≡ false → noNode ≡ view (action (opOf op u w)) h
 view-none op u w h lt e = looks-not (action (opOf op u w)) h (each-op (λ o. looks (action o)) looksAt u w refl op lt ∙ e)
 
-abbrev makes : Action → Bool
+abbrev pub makes : Action → Bool
 makes stay = false
 makes (point u s) = false
 makes (follow u w) = false
 makes (link u s) = false
 makes (make u) = true
 makes (release u) = false
+
+pub makes-view : {C : Type 0} (a : Action) (h : Heap) (n : ℕ) → makes a ≡ true → view a h ≡ oneNode n → C
+makes-view stay h n e v = clash e refl
+makes-view (point u s) h n e v = clash e refl
+makes-view (follow u w) h n e v = clash e refl
+makes-view (link u s) h n e v = clash e refl
+makes-view (make u) h n e v = no-view v
+makes-view (release u) h n e v = clash e refl
+
+pub room-makes : (a : Action) (h : Heap) (c : ℕ) → (makes a ≡ true → next h c ≡ unused) → Room a h c
+room-makes stay h c f = tt
+room-makes (point u s) h c f = tt
+room-makes (follow u w) h c f = tt
+room-makes (link u s) h c f = tt
+room-makes (make u) h c f = f refl
+room-makes (release u) h c f = tt
+
+pub end-makes : (a : Action) (c n : ℕ) → (makes a ≡ true → c < n) → pastEnd a c n ≡ false
+end-makes stay c n f = refl
+end-makes (point u s) c n f = refl
+end-makes (follow u w) c n f = refl
+end-makes (link u s) c n f = refl
+end-makes (make u) c n f = lt-leb n c (f refl)
+end-makes (release u) c n f = refl
 
 -- op 6 alone takes a cell
 pub makes-op : (op u w : ℕ) → op < opCount → makes (action (opOf op u w)) ≡ makesAt op

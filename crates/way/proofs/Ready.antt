@@ -11,15 +11,19 @@ use Rattle.model.specs.Records.{byte, shapeOf, stmtOf, valueByte}
 use Rattle.model.proofs.visits.Order.{used-below}
 use Rattle.model.proofs.records.ReadBack.{canon-writable, location-length, location-shape}
 use Rattle.model.specs.Notions.{Closed, Used}
-use Rattle.model.proofs.ways.Ways.{access-closed}
+use Rattle.model.proofs.ways.Ways.{ClosedView, view-closed}
 use Rattle.model.specs.Listings.{Writable}
 use Rattle.model.proofs.records.ShapeBack.{values-pass}
 use Rattle.way.specs.Way.{OpenReady}
-use Rattle.edge.specs.Edge.{WayReady}
+use Rattle.way.specs.Ready.{WayReady}
+use Rattle.way.specs.declared.Way.{Way}
+use Rattle.model.specs.declared.Decoded.{Decoded}
+use Rattle.model.specs.Machine.{action}
+use Rattle.model.specs.Structs.{opIn}
 
 -- ---- a ready way
 
-module _ {l r : List ℕ} {n s : ℕ} {h : Heap} {sp : Bool} {v p : ℕ} (R : WayReady l r n s h sp v p) where
+module _ {l : List ℕ} {d : Decoded} {s : ℕ} {h : Heap} {y : Way} (R : WayReady l d s h y) where
   writable : Writable h
   writable = canon-writable h (R .isShape) (R .six)
 
@@ -39,13 +43,13 @@ module _ {l r : List ℕ} {n s : ℕ} {h : Heap} {sp : Bool} {v p : ℕ} (R : Wa
   nodes-few = omega (arith, nodes-is, writable .few)
 
   -- a node that is split is one of the shape's, in use
-  pub node-used : sp ≡ true → Used (next h) v
-  node-used t = subst (Closed (next h)) (R .isNode t) (access-closed h (stmtOf r .op) (R .isShape .closed .0))
+  pub node-used : y .split ≡ true → Used (next h) (y .node .0)
+  node-used t = subst (ClosedView (next h)) (R .isNode t) (view-closed (action (opIn d)) h (R .isShape .closed .0))
 
-  pub node-below : sp ≡ true → v < byte l 3
-  node-below t = omega (arith, used-below (h .slots) v (node-used t), nodes-is)
+  pub node-below : y .split ≡ true → y .node .0 < byte l 3
+  node-below t = omega (arith, used-below (h .slots) (y .node .0) (node-used t), nodes-is)
 
-  pub open-ready : (ps cs : List ℕ) → length ps ≡ 6 → 13 ≤ length cs → OpenReady l ps cs (byte r 1) v sp
+  pub open-ready : (ps cs : List ℕ) → length ps ≡ 6 → 13 ≤ length cs → OpenReady l ps cs (y .node .0) (y .split)
   open-ready ps cs six room = record {
     wide = location-wide;
     few = nodes-few;

@@ -8,20 +8,20 @@ use native.Mathlib.Omega.{arith}
 use lib.Dec.{eqb}
 use lib.ListN.{getD, length, set}
 use borrow.Author.Tests.{eqb-false, ne-eqb}
 use Rattle.model.specs.Base.{mem}
 use Rattle.model.specs.Heap.{Heap, Slot, Val, cell, holds, kept, next, null, order, ptr, tour, undef, unused, walk}
 use Rattle.model.specs.Machine.{done, fault, freeCell, held, keep, leak, putSlot, setPtr, wipe, wipeSlot}
 use Rattle.model.specs.Edges.{splitHeap}
 use Rattle.model.proofs.expansion.Changes.{freed}
 use Rattle.model.proofs.expansion.Effects.{next-free, next-put}
 use Rattle.model.proofs.expansion.Facts.{test-kept}
 use Rattle.model.specs.Notions.{In, upd, Closed, ClosedHeap, Used}
 use Rattle.model.proofs.lists.Lists.{in-getD, in-map}
 use Rattle.model.proofs.lists.Logic.{bool-case, clash, eq-case, mem-append, not-true}
 use Rattle.model.proofs.visits.Order.{used-below}
 use Rattle.model.proofs.visits.Walks.{closed-in}
 use Rattle.model.proofs.expansion.Writes.{holds-inj, slot-clash, upd-at, upd-off}
-use Rattle.edge.proofs.Heaps.{next-split, put-used, still-used, tail-in}
+use Rattle.model.proofs.expansion.Splits.{next-split, put-used, still-used, tail-in}
 
 -- ---- the walks
 
