@@ -1,15 +1,17 @@
 // Leaks that are seen in a location's record, before the statement is run: a third of the edges of large listings are such.
+use model::Decoded;
 use model::Pointer;
+use way::Way;
 ghost use Prim.Native.Nat.{_+_, _≤_, _<_};
 ghost use mathlib.Core.Bool.{true};
 ghost use mathlib.Core.Path.{_≡_};
 ghost use lib.ListN.{length};
 ghost use Rattle.model.specs.Records.{byte};
-ghost use Rattle.edge.specs.Loss.{AloneHolds, Leaks, LossReady, Overwrites, StandsOnce, cutsNext};
+ghost use Rattle.loss.specs.Loss.{AloneHolds, Leaks, LossReady, Overwrites, StandsOnce, cutsAt};
 
 // Whether the op takes the next of the cell that it goes through away: u.next := null, u.next := w, free u.
 fn cuts_next(op: u8) -> bool
-    ensures { λ r. ⌜ r ≡ cutsNext op ⌝ }
+    ensures { λ r. ⌜ r ≡ cutsAt op ⌝ }
 {
     op == 4 || (op == 5 || op == 7)
 }
@@ -58,17 +60,16 @@ fn alone_holds(location: &[u8], u: Pointer) -> bool
     location[at] < location[3] && stands_once(location, u)
 }
 
-// Whether the run is seen to be a leak before it is made: the tail of a split goes with its head's next, or a node goes with the only pointer that holds it.
-pub fn surely_lost(location: &[u8], statement: &[u8], split: bool) -> bool
-    requires { ⌜ LossReady (now location) (now statement) split ⌝ }
-    ensures { λ r. ⌜ (r ≡ true → Leaks (now (location .entry)) (now (statement .entry)) split) ⌝ }
+// Whether the run by the way is seen to be a leak before it is made: the tail of a split goes with its head's next, or a node goes
+// with the only pointer that holds it.
+pub fn surely_lost(location: &[u8], d: Decoded, way: Way) -> bool
+    requires { ⌜ LossReady (now location) d way ⌝ }
+    ensures { λ r. ⌜ (r ≡ true → Leaks (now (location .entry)) d way) ⌝ }
 {
-    let op = statement[1];
-    let u = Pointer(statement[2]);
-    if cuts_next(op) {
-        split
-    } else if overwrites(location, op, u, Pointer(statement[3])) {
-        alone_holds(location, u)
+    if cuts_next(d.op) {
+        way.split
+    } else if overwrites(location, d.op, d.u, d.w) {
+        alone_holds(location, d.u)
     } else {
         false
     }

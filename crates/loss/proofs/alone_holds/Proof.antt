@@ -1,9 +1,9 @@
--- `edge::loss::alone_holds` meets its contract: the pointer's byte is a node, and stands once.
+-- `loss::alone_holds` meets its contract: the pointer's byte is a node, and stands once.
 use borrow.Author.Needs.{needs}
 use borrow.Author.Tests.{le-ltb}
 use Rattle.model.proofs.lists.Logic.{clash}
-use Rattle.edge.proofs.loss.alone_holds.Statement.{statement}
-use Rattle.edge.proofs.loss.alone_holds.Tie as tie
+use Rattle.loss.proofs.alone_holds.Statement.{statement}
+use Rattle.loss.proofs.alone_holds.Tie as tie
 
 returns : tie.Need-returns
 returns c e = (c .before .if1 .taken, c .stands-once .ensures e)

@@ -1,7 +1,7 @@
--- `edge::loss::cuts_next` meets its contract.
+-- `loss::cuts_next` meets its contract.
 use borrow.Author.Tests.{eq-eqb, ne-eqb}
-use Rattle.edge.proofs.loss.cuts_next.Statement.{statement}
-use Rattle.edge.proofs.loss.cuts_next.Tie as tie
+use Rattle.loss.proofs.cuts_next.Statement.{statement}
+use Rattle.loss.proofs.cuts_next.Tie as tie
 
 returns : tie.Need-returns
 returns c = simp (eq-eqb _ _ (c .if1 .taken))

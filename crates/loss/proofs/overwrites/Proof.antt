@@ -1,12 +1,12 @@
--- `edge::loss::overwrites` meets its contract: u := w with another w, u := w.next with a w that holds a node, or neither.
+-- `loss::overwrites` meets its contract: u := w with another w, u := w.next with a w that holds a node, or neither.
 use mathlib.Core.Path.{ap}
 use mathlib.Core.Bool.{not}
 use native.Mathlib.Omega.{arith}
 use borrow.Author.Needs.{needs}
 use borrow.Author.Tests.{eq-eqb, ltb-true}
 use Rattle.model.proofs.lists.Logic.{clash}
-use Rattle.edge.proofs.loss.overwrites.Statement.{statement}
-use Rattle.edge.proofs.loss.overwrites.Tie as tie
+use Rattle.loss.proofs.overwrites.Statement.{statement}
+use Rattle.loss.proofs.overwrites.Tie as tie
 
 returns : tie.Need-returns
 returns c e =

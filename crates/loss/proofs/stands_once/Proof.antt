@@ -1,4 +1,4 @@
--- `edge::loss::stands_once` meets its contract: a place passed with the byte makes the count at least 1, two of them at least 2.
+-- `loss::stands_once` meets its contract: a place passed with the byte makes the count at least 1, two of them at least 2.
 use Prim.Native.Nat.{ℕ, _+_, _-_, _≤_, _<_}
 use mathlib.Core.Path.{_≡_, refl, sym, ap, subst, _∙_}
 use mathlib.Core.Logic.{⊎-elim}
@@ -9,8 +9,8 @@ use borrow.Author.Needs.{needs}
 use borrow.Author.Tests.{eqb-false, eqb-true, ltb-false, ltb-true}
 use Rattle.model.specs.Records.{byte}
 use Rattle.model.proofs.lists.Logic.{bool-case, eq-case}
-use Rattle.edge.proofs.loss.stands_once.Statement.{statement}
-use Rattle.edge.proofs.loss.stands_once.Tie as tie
+use Rattle.loss.proofs.stands_once.Statement.{statement}
+use Rattle.loss.proofs.stands_once.Tie as tie
 
 -- what the count c says of the places from 4 to i that hold the byte v
 record Counted (l : List ℕ) (v i c : ℕ) : Type 0 where
