@@ -1,7 +1,7 @@
 // The checks of the translator's input: S records, then H records, 32 bytes each. The first that fails gives the refusal.
-use record::layout_ok;
+use layout::layout_ok;
+use layout::statement_refusal;
 use record::same_record;
-use record::statement_refusal;
 use visit::is_canonical;
 ghost use mathlib.Core.Path.{_≡_};
 ghost use mathlib.Core.Bool.{true, false};

@@ -1,11 +1,4 @@
-// Records of 32 bytes: S and H records are checked, L, H and E records written into a lent table.
-pub mod fields;
-
-use fields::all_values;
-use fields::all_zero;
-use fields::fields_ok;
-use fields::head_ok;
-use fields::targets_ok;
+// L, H and E records of 32 bytes are written into a lent table.
 use model::Node;
 use model::Statement;
 ghost use mathlib.Core.Path.{_≡_};
@@ -14,38 +7,7 @@ ghost use Prim.Native.Nat.{_+_, _*_, _≤_, _<_};
 ghost use lib.Dec.{eqb};
 ghost use lib.ListN.{length, take, drop, replicate};
 ghost use Rattle.model.specs.Base.{sameList};
-ghost use Rattle.model.specs.Records.{refusalS, layoutH};
 ghost use Rattle.record.specs.Written.{faultBytes, locationBytes, edgeBytes, updateBytes, placed};
-
-// The refusal of an S record among n statements, 0 for none.
-pub fn statement_refusal(rec: &[u8], n: usize) -> u8
-    requires { ⌜ length (now rec) ≡ 32 ⌝ }
-    ensures { λ r. ⌜ r ≡ refusalS n (now (rec .entry)) ⌝ }
-{
-    if 11 < rec[1] {
-        return 5;
-    }
-    if !fields_ok(rec) {
-        return 6;
-    }
-    if !targets_ok(n, rec) {
-        return 7;
-    }
-    0
-}
-
-// Whether an H record keeps the layout.
-pub fn layout_ok(rec: &[u8]) -> bool
-    requires { ⌜ length (now rec) ≡ 32 ⌝ }
-    ensures { λ r. ⌜ r ≡ layoutH (now (rec .entry)) ⌝ }
-{
-    let k = rec[3];
-    if !head_ok(rec[0], rec[1], rec[2], k) {
-        return false;
-    }
-    let end = 10 + k as usize;
-    all_values(&rec[4..end], k) && all_zero(&rec[end..])
-}
 
 // Whether two records are equal.
 pub fn same_record(a: &[u8], b: &[u8]) -> bool
