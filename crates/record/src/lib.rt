@@ -1,30 +1,11 @@
-// L, H and E records of 32 bytes are written into a lent table.
+// L, H and E records of 32 bytes: each writer is lent the part of a table that starts at its record.
 use model::Node;
 use model::Statement;
 ghost use mathlib.Core.Path.{_≡_};
 ghost use mathlib.Core.List.{_∷_, _++_};
 ghost use Prim.Native.Nat.{_+_, _*_, _≤_, _<_};
-ghost use lib.Dec.{eqb};
 ghost use lib.ListN.{length, take, drop, replicate};
-ghost use Rattle.model.specs.Base.{sameList};
 ghost use Rattle.record.specs.Written.{faultBytes, locationBytes, edgeBytes, updateBytes, placed};
-
-// Whether two records are equal.
-pub fn same_record(a: &[u8], b: &[u8]) -> bool
-    requires { ⌜ (length (now a) ≡ 32) × (length (now b) ≡ 32) ⌝ }
-    ensures { λ r. ⌜ r ≡ sameList eqb (now (a .entry)) (now (b .entry)) ⌝ }
-{
-    let mut i = 0;
-    while i < 32 {
-        if a[i] != b[i] {
-            return false;
-        }
-        i += 1;
-    }
-    true
-}
-
-// ---- writing: each writer is lent the part of a table that starts at its record
 
 // Makes the first 32 bytes zero.
 pub fn blank(part: &mut [u8])
