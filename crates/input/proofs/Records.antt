@@ -75,7 +75,8 @@ any-earlier p q s h (suc i) =
 
 bytes-sym : (a b : List ℕ) → sameList eqb a b ≡ sameList eqb b a
 bytes-sym a b = bool-ext (sameList eqb a b) (sameList eqb b a)
-    (λ e. ap (sameList eqb b) (bytes-same a b e) ∙ same-bytes-refl b) (λ e. ap (sameList eqb a) (bytes-same b a e) ∙ same-bytes-refl a)
+    (λ e. ap (sameList eqb b) (bytes-same a b e) ∙ same-bytes-refl b)
+    (λ e. ap (sameList eqb a) (bytes-same b a e) ∙ same-bytes-refl a)
 
 -- a record that is found among the first i is one of them
 pub found-earlier : (s r : List ℕ) (i : ℕ) → ltb (foundAt s r i) i ≡ any (sameList eqb r) (earlier s i)

@@ -12,11 +12,7 @@ pub fn blank(part: &mut [u8])
     requires { ⌜ 32 ≤ length (now part) ⌝ }
     ensures { λ _. ⌜ now (part .exit) ≡ replicate 32 0 ++ drop 32 (now (part .entry)) ⌝ }
 {
-    let mut i = 0;
-    while i < 32 {
-        part[i] = 0;
-        i += 1;
-    }
+    fill::fill(&mut part[..32], 0);
 }
 
 // The first four bytes of an L or H record without fault: its tag, the statement, no fault, the number of nodes.
@@ -115,9 +111,5 @@ pub fn put_edge(
 pub fn clear(table: &mut [u8])
     ensures { λ _. ⌜ now (table .exit) ≡ replicate (length (now (table .entry))) 0 ⌝ }
 {
-    let mut i = 0;
-    while i < table.len() {
-        table[i] = 0;
-        i += 1;
-    }
+    fill::fill(table, 0);
 }

@@ -1,10 +1,10 @@
 -- Laws on lists of numbers, for a loop at place i: what a store there makes of the front, and sums of what is left.
-use Prim.Native.Nat.{ℕ, suc, _+_, _-_, _≤_, _<_}
+use Prim.Native.Nat.{ℕ, _+_, _≤_, _<_}
 use mathlib.Core.Path.{_≡_, sym, ap, subst, _∙_}
 use mathlib.Core.List.{List, [], _∷_, _++_, append-nil}
 use native.Mathlib.Numerals.{add-one}
 use native.Mathlib.Omega.{arith}
-use lib.ListN.{length, take, drop, getD, set, replicate, drop-of-length-le}
+use lib.ListN.{length, take, drop, getD, set, drop-of-length-le}
 use lib.Seq.{append-snoc, getD-set-other, getD-set-same, take-all, take-suc-set}
 use Rattle.model.specs.Base.{sum}
 use Rattle.model.proofs.lists.Logic.{eq-case}
@@ -31,6 +31,3 @@ sum-step l i h = ap (sum (λ v. v)) (drop-step l i h)
 
 pub sum-end : (l : List ℕ) (i : ℕ) → length l ≤ i → sum (λ v. v) (drop i l) ≡ 0
 sum-end l i h = ap (sum (λ v. v)) (drop-of-length-le l h)
-
-pub replicate-step : (n i a : ℕ) → i < n → replicate (n - i) a ≡ a ∷ replicate (n - (i + 1)) a
-replicate-step n i a h = let e : n - i ≡ suc (n - (i + 1)) = omega arith in rw e

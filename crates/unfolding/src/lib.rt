@@ -3,9 +3,9 @@ use model::Node;
 ghost use mathlib.Core.Path.{_≡_};
 ghost use mathlib.Core.Bool.{true};
 ghost use mathlib.Core.List.{_++_, map};
-ghost use Prim.Native.Nat.{_+_, _-_, _<_, _≤_};
+ghost use Prim.Native.Nat.{_+_, _<_, _≤_};
 ghost use lib.Dec.{leb};
-ghost use lib.ListN.{length, getD, take, replicate};
+ghost use lib.ListN.{length, getD, take};
 ghost use Rattle.model.specs.Base.{all, sum};
 ghost use Rattle.model.specs.Image.{countersFit, countsFit, unfoldHeap, cellBytesOf};
 ghost use Rattle.model.specs.Records.{byte, isZero, shapeOf, valByte};
@@ -157,18 +157,6 @@ fn write_strands(firsts: &[u8], successors: &[u8], counters: &[u32], cells: &mut
     at
 }
 
-// Marks the cells from at on as not in use.
-fn clear_rest(cells: &mut [u8], at: usize)
-    requires { ⌜ at ≤ length (now cells) ⌝ }
-    ensures { λ _. ⌜ now (cells .exit) ≡ take at (now (cells .entry)) ++ replicate (length (now (cells .entry)) - at) 0xfd ⌝ }
-{
-    let mut i = at;
-    while i < cells.len() {
-        cells[i] = 0xfd;
-        i += 1;
-    }
-}
-
 // Writes every cell: the strands from cell 0 on, the rest not in use.
 fn write_cells(firsts: &[u8], successors: &[u8], counters: &[u32], cells: &mut [u8])
     requires { ⌜ (length (now successors) ≡ length (now counters)) × (all (leb 1) (now counters) ≡ true) ⌝ }
@@ -176,7 +164,7 @@ fn write_cells(firsts: &[u8], successors: &[u8], counters: &[u32], cells: &mut [
     ensures { λ _. ⌜ now (cells .exit) ≡ imageBytes (length (now (cells .entry))) (strandsBytes (now (firsts .entry)) 0 (now (successors .entry)) (now (counters .entry))) ⌝ }
 {
     let count = write_strands(firsts, successors, counters, cells);
-    clear_rest(cells, count);
+    fill::fill(&mut cells[count..], 0xfd);
 }
 
 // Writes the image of the shape in rec, unfolded by the counters.
