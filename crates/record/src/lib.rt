@@ -1,11 +1,11 @@
 // L, H and E records of 32 bytes: each writer is lent the part of a table that starts at its record.
-use model::Node;
+use model::EdgeFields;
 use model::Statement;
 ghost use mathlib.Core.Path.{_≡_};
 ghost use mathlib.Core.List.{_∷_, _++_};
-ghost use Prim.Native.Nat.{_+_, _*_, _≤_, _<_};
+ghost use Prim.Native.Nat.{_+_, _*_, _≤_};
 ghost use lib.ListN.{length, take, drop, replicate};
-ghost use Rattle.record.specs.Written.{faultBytes, locationBytes, edgeBytes, updateBytes, placed};
+ghost use Rattle.record.specs.Written.{faultBytes, locationBytes, edgeBytes, updateBytes, placed, EdgeFits};
 
 // Makes the first 32 bytes zero.
 pub fn blank(part: &mut [u8])
@@ -62,49 +62,30 @@ fn write_updates(part: &mut [u8], updates: &[u16], k: usize)
     }
 }
 
-// An E record with k updates.
-pub fn write_edge(
-    part: &mut [u8],
-    branch: u8,
-    from: usize,
-    to: usize,
-    guard: u8,
-    node: Node,
-    updates: &[u16],
-    k: usize,
-)
-    requires { ⌜ (32 ≤ length (now part)) × (from < 65536) × (to < 65536) × (k ≤ 12) × (k ≤ length (now updates)) ⌝ }
-    ensures { λ _. ⌜ now (part .exit) ≡ edgeBytes branch from to guard (node .0) (now (updates .entry)) k ++ drop 32 (now (part .entry)) ⌝ }
+// An E record: its fields, and an update for each new node.
+pub fn write_edge(part: &mut [u8], fields: EdgeFields, updates: &[u16])
+    requires { ⌜ (32 ≤ length (now part)) × EdgeFits fields (now updates) ⌝ }
+    ensures { λ _. ⌜ now (part .exit) ≡ edgeBytes fields (now (updates .entry)) ++ drop 32 (now (part .entry)) ⌝ }
 {
     blank(part);
     part[0] = 0x45;
-    part[1] = branch;
-    part[2] = (from % 256) as u8;
-    part[3] = (from / 256) as u8;
-    part[4] = (to % 256) as u8;
-    part[5] = (to / 256) as u8;
-    part[6] = guard;
-    part[7] = node.0;
-    write_updates(part, updates, k);
+    part[1] = fields.branch;
+    part[2] = (fields.from % 256) as u8;
+    part[3] = (fields.from / 256) as u8;
+    part[4] = (fields.to % 256) as u8;
+    part[5] = (fields.to / 256) as u8;
+    part[6] = fields.guards.first.test;
+    part[7] = fields.guards.first.node.0;
+    write_updates(part, updates, fields.nodes);
 }
 
 // An E record in its place: the part of the table from 32 times the record number on is lent to the writer.
-pub fn put_edge(
-    table: &mut [u8],
-    n: usize,
-    branch: u8,
-    from: usize,
-    to: usize,
-    guard: u8,
-    node: Node,
-    updates: &[u16],
-    k: usize,
-)
-    requires { ⌜ (32 * n + 32 ≤ length (now table)) × (from < 65536) × (to < 65536) × (k ≤ 12) × (k ≤ length (now updates)) ⌝ }
-    ensures { λ _. ⌜ now (table .exit) ≡ placed (now (table .entry)) n (edgeBytes branch from to guard (node .0) (now (updates .entry)) k) ⌝ }
+pub fn put_edge(table: &mut [u8], n: usize, fields: EdgeFields, updates: &[u16])
+    requires { ⌜ (32 * n + 32 ≤ length (now table)) × EdgeFits fields (now updates) ⌝ }
+    ensures { λ _. ⌜ now (table .exit) ≡ placed (now (table .entry)) n (edgeBytes fields (now (updates .entry))) ⌝ }
 {
     let at = 32 * n;
-    write_edge(&mut table[at..], branch, from, to, guard, node, updates, k);
+    write_edge(&mut table[at..], fields, updates);
 }
 
 // Clears a table.
