@@ -85,7 +85,7 @@ pub fn unfold_refusal(rec: &[u8], counters: &[u32], pointers: usize, cells: usiz
     if !visit::is_canonical(&rec[4..10], &rec[10..end]) {
         return 9;
     }
-    if unfolding::counters_fit(k, counters, cells) {
+    if counters::counters_fit(k, counters, cells) {
         0
     } else {
         15

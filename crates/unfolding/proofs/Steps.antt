@@ -15,7 +15,7 @@ use Rattle.model.specs.Image.{firstCell}
 use Rattle.model.proofs.lists.Lists.{all-at}
 use Rattle.model.proofs.lists.Slices.{drop-step, part-from}
 use Rattle.unfolding.specs.Bytes.{imageBytes, placedByte, strandBytes, strandsBytes}
-use Rattle.unfolding.proofs.ListLaws.{sum-step}
+use Rattle.model.proofs.lists.Loops.{sum-step}
 
 pub first-next : (vs : List ℕ) (n : ℕ) → n < length vs → firstCell vs (n + 1) ≡ firstCell vs n + getD vs n 0
 first-next [] n h = absurd (omega arith)

@@ -1,4 +1,4 @@
--- `spread::write_cells` meets its contract: the strands written, and the rest marked.
+-- `write_cells` meets its contract: the strands written, and the rest marked.
 use mathlib.Core.Path.{_∙_}
 use native.Mathlib.Omega.{arith}
 use lib.ListN.{length}

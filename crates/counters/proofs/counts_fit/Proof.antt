@@ -1,4 +1,4 @@
--- `spread::counts_fit` meets its contract: each answer is the case of the tests on the counters below k and from k on.
+-- `counts_fit` meets its contract: each answer is the case of the tests on the counters below k and from k on.
 use Prim.Native.Nat.{_≤_}
 use mathlib.Core.Path.{_≡_, sym}
 use mathlib.Core.Bool.{true, false}
@@ -10,8 +10,8 @@ use borrow.Author.Needs.{needs}
 use Rattle.model.specs.Base.{all}
 use Rattle.model.specs.Records.{isZero}
 use Rattle.model.proofs.lists.Slices.{part-from}
-use Rattle.unfolding.proofs.counts_fit.Statement.{statement}
-use Rattle.unfolding.proofs.counts_fit.Tie as tie
+use Rattle.counters.proofs.counts_fit.Statement.{statement}
+use Rattle.counters.proofs.counts_fit.Tie as tie
 
 slice-aggregate-all-positive : tie.Need-slice-aggregate-all-positive
 slice-aggregate-all-positive c =

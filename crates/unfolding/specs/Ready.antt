@@ -1,4 +1,5 @@
--- What the caller of `spread` must show: a laid out shape record r, counters v that fit it, six pointer bytes ps and the cell bytes cs.
+-- What the caller of `unfold_shape` must show: a laid out shape record r, counters v that fit it, six pointer bytes ps,
+-- the cell bytes cs.
 use Prim.Native.Nat.{ℕ, _≤_}
 use mathlib.Core.Path.{_≡_}
 use mathlib.Core.Bool.{true}
@@ -7,7 +8,7 @@ use lib.ListN.{length}
 use Rattle.model.specs.Image.{countersFit}
 use Rattle.model.specs.Records.{byte, layoutH}
 
-pub record SpreadReady (r v ps cs : List ℕ) : Type 0 where
+pub record UnfoldReady (r v ps cs : List ℕ) : Type 0 where
   pub wide : length r ≡ 32
   pub isLayout : layoutH r ≡ true
   pub fit : countersFit (byte r 3) v (length cs) ≡ true

@@ -1,13 +1,13 @@
--- `spread::total` meets its contract: the sum so far and the counters from i on make the whole sum.
+-- `total` meets its contract: the sum so far and the counters from i on make the whole sum.
 use Prim.Native.Nat.{_+_, _*_, _-_, _≤_}
 use mathlib.Core.Path.{_≡_}
 use native.Mathlib.Omega.{arith}
 use lib.ListN.{drop}
 use borrow.Author.Needs.{needs}
 use Rattle.model.specs.Base.{sum}
-use Rattle.unfolding.proofs.ListLaws.{sum-end, sum-step}
-use Rattle.unfolding.proofs.total.Statement.{statement}
-use Rattle.unfolding.proofs.total.Tie as tie
+use Rattle.model.proofs.lists.Loops.{sum-end, sum-step}
+use Rattle.counters.proofs.total.Statement.{statement}
+use Rattle.counters.proofs.total.Tie as tie
 
 abbrev Inv-loop : tie.InvT-loop
 Inv-loop counters t₀ i₀ t i = (i ≤ 12) × (t ≤ 4294967296 * i) × (t + sum (λ v. v) (drop i counters) ≡ sum (λ v. v) counters)

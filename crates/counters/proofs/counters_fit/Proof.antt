@@ -1,8 +1,8 @@
--- `spread::counters_fit` meets its contract: how many there are, and then the tests on twelve.
+-- `counters_fit` meets its contract: how many there are, and then the tests on twelve.
 use borrow.Author.Needs.{needs}
 use borrow.Author.Tests.{eq-eqb, ne-eqb}
-use Rattle.unfolding.proofs.counters_fit.Statement.{statement}
-use Rattle.unfolding.proofs.counters_fit.Tie as tie
+use Rattle.counters.proofs.counters_fit.Statement.{statement}
+use Rattle.counters.proofs.counters_fit.Tie as tie
 
 returns : tie.Need-returns
 returns c = rw (ne-eqb _ _ (c .if1 .taken))

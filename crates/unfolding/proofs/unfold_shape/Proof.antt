@@ -1,11 +1,11 @@
--- `spread::spread` meets its contract: the table of first cells, the pointers and the cells are the image of the ready shape.
+-- `unfold_shape` meets its contract: the table of first cells, the pointers and the cells are those of the image.
 use mathlib.Core.Path.{_≡_, sym, _∙_}
 use native.Mathlib.Omega.{arith}
 use lib.ListN.{length}
 use borrow.Author.Needs.{needs}
 use Rattle.unfolding.proofs.Images.{ready-cells, ready-counters, ready-few, ready-nodes, ready-pointers, ready-positive, ready-successors, ready-total, ready-twelve}
-use Rattle.unfolding.proofs.spread.Statement.{statement}
-use Rattle.unfolding.proofs.spread.Tie as tie
+use Rattle.unfolding.proofs.unfold_shape.Statement.{statement}
+use Rattle.unfolding.proofs.unfold_shape.Tie as tie
 
 cast-k : tie.Need-cast-k
 cast-k c = omega (arith, c .shared-slice-known3 .given 3)
@@ -58,8 +58,8 @@ returns c =
       c .before .before .write-cells .ensures ∙ ready-cells r v p l (s .pre) t (f .ensures) same (length l),
     )
 
-pub spread-spec : {M : Type 1} → statement M
-spread-spec =
+pub unfold-shape-spec : {M : Type 1} → statement M
+unfold-shape-spec =
     tie.close
     (tie.spec
     (λ c. search needs)
