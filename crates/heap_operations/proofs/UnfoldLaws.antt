@@ -15,7 +15,7 @@ use Rattle.model.specs.Shape.{canonical}
 use Rattle.model.proofs.images.Images.{number-case, unfold-accepted, unfold-suc, unfold-zero}
 use Rattle.model.proofs.lists.Logic.{and-l, and-r}
 use Rattle.model.proofs.records.ShapeBack.{layout-closed, layout-few, layout-slots, shape-image}
-use Rattle.unfolding.specs.Spread.{SpreadReady}
+use Rattle.unfolding.specs.Ready.{UnfoldReady}
 use mathlib.Core.Logic.{inl, inr}
 
 -- ---- a record that keeps the layout, as an image
@@ -92,9 +92,9 @@ module _ (r : List ℕ) {b : Bool} (e : b ≡ eqb (length r) 32 && layoutH r) (t
 -- ---- the whole
 
 module _ (r vs ps cs : List ℕ) (n : ℕ) (e : n ≡ refusalUnfold r vs (length ps) (length cs)) where
-  -- what spreading asks
-  pub spread-ready : n ≡ 0 → SpreadReady r vs ps cs
-  spread-ready z =
+  -- what unfolding the shape asks
+  pub unfold-ready : n ≡ 0 → UnfoldReady r vs ps cs
+  unfold-ready z =
       let A = unfold-accepted r vs (length ps) (length cs) .0 (sym e ∙ z) in
       record { wide = A .2; isLayout = A .3; fit = A .5; six = A .0; few = A .1 }
 

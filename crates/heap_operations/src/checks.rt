@@ -64,7 +64,7 @@ pub fn is_shape(rec: &[u8]) -> bool
     if rec.len() != 32 {
         return false;
     }
-    record::layout_ok(rec)
+    layout::layout_ok(rec)
 }
 
 // The refusal of an unfolding (0 for none): the lengths of pointers and cells, then the record, then the counters.
@@ -85,7 +85,7 @@ pub fn unfold_refusal(rec: &[u8], counters: &[u32], pointers: usize, cells: usiz
     if !visit::is_canonical(&rec[4..10], &rec[10..end]) {
         return 9;
     }
-    if unfolding::counters_fit(k, counters, cells) {
+    if counters::counters_fit(k, counters, cells) {
         0
     } else {
         15
@@ -108,7 +108,7 @@ pub fn step_refusal(rec: &[u8], pointers: &[u8], cells: &[u8]) -> u8
     if rec[0] != 0x53 {
         return 4;
     }
-    record::statement_refusal(rec, 64)
+    layout::statement_refusal(rec, 64)
 }
 
 // Whether the pick at choose is 0 or 1, and the cell at new is one of the image that is not in use.

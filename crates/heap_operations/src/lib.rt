@@ -76,7 +76,7 @@ pub fn unfold(rec: &[u8], counters: &[u32], pointers: &mut [u8], cells: &mut [u8
             place: 0,
         };
     }
-    unfolding::spread(rec, counters, pointers, cells);
+    unfolding::unfold_shape(rec, counters, pointers, cells);
     Ended::Accepted
 }
 

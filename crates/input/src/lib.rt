@@ -1,7 +1,6 @@
 // The checks of the translator's input: S records, then H records, 32 bytes each. The first that fails gives the refusal.
-use record::layout_ok;
-use record::same_record;
-use record::statement_refusal;
+use layout::layout_ok;
+use layout::statement_refusal;
 use visit::is_canonical;
 ghost use mathlib.Core.Path.{_≡_};
 ghost use mathlib.Core.Bool.{true, false};
@@ -10,7 +9,7 @@ ghost use Prim.Native.Nat.{_+_, _*_, _≤_};
 ghost use lib.Dec.{eqb};
 ghost use lib.ListN.{length};
 ghost use Rattle.model.specs.Base.{any, count, sameList};
-ghost use Rattle.model.specs.Records.{isS, layoutH, recordAt, refusalH, shapeOf};
+ghost use Rattle.model.specs.Records.{isS, layoutH, refusalH, shapeOf};
 ghost use Rattle.model.specs.Shape.{canonical};
 ghost use Rattle.model.specs.Translate.{badKind, between, check, checkCounts, checkKinds, checkRecords};
 ghost use Rattle.model.specs.Listings.{recordsOf};
@@ -83,29 +82,12 @@ fn canonical_shape(rec: &[u8]) -> bool
     is_canonical(&rec[4..10], &rec[10..end])
 }
 
-// Whether a record equals record j of the input.
-fn same_as(input: &[u8], j: usize, rec: &[u8]) -> bool
-    requires { ⌜ (32 * (j + 1) ≤ length (now input)) × (length (now rec) ≡ 32) ⌝ }
-    ensures { λ r. ⌜ r ≡ sameList eqb (now (rec .entry)) (recordAt (now (input .entry)) j) ⌝ }
-{
-    let at = 32 * j;
-    let end = at + 32;
-    same_record(rec, &input[at..end])
-}
-
 // Whether a record equals one of the first i records of the input.
 fn repeats(input: &[u8], i: usize, rec: &[u8]) -> bool
     requires { ⌜ (32 * i ≤ length (now input)) × (length (now rec) ≡ 32) ⌝ }
     ensures { λ r. ⌜ r ≡ any (sameList eqb (now (rec .entry))) (earlier (now (input .entry)) i) ⌝ }
 {
-    let mut j = i;
-    while 0 < j {
-        j -= 1;
-        if same_as(input, j, rec) {
-            return true;
-        }
-    }
-    false
+    search::find(input, i, rec) < i
 }
 
 // The refusal of an H record after the first i records of the input, 0 for none.

@@ -14,6 +14,8 @@ use Rattle.model.specs.Translate.{Link, Listing, linkRecord, places, grown}
 use Rattle.model.proofs.records.EdgeBack.{edge-length}
 use Rattle.model.specs.Listings.{WritableLoc}
 use Rattle.model.proofs.records.ReadBack.{record-length}
+use Rattle.model.specs.declared.EdgeFields.{EdgeFields}
+use Rattle.model.specs.declared.Guard.{Guard}
 use Rattle.record.specs.Written.{edgeBytes, placed}
 use Rattle.record.proofs.Bytes.{edge-record}
 use Rattle.search.specs.Search.{foundAt}
@@ -61,6 +63,15 @@ holds-both t ls es a b nl ne K L =
       goodLinks = L .good;
     }
 
+-- the fields of an edge from location i to location j, and its record
+abbrev fieldsTo : ℕ → ℕ → ℕ → ℕ → ℕ → ℕ → EdgeFields
+fieldsTo b i j g v m =
+    let first : Guard = record { test = g; node = record { 0 = v } } in
+    record { branch = b; from = i; to = j; guards = record { first = first }; nodes = m }
+
+abbrev edgeTo : ℕ → ℕ → ℕ → ℕ → ℕ → ℕ → List ℕ → List ℕ
+edgeTo b i j g v m us = edgeBytes (fieldsTo b i j g v m) us
+
 -- the listing t is held, the edge e of location i is given as bytes, and j is where its target was found
 module _ (t : Listing) (i : ℕ) (e : Edge) (ls es r us : List ℕ) (b g v m nl ne : ℕ) (H : Holds t ls es nl ne) (B : EdgeBytes e r us b g v m)
     (j : ℕ) (found : j ≡ foundAt ls r nl) where
@@ -78,13 +89,13 @@ module _ (t : Listing) (i : ℕ) (e : Edge) (ls es r us : List ℕ) (b g v m nl 
       rw (← number-is) (lt-ltb j (places 1024 (length ls)) h, ((λ z. le-ltb (length (t .links)) (places 2048 (length es)) (omega arith)), (omega arith, omega arith)))
 
   links-next : ne < places 2048 (length es)
-      → LinksKept (length es) (grown i j e t .links) (placed es ne (edgeBytes b i j g v us m)) (ne + 1)
+      → LinksKept (length es) (grown i j e t .links) (placed es ne (edgeTo b i j g v m us)) (ne + 1)
   links-next k =
       let few : length (e .updates) ≤ 12 = omega (arith, B .number, B .few) in
-      let bytes : edgeBytes b i j g v us m ≡ linkRecord (record { from = i; dest = j; edge = e }) =
-      ap (λ x. edgeBytes x i j g v us m) (B .branch) ∙ edge-record i j g v m us e (B .guard) (B .updates) in
-      kept-next linkRecord FewUpdates (λ l h. edge-length (l .from) (l .dest) (l .edge) h) 2048 (length es) (t .links) es (edgeBytes b i j g v us m) ne
-      (record { from = i; dest = j; edge = e }) (links-kept t ls es nl ne H) few bytes k
+      let bytes : edgeTo b i j g v m us ≡ linkRecord (record { from = i; dest = j; edge = e }) =
+      edge-record (fieldsTo b i j g v m) us e (B .branch) (B .guard) (B .updates) in
+      kept-next linkRecord FewUpdates (λ l h. edge-length (l .from) (l .dest) (l .edge) h) 2048 (length es) (t .links)
+      es (edgeTo b i j g v m us) ne (record { from = i; dest = j; edge = e }) (links-kept t ls es nl ne H) few bytes k
 
   locs-next : j < places 1024 (length ls) → LocsKept (length ls) (grown i j e t .locs) (targetKept ls nl j r) (countKept nl j)
   locs-next h =
@@ -93,7 +104,8 @@ module _ (t : Listing) (i : ℕ) (e : Edge) (ls es r us : List ℕ) (b g v m nl 
 
   -- one edge more: the target has its place, and the edge's record stands behind the others
   pub one-more : j < places 1024 (length ls) → ne < places 2048 (length es)
-      → (ls′ es′ : List ℕ) (n : ℕ) → n ≡ countKept nl j → ls′ ≡ targetKept ls nl j r → es′ ≡ placed es ne (edgeBytes b i j g v us m)
+      → (ls′ es′ : List ℕ) (n : ℕ) → n ≡ countKept nl j → ls′ ≡ targetKept ls nl j r
+      → es′ ≡ placed es ne (edgeTo b i j g v m us)
       → GrownTo t i e ls′ es′ (Added n (ne + 1))
   one-more h k ls′ es′ n p q s =
       let K = locs-next h in
@@ -102,7 +114,8 @@ module _ (t : Listing) (i : ℕ) (e : Edge) (ls es r us : List ℕ) (b g v m nl 
       let sl : length ls′ ≡ length ls = ap length q ∙ K .same in
       let se : length es′ ≡ length es = ap length s ∙ L .same in
       let X : Holds (grown i j e t) ls′ es′ n (ne + 1) =
-      rw (p, q, s) (holds-both (grown i j e t) (targetKept ls nl j r) (placed es ne (edgeBytes b i j g v us m)) (length ls) (length es) (countKept nl j) (ne + 1) K L) in
+      rw (p, q, s) (holds-both (grown i j e t) (targetKept ls nl j r) (placed es ne (edgeTo b i j g v m us))
+      (length ls) (length es) (countKept nl j) (ne + 1) K L) in
       subst (λ x. (ltb x (places 1024 (length ls′)) ≡ true) × (ltb (length (t .links)) (places 2048 (length es′)) ≡ true) × Holds (grown i x e t) ls′ es′ n (ne + 1)) number-is
       (rw sl (lt-ltb j (places 1024 (length ls)) h), rw (se, ← num) (lt-ltb ne (places 2048 (length es)) k), X)
 

@@ -1,4 +1,7 @@
 // A listing in two lent tables grows by one edge: its target is looked for, and takes the next place where it is new.
+use model::EdgeFields;
+use model::Guard;
+use model::Guards;
 use model::Node;
 use model::Statement;
 ghost use mathlib.Core.Path.{_≡_};
@@ -72,7 +75,17 @@ pub fn add_edge(
         return Grown::Full { number: 12 };
     }
     let count = keep_target(locations, nl, j, target);
-    record::put_edge(edges, ne, branch, from, j, guard, node, updates, k);
+    let guards = Guards {
+        first: Guard { test: guard, node },
+    };
+    let fields = EdgeFields {
+        branch,
+        from,
+        to: j,
+        guards,
+        nodes: k,
+    };
+    record::put_edge(edges, ne, fields, updates);
     Grown::Added {
         locations: count,
         edges: ne + 1,

@@ -1,6 +1,6 @@
--- `image::unfold` meets its contract: a refusal leaves all, and without one the image is spread. Assumes nothing.
+-- `unfold` meets its contract: a refusal leaves all, and without one the shape is unfolded. Assumes nothing.
 use borrow.Author.Needs.{needs}
-use Rattle.heap_operations.proofs.UnfoldLaws.{spread-ready, unfold-done, unfold-refused}
+use Rattle.heap_operations.proofs.UnfoldLaws.{unfold-ready, unfold-done, unfold-refused}
 use Rattle.heap_operations.proofs.unfold.Statement.{statement}
 use Rattle.heap_operations.proofs.unfold.Tie as tie
 
@@ -10,15 +10,16 @@ returns c =
     let u = c .before .unfold-refusal in
     unfold-refused (a .rec .now) (a .counters .now) (a .pointers .now) (a .cells .now) (u .result) (u .ensures) (c .if1 .taken)
 
-spread-requires : tie.Need-spread-requires
-spread-requires c κs =
+unfold-shape-requires : tie.Need-unfold-shape-requires
+unfold-shape-requires c κs =
     let a = c .before .before .before .before .before .before .before .before .args in
     let u = c .before .before .before .unfold-refusal in
-    spread-ready (a .rec .now) (a .counters .now) (a .pointers .now) (a .cells .now) (u .result) (u .ensures) (c .before .before .if1 .left)
+    unfold-ready (a .rec .now) (a .counters .now) (a .pointers .now) (a .cells .now) (u .result) (u .ensures)
+    (c .before .before .if1 .left)
 
 returns-2 : tie.Need-returns-2
 returns-2 c =
-    let s = c .before .before .before .before .spread in
+    let s = c .before .before .before .before .unfold-shape in
     let t = c .before .before .before .before .before .before .before in
     let u = t .before .unfold-refusal in
     let a = t .before .before .before .before .before .before .args in
@@ -26,5 +27,6 @@ returns-2 c =
     (s .last .1 .1 .0) (s .last .1 .1 .1 .0) (s .ensures .0) (s .ensures .1)
 
 pub unfold-spec : {M : Type 1} → statement M
-unfold-spec = tie.close (tie.spec (λ c κs. search needs) returns spread-requires (λ c. search needs) (λ c. search needs)
-    returns-2)
+unfold-spec =
+    tie.close
+    (tie.spec (λ c κs. search needs) returns unfold-shape-requires (λ c. search needs) (λ c. search needs) returns-2)

@@ -35,7 +35,7 @@ put-edge-requires c κs =
     let j = c .before .before .before .before .before .before .before .before .before .find .result in
     let h : j < places 1024 (length (a .locations .now)) = search needs in
     let k : a .ne < places 2048 (length (a .edges .now)) = search needs in
-    (place-within 2048 (length (a .edges .now)) (a .ne) k, search needs, omega arith, search needs, search needs)
+    (place-within 2048 (length (a .edges .now)) (a .ne) k, (search needs, omega arith, search needs, search needs))
 
 returns-3 : tie.Need-returns-3
 returns-3 c t e H B =

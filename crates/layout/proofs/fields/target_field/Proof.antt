@@ -1,0 +1,12 @@
+-- `target_field` meets its contract.
+use Rattle.layout.proofs.fields.target_field.Statement.{statement}
+use Rattle.layout.proofs.fields.target_field.Tie as tie
+
+returns : tie.Need-returns
+returns c = rw (c .if1 .taken)
+
+returns-2 : tie.Need-returns-2
+returns-2 c = rw (c .if1 .left)
+
+pub target-field-spec : {M : Type 1} → statement M
+target-field-spec = tie.close (tie.spec returns returns-2)

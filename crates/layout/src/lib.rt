@@ -1,0 +1,41 @@
+// The layout of S and H records of 32 bytes: which refusal a statement has, whether a shape keeps the layout.
+pub mod fields;
+
+use fields::all_values;
+use fields::all_zero;
+use fields::fields_ok;
+use fields::head_ok;
+use fields::targets_ok;
+ghost use mathlib.Core.Path.{_≡_};
+ghost use lib.ListN.{length};
+ghost use Rattle.model.specs.Records.{refusalS, layoutH};
+
+// The refusal of an S record among n statements, 0 for none.
+pub fn statement_refusal(rec: &[u8], n: usize) -> u8
+    requires { ⌜ length (now rec) ≡ 32 ⌝ }
+    ensures { λ r. ⌜ r ≡ refusalS n (now (rec .entry)) ⌝ }
+{
+    if 11 < rec[1] {
+        return 5;
+    }
+    if !fields_ok(rec) {
+        return 6;
+    }
+    if !targets_ok(n, rec) {
+        return 7;
+    }
+    0
+}
+
+// Whether an H record keeps the layout.
+pub fn layout_ok(rec: &[u8]) -> bool
+    requires { ⌜ length (now rec) ≡ 32 ⌝ }
+    ensures { λ r. ⌜ r ≡ layoutH (now (rec .entry)) ⌝ }
+{
+    let k = rec[3];
+    if !head_ok(rec[0], rec[1], rec[2], k) {
+        return false;
+    }
+    let end = 10 + k as usize;
+    all_values(&rec[4..end], k) && all_zero(&rec[end..])
+}
