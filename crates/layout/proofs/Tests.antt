@@ -5,11 +5,11 @@ use mathlib.Core.Path.{_≡_, refl, sym, _∙_}
 use mathlib.Core.Bool.{Bool, true, false, _&&_, and-assoc}
 use mathlib.Core.List.{List}
 use native.Mathlib.Omega.{arith}
-use lib.Dec.{leb}
+use lib.Dec.{leb, ltb}
 use lib.ListN.{take, drop}
 use borrow.Author.Tests.{ne-eqb}
 use Rattle.model.specs.Base.{all}
-use Rattle.model.specs.Records.{byte, isZero, targetField, usesFirst, usesSecond, usesW, fieldsS, targetsS, refusalS, valueByte, layoutH, checksS}
+use Rattle.model.specs.Records.{byte, isZero, targetField, usesFirst, usesSecond, usesW, fieldsS, targetsS, refusalS, valueByte, layoutH, checksS, opCount}
 use Rattle.layout.specs.Checked.{pointersS, unusedS, headH}
 use mathlib.Core.Logic.{inl, inr}
 
@@ -48,14 +48,14 @@ pub w-none : (op : ℕ) → (op ≡ 2 → ⊥) → (op ≡ 3 → ⊥) → (op �
 w-none op a b c d = rw (ne-eqb op 2 a, ne-eqb op 3 b, ne-eqb op 5 c, ne-eqb op 9 d)
 
 module _ (n : ℕ) (r : List ℕ) where
-  pub refusal-5 : leb (byte r 1) 11 ≡ false → 5 ≡ refusalS n r
+  pub refusal-5 : ltb (byte r 1) opCount ≡ false → 5 ≡ refusalS n r
   refusal-5 o = sym (given-failed (checksS n r) 5 (inl (refl, o)))
 
-  pub refusal-6 : leb (byte r 1) 11 ≡ true → fieldsS r ≡ false → 6 ≡ refusalS n r
+  pub refusal-6 : ltb (byte r 1) opCount ≡ true → fieldsS r ≡ false → 6 ≡ refusalS n r
   refusal-6 o f = sym (given-failed (checksS n r) 6 (inr (o, inl (refl, f))))
 
-  pub refusal-7 : leb (byte r 1) 11 ≡ true → fieldsS r ≡ true → targetsS n r ≡ false → 7 ≡ refusalS n r
+  pub refusal-7 : ltb (byte r 1) opCount ≡ true → fieldsS r ≡ true → targetsS n r ≡ false → 7 ≡ refusalS n r
   refusal-7 o f t = sym (given-failed (checksS n r) 7 (inr (o, inr (f, inl (refl, t)))))
 
-  pub refusal-none : leb (byte r 1) 11 ≡ true → fieldsS r ≡ true → targetsS n r ≡ true → 0 ≡ refusalS n r
+  pub refusal-none : ltb (byte r 1) opCount ≡ true → fieldsS r ≡ true → targetsS n r ≡ true → 0 ≡ refusalS n r
   refusal-none o f t = sym (pass-none (checksS n r) (o, (f, (t, tt))))

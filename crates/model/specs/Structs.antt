@@ -1,9 +1,10 @@
 -- What the structs that the code passes by value stand for. Assumes nothing.
 use Prim.Native.Nat.{ℕ, zero, suc}
 use mathlib.Core.List.{List, [], _∷_}
+use mathlib.Core.Path.{_≡_}
 use Rattle.model.specs.Edges.{Guard, isMore, isOne}
 use Rattle.model.specs.Machine.{Op, Stmt}
-use Rattle.model.specs.Records.{byte, opOf}
+use Rattle.model.specs.Records.{byte, guardBytes, opOf}
 use Rattle.model.specs.declared.Decoded.{Decoded}
 use Rattle.model.specs.declared.Guards.{Guards}
 
@@ -34,3 +35,11 @@ guardBy (suc (suc t)) n = record { node = n; test = isMore } ∷ []
 
 abbrev pub guardsIn : Guards → List Guard
 guardsIn g = guardBy (g .first .test) (g .first .node .0)
+
+-- the two bytes that an E record has for them
+abbrev pub guardsBytes : Guards → List ℕ
+guardsBytes g = g .first .test ∷ g .first .node .0 ∷ []
+
+-- guards that are written as they are read: no node where there is no guard
+abbrev pub Writes : Guards → Type 0
+Writes g = guardBytes (guardsIn g) ≡ guardsBytes g

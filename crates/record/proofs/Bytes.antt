@@ -13,7 +13,8 @@ use Rattle.model.specs.Records.{edgeRecord, filled, guardBytes, shapeBytes, slo
 use Rattle.model.specs.Shape.{segments, shape}
 use Rattle.model.proofs.lists.Slices.{joined-next, put-back, put-next}
 use Rattle.model.specs.declared.EdgeFields.{EdgeFields}
-use Rattle.record.specs.Written.{edgeBytes, guardsBytes, updateBytes}
+use Rattle.record.specs.Written.{edgeBytes, updateBytes}
+use Rattle.model.specs.Structs.{guardsBytes}
 use Rattle.record.proofs.ListLaws.{drop-zeros}
 
 -- ---- shapes
@@ -87,7 +88,7 @@ edge-is e us z p q =
 
 -- what is written for an edge of the model
 pub edge-record : (f : EdgeFields) (us : List ℕ) (e : Edge) → f .branch ≡ e .branchNo
-    → guardBytes (e .guard) ≡ guardsBytes (f .guards) → take (f .nodes) us ≡ map updateCode (e .updates)
+    → guardBytes (e .guards) ≡ guardsBytes (f .guards) → take (f .nodes) us ≡ map updateCode (e .updates)
     → edgeBytes f us ≡ edgeRecord (f .from) (f .to) e
 edge-record f us e b p q =
     let u : updateBytes us (f .nodes) ≡ joined (map (λ x. twoBytes (updateCode x)) (e .updates)) =

@@ -5,8 +5,8 @@ use mathlib.Core.List.{List, [], _∷_, _++_, map}
 use lib.ListN.{length, take, drop, replicate}
 use Rattle.model.specs.Base.{joined}
 use Rattle.model.specs.Records.{filled, twoBytes}
+use Rattle.model.specs.Structs.{guardsBytes}
 use Rattle.model.specs.declared.EdgeFields.{EdgeFields}
-use Rattle.model.specs.declared.Guards.{Guards}
 
 abbrev pub faultBytes : ℕ → ℕ → List ℕ
 faultBytes s f = 0x4c ∷ s ∷ f ∷ replicate 29 0
@@ -18,10 +18,6 @@ locationBytes s f r = 0x4c ∷ s ∷ f ∷ drop 3 r
 -- the first k updates, two bytes each
 abbrev pub updateBytes : List ℕ → ℕ → List ℕ
 updateBytes us k = joined (map twoBytes (take k us))
-
--- the two bytes of the guards
-abbrev pub guardsBytes : Guards → List ℕ
-guardsBytes g = g .first .test ∷ g .first .node .0 ∷ []
 
 -- an E record: its fields e and its updates us
 abbrev pub edgeBytes : EdgeFields → List ℕ → List ℕ

@@ -20,6 +20,7 @@ use lib.Dec.{eqb}
 use Rattle.model.proofs.ways.Ways.{no-view}
 use Rattle.model.specs.Image.{pastEnd}
 use Rattle.model.specs.Notions.{Room}
+use Rattle.model.specs.Structs.{Writes}
 
 pub pointer-value : (ps : List ℕ) (u : ℕ) → u < length ps → valOf (getD ps u 0) ≡ getD (map valOf ps) u undef
 pointer-value ps u h = sym (getD-map valOf ps u 0 undef h)
@@ -140,3 +141,12 @@ pub plain-way : (v j : ℕ) (g : Guards) → 0xfe ≤ v → v < 256 → g .first
     → IsWay v j (record { split = false; node = record { 0 = 0 }; pick = j; guards = g })
 plain-way v j g lo hi t k h lt =
     rw (view-other v lo hi, t) (pick-at k h j (let e = plain-count k v h lo hi in omega arith))
+
+-- the guards of a way are written as they are read
+pub node-writes : (g : Guards) (j : ℕ) → g .first .test ≡ 1 + j → j ≤ 1 → Writes g
+node-writes g zero e l = rw e
+node-writes g (suc zero) e l = rw e
+node-writes g (suc (suc j)) e l = absurd (omega arith)
+
+pub none-writes : (g : Guards) → g .first .test ≡ 0 → g .first .node .0 ≡ 0 → Writes g
+none-writes g e f = rw (e, f)

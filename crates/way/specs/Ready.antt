@@ -9,7 +9,7 @@ use Rattle.model.specs.Heap.{Heap}
 use Rattle.model.specs.Machine.{action, isStop, kind}
 use Rattle.model.specs.Notions.{Canon}
 use Rattle.model.specs.Records.{locRecord, opCount}
-use Rattle.model.specs.Structs.{opIn}
+use Rattle.model.specs.Structs.{Writes, opIn}
 use Rattle.model.specs.declared.Decoded.{Decoded}
 use Rattle.way.specs.declared.Way.{Way}
 
@@ -28,4 +28,5 @@ pub record WayReady (l : List ℕ) (d : Decoded) (s : ℕ) (h : Heap) (y : Way) 
   pub low : s < 64
   pub goes : isStop (kind (opIn d)) ≡ false
   pub pick : y .pick ≤ 1
+  pub guards : Writes (y .guards)
   pub isNode : y .split ≡ true → view (action (opIn d)) h ≡ oneNode (y .node .0)

@@ -9,12 +9,12 @@ ghost use mathlib.Core.Bool.{true};
 ghost use mathlib.Core.List.{List};
 ghost use mathlib.Core.Path.{_≡_};
 ghost use lib.ListN.{length, take, drop};
-ghost use Rattle.model.specs.Edges.{view, viewVal};
+ghost use Rattle.model.specs.Edges.{oneNode, view, viewVal};
 ghost use Rattle.model.specs.Heap.{Heap, ptr};
 ghost use Rattle.model.specs.Image.{heapOf};
 ghost use Rattle.model.specs.Machine.{action, kind};
 ghost use Rattle.model.specs.Records.{byte, opCount, opOf, shapeOf, valOf};
-ghost use Rattle.model.specs.Structs.{opIn};
+ghost use Rattle.model.specs.Structs.{Writes, opIn};
 ghost use Rattle.way.specs.Way.{IsWay, OpenReady, openedBytes, openedCount, openedHeap, wayNumber};
 
 // A way out of a location: split at a node, or whole with a pick; and its guards.
@@ -79,7 +79,9 @@ fn one_guard(test: u8, node: Node) -> Guards
 // Way j of these.
 pub fn way_at(v: u8, j: u8) -> Way
     requires { ⌜ j < 255 ⌝ }
-    ensures { λ r. ⌜ IsWay v j r ⌝ }
+    ensures way { λ r. ⌜ IsWay v j r ⌝ }
+    ensures low { λ r. ⌜ (j ≤ 1 → (r .pick ≤ 1) × Writes (r .guards)) ⌝ }
+    ensures node { λ r. ⌜ (r .split ≡ true → viewVal (valOf v) ≡ oneNode (r .node .0)) ⌝ }
 {
     if v < 0xfe {
         return Way {
