@@ -1,11 +1,13 @@
 -- What the structs that the code passes by value stand for. Assumes nothing.
-use Prim.Native.Nat.{ℕ, zero, suc}
-use mathlib.Core.List.{List, [], _∷_}
+use Prim.Native.Nat.{ℕ, zero, suc, _≤_}
+use mathlib.Core.List.{List, [], _∷_, map}
 use mathlib.Core.Path.{_≡_}
-use Rattle.model.specs.Edges.{Guard, isMore, isOne}
+use lib.ListN.{length, take}
+use Rattle.model.specs.Edges.{Edge, Guard, isMore, isOne}
 use Rattle.model.specs.Machine.{Op, Stmt}
-use Rattle.model.specs.Records.{byte, guardBytes, opOf}
+use Rattle.model.specs.Records.{byte, guardBytes, locRecord, opOf, updateCode}
 use Rattle.model.specs.declared.Decoded.{Decoded}
+use Rattle.model.specs.declared.EdgeMade.{EdgeMade}
 use Rattle.model.specs.declared.Guards.{Guards}
 
 -- ---- a statement's record, decoded
@@ -43,3 +45,14 @@ guardsBytes g = g .first .test ∷ g .first .node .0 ∷ []
 -- guards that are written as they are read: no node where there is no guard
 abbrev pub Writes : Guards → Type 0
 Writes g = guardBytes (guardsIn g) ≡ guardsBytes g
+
+-- ---- an edge
+
+-- the edge E as bytes: its target's record t, its updates us, and what else was made
+pub record IsEdge (E : Edge) (t us : List ℕ) (r : EdgeMade) : Type 0 where
+  pub branch : r .branch ≡ E .branchNo
+  pub guards : guardBytes (E .guards) ≡ guardsBytes (r .guards)
+  pub target : t ≡ locRecord (E .to)
+  pub number : r .nodes ≡ length (E .updates)
+  pub few : r .nodes ≤ 12
+  pub updates : take (r .nodes) us ≡ map updateCode (E .updates)
