@@ -1,4 +1,5 @@
--- The location table and its count after the target of an edge is kept: a known one has its number, a new one the next. Assumes nothing.
+-- The location table and its count after the target of an edge is kept: a known one has its number, a new one the next.
+-- Assumes nothing.
 use Prim.Native.Nat.{ℕ, _+_}
 use mathlib.Core.Bool.{cond}
 use mathlib.Core.List.{List}
