@@ -14,7 +14,6 @@ use Rattle.model.specs.Translate.{Link, Listing, linkRecord, places, grown}
 use Rattle.model.proofs.records.EdgeBack.{edge-length}
 use Rattle.model.specs.Listings.{WritableLoc}
 use Rattle.model.proofs.records.ReadBack.{record-length}
-use Rattle.model.specs.declared.EdgeFields.{EdgeFields}
 use Rattle.record.specs.Written.{edgeBytes, placed}
 use Rattle.record.proofs.Bytes.{edge-record}
 use Rattle.search.specs.Search.{foundAt}
@@ -24,7 +23,7 @@ use Rattle.listing.specs.Grow.{Holds, GrownTo}
 use Rattle.model.specs.Structs.{IsEdge}
 use Rattle.model.specs.declared.Counts.{Counts}
 use Rattle.model.specs.declared.EdgeMade.{EdgeMade}
-use Rattle.listing.specs.Target.{countKept, targetKept}
+use Rattle.listing.specs.Target.{countKept, fieldsTo, targetKept}
 use Rattle.listing.proofs.Kept.{Kept, kept-next}
 
 -- the location table, and the edge table
@@ -80,10 +79,6 @@ holds-both t ls es a b c K L =
       goodLocs = K .good;
       goodLinks = L .good;
     }
-
--- the fields of an edge from location i to location j
-abbrev fieldsTo : EdgeMade → ℕ → ℕ → EdgeFields
-fieldsTo m i j = record { branch = m .branch; from = i; to = j; guards = m .guards; nodes = m .nodes }
 
 -- the counts of n locations after one edge more
 abbrev countsAfter : Counts → ℕ → Counts

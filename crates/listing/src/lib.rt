@@ -10,7 +10,7 @@ ghost use Rattle.model.specs.Records.{byte};
 ghost use Rattle.model.specs.Translate.{places};
 ghost use Rattle.record.specs.Written.{placed};
 ghost use Rattle.listing.specs.Grow.{GrowReady, Grows};
-ghost use Rattle.listing.specs.Target.{targetKept, countKept};
+ghost use Rattle.listing.specs.Target.{targetKept, countKept, fieldsTo};
 
 // The counts after an edge more, or the refusal (11 no place for a new location, 12 no place for the edge).
 pub enum Grown {
@@ -48,6 +48,20 @@ fn keep_target(locations: &mut [u8], nl: usize, j: usize, target: &[u8]) -> usiz
     nl + 1
 }
 
+// The fields of an edge from a location to another.
+fn fields_to(made: EdgeMade, from: usize, to: usize) -> EdgeFields
+    ensures { λ r. ⌜ r ≡ fieldsTo made from to ⌝ }
+{
+    let guards = made.guards;
+    EdgeFields {
+        branch: made.branch,
+        from,
+        to,
+        guards,
+        nodes: made.nodes,
+    }
+}
+
 // Adds an edge of location `from`. Nothing is written where there is no place for all of it.
 pub fn add_edge(
     locations: &mut [u8],
@@ -63,28 +77,22 @@ pub fn add_edge(
         (now (target .entry)) (now (updates .entry))
         (now (locations .exit)) (now (edges .exit)) r ⌝ }
 {
-    let j = search::find(&locations[..], counts.locations, target);
+    let nl = counts.locations;
+    let ne = counts.edges;
+    let j = search::find(&locations[..], nl, target);
     let cl = places(1024, locations.len());
     if cl <= j {
         return Grown::Full { number: 11 };
     }
     let ce = places(2048, edges.len());
-    if ce <= counts.edges {
+    if ce <= ne {
         return Grown::Full { number: 12 };
     }
-    let count = keep_target(locations, counts.locations, j, target);
-    let guards = made.guards;
-    let fields = EdgeFields {
-        branch: made.branch,
-        from,
-        to: j,
-        guards,
-        nodes: made.nodes,
-    };
-    record::put_edge(edges, counts.edges, fields, updates);
+    let count = keep_target(locations, nl, j, target);
+    record::put_edge(edges, ne, fields_to(made, from, j), updates);
     let counts = Counts {
         locations: count,
-        edges: counts.edges + 1,
+        edges: ne + 1,
     };
     Grown::Added { counts }
 }

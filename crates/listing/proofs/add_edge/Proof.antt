@@ -16,28 +16,32 @@ returns c t e H W B =
 
 returns-2 : tie.Need-returns-2
 returns-2 c t e H W B =
-    let a = c .before .before .before .before .before .before .before .before .before .before .before .args in
-    let f = c .before .before .before .before .before .find in
+    let a = c .before .before .before .before .before .before .before .before .before .before .args in
+    let f = c .before .before .before .before .find in
     full-edges t (a .from) e _ _ _ _ _ _ H W B (f .result) (f .ensures) (search needs) (search needs)
 
 keep-target-requires : tie.Need-keep-target-requires
 keep-target-requires c κs =
-    let s = c .before .before .before .before .before .before .before .before .before .before .before .before in
+    let s = c .before .before .before .before .before .before .before .before .before .before .before in
     let a = s .args in
-    let j = c .before .before .before .before .before .before .find .result in
+    let j = c .before .before .before .before .before .find .result in
     let h : j < places 1024 (length (a .locations .now)) = search needs in
     (place-within 1024 (length (a .locations .now)) j h, search needs, target-tag (s .pre .bytes))
 
+put-edge-requires : tie.Need-put-edge-requires
+put-edge-requires c κs = rw (c .fields-to .ensures) (search needs)
+
 returns-3 : tie.Need-returns-3
 returns-3 c t e H W B =
-    let d = c .before .before .before .before .before .before .before .before in
-    let p = d .before .before .before .before .before .before .before in
+    let d = c .before .before .before .before .before .before .before in
+    let p = d .before .before .before .before .before .before in
     let f = p .find in
     let a = p .before .before .before .before .before .before .args in
     let kept = d .keep-target in
     let h : f .result < places 1024 (length (a .locations .now)) = search needs in
     one-more t (a .from) e _ _ _ _ _ _ H W B (f .result) (f .ensures) h (search needs) _ _ (kept .result)
-    (kept .ensures .0) (kept .ensures .1) (c .before .before .before .put-edge .ensures)
+    (kept .ensures .0) (kept .ensures .1)
+    (rw (c .before .before .before .fields-to .ensures) at (c .before .before .put-edge .ensures))
 
 pub add-edge-spec : {M : Type 1} → statement M
 add-edge-spec =
@@ -52,6 +56,7 @@ add-edge-spec =
     returns-2
     keep-target-requires
     (λ c κs. search needs)
+    put-edge-requires
     (λ c. search needs)
     (λ c. search needs)
     (λ c. search needs)
