@@ -22,6 +22,7 @@ use Rattle.listing.specs.declared.Grown.the-variants.{Added, Full}
 use Rattle.listing.specs.Grow.{Holds, GrownTo}
 use Rattle.model.specs.Structs.{IsEdge}
 use Rattle.model.specs.declared.Counts.{Counts}
+use Rattle.model.specs.declared.EdgeFields.{EdgeFields}
 use Rattle.model.specs.declared.EdgeMade.{EdgeMade}
 use Rattle.listing.specs.Target.{countKept, fieldsTo, targetKept}
 use Rattle.listing.proofs.Kept.{Kept, kept-next}
@@ -128,9 +129,11 @@ module _ (t : Listing) (i : ℕ) (e : Edge) (ls es r us : List ℕ) (m : EdgeMad
   -- one edge more: the target has its place, and the edge's record stands behind the others
   pub one-more : j < places 1024 (length ls) → c .edges < places 2048 (length es)
       → (ls′ es′ : List ℕ) (n : ℕ) → n ≡ countKept (c .locations) j → ls′ ≡ targetKept ls (c .locations) j r
-      → es′ ≡ placed es (c .edges) (edgeBytes (fieldsTo m i j) us)
+      → (f : EdgeFields) → f ≡ fieldsTo m i j → es′ ≡ placed es (c .edges) (edgeBytes f us)
       → GrownTo t i e ls′ es′ (Added (countsAfter c n))
-  one-more h k ls′ es′ n p q s =
+  one-more h k ls′ es′ n p q f x y =
+      let s : es′ ≡ placed es (c .edges) (edgeBytes (fieldsTo m i j) us) =
+      y ∙ ap (λ g. placed es (c .edges) (edgeBytes g us)) x in
       let K = locs-next h in
       let L = links-next k in
       let num = H .edgeNumber in

@@ -39,9 +39,10 @@ returns-3 c t e H W B =
     let a = p .before .before .before .before .before .before .args in
     let kept = d .keep-target in
     let h : f .result < places 1024 (length (a .locations .now)) = search needs in
+    let fields = c .before .before .before .fields-to in
     one-more t (a .from) e _ _ _ _ _ _ H W B (f .result) (f .ensures) h (search needs) _ _ (kept .result)
     (kept .ensures .0) (kept .ensures .1)
-    (rw (c .before .before .before .fields-to .ensures) at (c .before .before .put-edge .ensures))
+    (fields .result) (fields .ensures) (c .before .before .put-edge .ensures)
 
 pub add-edge-spec : {M : Type 1} → statement M
 add-edge-spec =
