@@ -81,7 +81,15 @@ fn run_edge(
     let mut cells = [0u8; 16];
     let mut order = [0u8; 16];
     let mut seen = [0u8; 16];
-    let gone = run_way(location, d, way, &mut pointers, &mut cells, &mut order, &mut seen);
+    let gone = run_way(
+        location,
+        d,
+        way,
+        &mut pointers,
+        &mut cells,
+        &mut order,
+        &mut seen,
+    );
     let n = gone.cells;
     let v = gone.visited;
     if gone.fault != 0 {
@@ -92,7 +100,15 @@ fn run_edge(
         split: way.split,
         node: way.node,
     };
-    let m = leave(&pointers, &cells[..n], &order[..v], &seen, weights, target, updates);
+    let m = leave(
+        &pointers,
+        &cells[..n],
+        &order[..v],
+        &seen,
+        weights,
+        target,
+        updates,
+    );
     record::write_head(target, 0x4c, statement::next_of(d, gone.branch), m);
     EdgeMade {
         branch: gone.branch,
