@@ -117,8 +117,8 @@ module _ {ps cs visit held : List ℕ} (x : ShapeReady ps cs visit held) where
     pub few-nodes : k ≤ 12
     few-nodes = rw (cut-heap .number) few-segments
 
-    count-lasts : length (take k (t .last)) ≡ k
-    count-lasts = ap length (cut-heap .lasts) ∙ length-map (segments (heapOf ps cs)) last ∙ sym (cut-heap .number)
+    pub count-lasts : k ≡ length (take k (t .last))
+    count-lasts = cut-heap .number ∙ sym (ap length (cut-heap .lasts) ∙ length-map (segments (heapOf ps cs)) last)
 
     -- what the fold of its bytes asks
     pub fold-ready : length cs ≤ length (t .node) → (before : List ℕ) → 18 ≤ length before
@@ -142,7 +142,7 @@ module _ {ps cs visit held : List ℕ} (x : ShapeReady ps cs visit held) where
         record {
           number = cut-heap .number;
           twelve = few-nodes;
-          bytes = e ∙ ap₂ (λ w u. w ++ drop (6 + u) before) (ap₂ _++_ p s) count-lasts;
+          bytes = e ∙ ap₂ (λ w u. w ++ drop (6 + u) before) (ap₂ _++_ p s) (sym count-lasts);
           sizes = cut-heap .sizes;
           nodes = λ j c i. cut-heap .nodes j c (rw (cut-heap .number) at i);
         }
