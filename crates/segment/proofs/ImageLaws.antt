@@ -42,11 +42,13 @@ module _ (ps cs : List ℕ) (x : IsHeap (heapOf ps cs)) (few : length cs ≤ 240
   order-low c q = cell-low ps cs x few c (toured (heapOf ps cs) (heap-closed (heapOf ps cs) x) .used c q)
 
   order-few : length (order (heapOf ps cs)) ≤ length cs
-  order-few = pigeon (length cs) (order (heapOf ps cs)) (toured (heapOf ps cs) (heap-closed (heapOf ps cs) x) .nodup) order-low
+  order-few =
+      pigeon (length cs) (order (heapOf ps cs)) (toured (heapOf ps cs) (heap-closed (heapOf ps cs) x) .nodup) order-low
 
   -- the holders agree with the heap at each cell of the order
   image-ready : (held : List ℕ) (t : CutTables)
-      → ((c : ℕ) → mem c (order (heapOf ps cs)) ≡ true → heldCore held c ≡ core (heapOf ps cs) c) → length cs ≤ length held
+      → ((c : ℕ) → mem c (order (heapOf ps cs)) ≡ true → heldCore held c ≡ core (heapOf ps cs) c)
+      → length cs ≤ length held
       → length cs ≤ length (t .node) → length (segments (heapOf ps cs)) ≤ length (t .last)
       → length (segments (heapOf ps cs)) ≤ length (t .size) → CutReady (order (heapOf ps cs)) held t
   image-ready held t same hh hm hl hz =
