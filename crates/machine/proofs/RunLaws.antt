@@ -38,8 +38,9 @@ abbrev pub allMarked : List ℕ → List ℕ → Bool
 allMarked cells marks = eachUsed (λ c. not (eqb (getD marks c 0) 0)) 0 (map cellSlot cells)
 
 -- ---- a run: r and the image afterwards are what the effect answers
-module _ {d : Decoded} {x : ℕ} {before : Bytes} {visit seen : List ℕ} (p : RunReady d x before visit seen) (after : Bytes)
-    {r : ℕ} (has : HasEffect (effect (opIn d) x) (before .pointers) (before .cells) r (after .pointers) (after .cells)) where
+module _ {d : Decoded} {x : ℕ} {before : Bytes} {visit seen : List ℕ} (p : RunReady d x before visit seen)
+    (after : Bytes) {r : ℕ}
+    (has : HasEffect (effect (opIn d) x) (before .pointers) (before .cells) r (after .pointers) (after .cells)) where
   gave : effectOf r (heapIn after) ≡ effect (opIn d) x (heapIn before)
   gave = has .outcome
 
@@ -61,7 +62,8 @@ module _ {d : Decoded} {x : ℕ} {before : Bytes} {visit seen : List ℕ} (p : R
 
     -- the heap is closed, and has as many cells
     done-closed : closed (heapIn after) ≡ true
-    done-closed = effect-closed (action (opIn d)) x (heapIn before) (heapIn after) (p .ready .isClosed) (p .fresh) is-done
+    done-closed =
+        effect-closed (action (opIn d)) x (heapIn before) (heapIn after) (p .ready .isClosed) (p .fresh) is-done
 
     done-cells : length (after .cells) ≡ length (before .cells)
     done-cells =

@@ -32,8 +32,8 @@ pub record RunReady (d : Decoded) (x : ℕ) (before : Bytes) (visit seen : List 
   pub marks : length (before .cells) ≤ length seen
   pub clear : (c : ℕ) → c < length (before .cells) → getD seen c 0 ≡ 0
 
--- The fault and the image afterwards are what the machine's run gives; without a fault the visited cells stand in their order, and
--- the marks tell the core cells.
+-- The fault and the image afterwards are what the machine's run gives; without a fault the visited cells stand in
+-- their order, and the marks tell the core cells.
 pub record IsRun (d : Decoded) (x : ℕ) (before after : Bytes) (visit seen : List ℕ) (r : Ran) : Type 0 where
   pub outcome : effectOf (r .fault) (heapIn after) ≡ carryOut (opIn d) x (heapIn before)
   pub isHeap : r .fault ≡ 0 → IsHeap (heapIn after)

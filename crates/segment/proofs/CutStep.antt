@@ -7,13 +7,15 @@ use native.Mathlib.Numerals.{add-one}
 use native.Mathlib.Omega.{arith}
 use lib.Dec.{eqb}
 use lib.ListN.{length, getD, take, drop, set, length-map, List·getD-append, take-append-drop}
-use lib.Seq.{drop-drop, drop-set-lt, getD-at, getD-set-other, getD-set-same, getD-take, getD-append-seam, length-take-le, take-at, take-suc-set, take-take}
+use lib.Seq.{drop-drop, drop-set-lt, getD-at, getD-set-other, getD-set-same, getD-take, getD-append-seam}
+use lib.Seq.{length-take-le, take-at, take-suc-set, take-take}
 use borrow.Author.Tests.{eqb-false, eqb-true}
 use Rattle.model.specs.Base.{mem}
 use Rattle.model.specs.Shape.{Seg, cells, last, size}
 use Rattle.model.proofs.expansion.Cuts.{last-snoc, nodup-l}
 use Rattle.model.specs.Notions.{NoDup, segAt, seg}
-use Rattle.model.proofs.lists.Logic.{bool-case, clash, eq-case, mem-append-cases, mem-append-r, mem-here, mem-one, not-true}
+use Rattle.model.proofs.lists.Logic.{bool-case, clash, eq-case, mem-append-cases, mem-append-r, mem-here, mem-one}
+use Rattle.model.proofs.lists.Logic.{not-true}
 use Rattle.model.proofs.lists.Slices.{take-next}
 use Rattle.segment.specs.Cut.{CutReady, Entered, IsCut, Put, PutReady, CutTables, heldCore, segs}
 use Rattle.segment.proofs.ListLaws.{length-snoc, snoc-place}
@@ -26,7 +28,8 @@ record Known (front : List Seg) (d : ℕ) (t : CutTables) : Type 0 where
   nodes : (i c : ℕ) → i < length front → mem c (cells (segAt front i)) ≡ true → (getD (t .node) c 0 ≡ i) × (c ≡ d → ⊥)
 
 -- a store at the place behind them
-entered : (front : List Seg) (s : Seg) (d : ℕ) (t t′ : CutTables) → Entered d (length front) (size s) t t′ → Known front d t
+entered : (front : List Seg) (s : Seg) (d : ℕ) (t t′ : CutTables) → Entered d (length front) (size s) t t′
+    → Known front d t
     → last s ≡ d → length front < length (t .last) → length front < length (t .size) → d < length (t .node)
     → ((c : ℕ) → mem c (cells s) ≡ true → (c ≡ d → ⊥) → getD (t .node) c 0 ≡ length front)
     → IsCut (front ++ s ∷ []) t′ (suc (length front))
@@ -145,7 +148,8 @@ size-low held (c ∷ o) d k t is full =
     (omega arith, rw j (omega (arith, s .few)))
 
 -- what a turn asks, where the tables have room for the segments of the whole order: o, the cell d and the rest
-ready : (held o rest : List ℕ) (d k : ℕ) (t : CutTables) → IsCut (segs held o) t k → d < length held → d < length (t .node)
+ready : (held o rest : List ℕ) (d k : ℕ) (t : CutTables) → IsCut (segs held o) t k → d < length held
+    → d < length (t .node)
     → (o ≡ [] → heldCore held d ≡ true) → length o < 240 → length (segs held ((o ++ d ∷ []) ++ rest)) ≤ length (t .last)
     → length (segs held ((o ++ d ∷ []) ++ rest)) ≤ length (t .size)
     → length (segs held ((o ++ d ∷ []) ++ rest)) ≤ 240 → PutReady d k held t
@@ -182,8 +186,8 @@ pub record Alike (t t₀ : CutTables) : Type 0 where
   pub last : length (t .last) ≡ length (t₀ .last)
   pub size : length (t .size) ≡ length (t₀ .size)
 
-module _ {o held : List ℕ} {t₀ : CutTables} (c : CutReady o held t₀) (i : ℕ) (b : i < length o) (t : CutTables) (a : Alike t t₀)
-    (k : ℕ) (is : IsCut (segs held (take i o)) t k) where
+module _ {o held : List ℕ} {t₀ : CutTables} (c : CutReady o held t₀) (i : ℕ) (b : i < length o)
+    (t : CutTables) (a : Alike t t₀) (k : ℕ) (is : IsCut (segs held (take i o)) t k) where
   pub ready-at : PutReady (getD o i 0) k held t
   ready-at =
       let s = ap (λ x. length (segs held x)) (order-at o i b) in
@@ -204,7 +208,8 @@ module _ {o held : List ℕ} {t₀ : CutTables} (c : CutReady o held t₀) (i : 
       (nodup-l (take i o ++ getD o i 0 ∷ []) (drop (i + 1) o) (subst NoDup (order-at o i b) (c .once)))))
 
 -- sizes past the segments that have begun stay: a cell that begins none goes behind one that has
-pub size-past : (b : Bool) (c k : ℕ) (t t′ : CutTables) (r : ℕ) → Put b c k t t′ r → (size₀ : List ℕ) → (b ≡ false → 0 < k)
+pub size-past : (b : Bool) (c k : ℕ) (t t′ : CutTables) (r : ℕ) → Put b c k t t′ r → (size₀ : List ℕ)
+    → (b ≡ false → 0 < k)
     → drop k (t .size) ≡ drop k size₀ → drop r (t′ .size) ≡ drop r size₀
 size-past true c k t t′ r P size₀ h e =
     ap₂ drop (P .number) (P .entered .size) ∙ drop-set-lt (k + 1) (t .size) k 1 (omega arith)

@@ -42,11 +42,13 @@ module _ (ps cs : List ℕ) (x : IsHeap (heapOf ps cs)) (few : length cs ≤ 240
   order-low c q = cell-low ps cs x few c (toured (heapOf ps cs) (heap-closed (heapOf ps cs) x) .used c q)
 
   order-few : length (order (heapOf ps cs)) ≤ length cs
-  order-few = pigeon (length cs) (order (heapOf ps cs)) (toured (heapOf ps cs) (heap-closed (heapOf ps cs) x) .nodup) order-low
+  order-few =
+      pigeon (length cs) (order (heapOf ps cs)) (toured (heapOf ps cs) (heap-closed (heapOf ps cs) x) .nodup) order-low
 
   -- the holders agree with the heap at each cell of the order
   image-ready : (held : List ℕ) (t : CutTables)
-      → ((c : ℕ) → mem c (order (heapOf ps cs)) ≡ true → heldCore held c ≡ core (heapOf ps cs) c) → length cs ≤ length held
+      → ((c : ℕ) → mem c (order (heapOf ps cs)) ≡ true → heldCore held c ≡ core (heapOf ps cs) c)
+      → length cs ≤ length held
       → length cs ≤ length (t .node) → length (segments (heapOf ps cs)) ≤ length (t .last)
       → length (segments (heapOf ps cs)) ≤ length (t .size) → CutReady (order (heapOf ps cs)) held t
   image-ready held t same hh hm hl hz =
@@ -117,8 +119,8 @@ module _ {ps cs visit held : List ℕ} (x : ShapeReady ps cs visit held) where
     pub few-nodes : k ≤ 12
     few-nodes = rw (cut-heap .number) few-segments
 
-    count-lasts : length (take k (t .last)) ≡ k
-    count-lasts = ap length (cut-heap .lasts) ∙ length-map (segments (heapOf ps cs)) last ∙ sym (cut-heap .number)
+    pub count-lasts : k ≡ length (take k (t .last))
+    count-lasts = cut-heap .number ∙ sym (ap length (cut-heap .lasts) ∙ length-map (segments (heapOf ps cs)) last)
 
     -- what the fold of its bytes asks
     pub fold-ready : length cs ≤ length (t .node) → (before : List ℕ) → 18 ≤ length before
@@ -142,7 +144,7 @@ module _ {ps cs visit held : List ℕ} (x : ShapeReady ps cs visit held) where
         record {
           number = cut-heap .number;
           twelve = few-nodes;
-          bytes = e ∙ ap₂ (λ w u. w ++ drop (6 + u) before) (ap₂ _++_ p s) count-lasts;
+          bytes = e ∙ ap₂ (λ w u. w ++ drop (6 + u) before) (ap₂ _++_ p s) (sym count-lasts);
           sizes = cut-heap .sizes;
           nodes = λ j c i. cut-heap .nodes j c (rw (cut-heap .number) at i);
         }

@@ -12,14 +12,16 @@ pub length-snoc : {A : Type 0} (l : List A) (x : A) → length (l ++ x ∷ []) �
 length-snoc l x = length-append l (x ∷ []) ∙ omega arith
 
 -- the places of a list with one element behind
-pub snoc-place {ℓ} : {C : Type ℓ} {A : Type 0} (l : List A) (x : A) (i : ℕ) → i < length (l ++ x ∷ []) → (i < length l → C) → (i ≡ length l → C) → C
+pub snoc-place {ℓ} : {C : Type ℓ} {A : Type 0} (l : List A) (x : A) (i : ℕ) → i < length (l ++ x ∷ [])
+    → (i < length l → C) → (i ≡ length l → C) → C
 snoc-place [] x zero h f g = g refl
 snoc-place [] x (suc i) h f g = absurd (omega arith)
 snoc-place (y ∷ l) x zero h f g = f (omega arith)
 snoc-place (y ∷ l) x (suc i) h f g = snoc-place l x i (omega arith) (λ k. f (omega arith)) (λ e. g (ap suc e))
 
 -- two functions that agree at each place of a list
-pub map-at : {A B : Type 0} (f g : A → B) (d : A) (l : List A) → ((i : ℕ) → i < length l → f (getD l i d) ≡ g (getD l i d)) → map f l ≡ map g l
+pub map-at : {A B : Type 0} (f g : A → B) (d : A) (l : List A)
+    → ((i : ℕ) → i < length l → f (getD l i d) ≡ g (getD l i d)) → map f l ≡ map g l
 map-at f g d [] h = refl
 map-at f g d (x ∷ l) h = ap₂ _∷_ (h 0 (omega arith)) (map-at f g d l (λ i k. h (suc i) (omega arith)))
 

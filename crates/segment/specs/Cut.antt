@@ -1,4 +1,4 @@
--- The cut of a visit order on bytes: what it asks, the tables that it leaves, and what one turn stores. Assumes nothing.
+-- The cut of a visit order on bytes: what it asks, the tables that it leaves, and what one turn stores.
 use Prim.Native.Nat.{ℕ, _+_, _-_, _<_, _≤_}
 use mathlib.Core.Path.{_≡_}
 use mathlib.Core.Bool.{Bool, true, false, cond}

@@ -1,4 +1,4 @@
--- The shape of a heap image, by the cut of its visit order: what folding asks of the image, and what it gives. Assumes nothing.
+-- The shape of a heap image, by the cut of its visit order: what folding asks of the image, and what it gives.
 use Prim.Native.Nat.{ℕ, _+_, _<_, _≤_}
 use mathlib.Core.Path.{_≡_}
 use mathlib.Core.Bool.{true}

@@ -57,8 +57,8 @@ fn put(c: u8, k: usize, held: &[u8], node: &mut [u8], last: &mut [u8], size: &mu
     k
 }
 
-// Cuts the order before each core cell. Of each segment it keeps the last cell and the size, of each cell the number of its
-// segment, and it answers how many segments there are. Sizes past these stay.
+// Cuts the order before each core cell. Of each segment it keeps the last cell and the size, of each cell the number
+// of its segment, and it answers how many segments there are. Sizes past these stay.
 pub fn cut(order: &[u8], held: &[u8], node: &mut [u8], last: &mut [u8], size: &mut [u32]) -> usize
     requires { ⌜ CutReady (now order) (now held) (cutTables (now node) (now last) (now size)) ⌝ }
     ensures { λ r. ⌜ IsCut (segs (now (held .entry)) (now (order .entry)))
