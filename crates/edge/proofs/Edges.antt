@@ -1,15 +1,14 @@
 -- An edge by its way: the step that the way stands for, the edge of a fault, and the edge of a run that is done.
 use Prim.Native.Nat.{ℕ, zero, suc, _≤_}
 use mathlib.Core.Path.{_≡_, refl, sym, ap, ap₂, _∙_}
-use mathlib.Core.Bool.{true, false}
+use mathlib.Core.Bool.{true}
 use mathlib.Core.List.{List, [], _∷_, head-eq-of-cons-eq, map, map-map}
 use native.Mathlib.Omega.{arith}
-use lib.ListN.{List·getD-eq-default, length, length-map, take}
+use lib.ListN.{List·getD-eq-default, drop, length, length-map, take}
 use lib.Seq.{length-take-le}
 use borrow.Author.Tests.{ne-eqb}
 use Rattle.model.specs.Edges.{Edge, Way, Weight, at, edgeBy, failed, splitHeap, stepBy, updateOf}
 use Rattle.model.specs.Heap.{Heap, next, unused}
-use Rattle.model.specs.Image.{heapOf}
 use Rattle.model.specs.Machine.{Answer, Fault, action, answerOf, atNull, atUndef, branch, branchBy, carryOut, entry, fault, faultNumber, faulted, kind, leak, target, went}
 use Rattle.model.specs.Notions.{Used}
 use Rattle.model.specs.Records.{byte, guardBytes, locRecord, updateCode}
@@ -17,7 +16,6 @@ use Rattle.model.specs.Shape.{segments, shape}
 use Rattle.model.specs.Structs.{guardsBytes, opIn, stmtIn}
 use Rattle.model.specs.declared.Decoded.{Decoded}
 use Rattle.model.specs.declared.EdgeMade.{EdgeMade}
-use Rattle.model.specs.declared.Guards.{Guards}
 use Rattle.model.proofs.expansion.Splits.{tail-used}
 use Rattle.model.proofs.expansion.Step.{step-go}
 use Rattle.model.proofs.lists.Logic.{bool-case}
@@ -26,14 +24,13 @@ use Rattle.model.proofs.ways.Ways.{view-acts, view-looks, view-split}
 use Rattle.effect.specs.Effect.{effectOf}
 use Rattle.machine.specs.Run.{Bytes}
 use Rattle.record.specs.Written.{faultBytes}
-use Rattle.segment.specs.Shape.{ShapeReady}
 use Rattle.update.specs.Codes.{weightBy, weightIn}
 use Rattle.update.specs.declared.Weights.{Weights}
 use Rattle.way.proofs.Ready.{node-below, node-used, nodes-few, nodes-is, shape-is, statement-is}
 use Rattle.way.specs.Ready.{WayReady}
 use Rattle.way.specs.Way.{wayIn}
 use Rattle.way.specs.declared.Way as declared
-use Rattle.edge.specs.Edge.{EdgeReady, LeavesBy}
+use Rattle.edge.specs.Edge.{LeavesBy}
 use Rattle.edge.specs.WayRun.{FaultMade, IsLeft, LeaveReady, WayRan, leftIn}
 use Rattle.edge.specs.declared.Gone.{Gone}
 
@@ -76,9 +73,6 @@ module _ {l : List ℕ} {d : Decoded} {s : ℕ} {h : Heap} {y : declared.Way} (R
       (λ e. rw e (step-go (stmtIn d) (entry (y .pick) k) h (R .goes)
       (accept-room (opIn d) (entry (y .pick) k) h (room-of (action (opIn d)) h k (List·getD-eq-default (h .slots) unused (omega arith)))
       (λ q. R .pick))))
-
-  way-guards : wayIn y h .guards ≡ wayIn y h .guards
-  way-guards = refl
 
   pub guards-is : guardBytes (wayIn y h .guards) ≡ guardsBytes (y .guards)
   guards-is = bool-case (y .split) (λ e. rw e (R .guards)) (λ e. rw e (R .guards))

@@ -1,30 +1,31 @@
 -- The edge of a test, choose or skip: the run is done with the heap as it is, which is its own shape, and each counter is carried.
 use Prim.Native.Nat.{ℕ, _+_, _^_, _≤_, _<_}
-use mathlib.Core.Path.{_≡_, refl, sym, ap, ap₂, subst, _∙_}
+use mathlib.Core.Path.{_≡_, refl, sym, ap, ap₂, _∙_}
 use mathlib.Core.Bool.{Bool, true, false, _||_, cond}
 use mathlib.Core.List.{List, [], _∷_, map, map-map}
 use native.Mathlib.Omega.{arith}
+use lib.Dec.{eqb}
 use lib.ListN.{drop, getD, length, length-map, set, take}
 use lib.Seq.{getD-take, length-take-le}
-use borrow.Author.Tests.{ne-eqb}
+use borrow.Author.Tests.{eq-eqb, lt-leb, ne-eqb}
 use Rattle.model.specs.Base.{numbers}
-use Rattle.model.specs.Edges.{Edge, at, oneNode, stepBy, updateOf, view}
+use Rattle.model.specs.Edges.{Edge, at, stepBy, updateOf, view}
 use Rattle.model.specs.Heap.{Heap}
 use Rattle.model.specs.Image.{heapOf}
 use Rattle.model.specs.Machine.{Action, action, answerOf, branch, carryOut, done, fault, follow, keep, kind, leak, link, make, perform, point, release, stay, target}
 use Rattle.model.specs.Notions.{Canon}
 use Rattle.model.specs.Records.{byte, guardBytes, locRecord, opCount, opOf, shapeOf, updateCode}
-use Rattle.model.specs.Shape.{Seg, segments, shape}
+use Rattle.model.specs.Shape.{Seg, segments}
 use Rattle.model.specs.Structs.{opIn, stmtIn}
 use Rattle.model.specs.declared.Decoded.{Decoded}
-use Rattle.model.specs.declared.EdgeMade.{EdgeMade}
 use Rattle.model.proofs.expansion.Facts.{kept-test}
 use Rattle.model.proofs.lists.Lists.{in-single, map-same, mem-in}
 use Rattle.model.proofs.lists.Logic.{bool-case, clash}
 use Rattle.model.proofs.lists.Numbers.{in-numbers, length-numbers, read-all}
-use Rattle.model.proofs.records.Ops.{each-op}
+use Rattle.model.proofs.records.Ops.{each-op, op-stops}
 use Rattle.model.proofs.shapes.Canon.{canon-fold, canon-segments, single}
 use Rattle.model.proofs.ways.Ways.{no-view}
+use Rattle.loss.specs.Loss.{keepsAt}
 use Rattle.update.proofs.Codes.{segment-update}
 use Rattle.update.specs.Codes.{plusBy, weightBy}
 use Rattle.way.proofs.Ready.{nodes-few, nodes-is, shape-is}
@@ -48,11 +49,11 @@ isStay (release u) = false
 
 stay-is : (a : Action) → isStay a ≡ true → a ≡ stay
 stay-is stay e = refl
-stay-is (point u s) e = clash refl e
-stay-is (follow u w) e = clash refl e
-stay-is (link u s) e = clash refl e
-stay-is (make u) e = clash refl e
-stay-is (release u) e = clash refl e
+stay-is (point u s) e = clash e refl
+stay-is (follow u w) e = clash e refl
+stay-is (link u s) e = clash e refl
+stay-is (make u) e = clash e refl
+stay-is (release u) e = clash e refl
 
 stays-op : (op u w : ℕ) → op < opCount → staysAt op ≡ true → action (opOf op u w) ≡ stay
 stays-op op u w lt e =
@@ -127,3 +128,9 @@ keep-leaves {l = l} {d = d} {y = y} t us a b le room be ae te codes s h R E e =
           ∙ ap (map (λ x. updateCode (update x))) (sym ss) ∙ sym (map-map updateCode update (segments h))
           ∙ ap (λ (x : Edge). map updateCode (x .updates)) q;
     }
+
+-- any other op that goes may change the heap
+pub changes-op : {l : List ℕ} {s : ℕ} {h : Heap} {y : Way} (d : Decoded) → WayReady l d s h y → d .op < 8 → keepsAt (d .op) ≡ false
+changes-op d R lt =
+    let z : d .op ≡ 0 → ⊥ = λ e. clash (op-stops (d .op) (d .u .0) (d .w .0) (R .statement .known) ∙ eq-eqb (d .op) 0 e) (R .goes) in
+    rw (ne-eqb (d .op) 0 z, lt-leb 8 (d .op) lt)

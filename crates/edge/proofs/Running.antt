@@ -1,13 +1,13 @@
 -- The run by a ready way: the opened image is one that the machine can run, and what the run gives is what the way's heap gives.
 use Prim.Native.Nat.{ℕ, zero, suc, _+_, _≤_}
 use mathlib.Core.Path.{_≡_, refl, sym, ap, subst, _∙_}
-use mathlib.Core.Bool.{true, false}
+use mathlib.Core.Bool.{true}
 use mathlib.Core.List.{List, [], _++_, map}
 use native.Mathlib.Omega.{arith}
 use lib.ListN.{drop, getD, length, length-drop, replicate, take}
 use lib.Seq.{length-take-le, take-at}
 use Rattle.model.specs.Heap.{Heap, Val, closed, null, sameVal, undef}
-use Rattle.model.specs.Image.{heapOf, pastEnd}
+use Rattle.model.specs.Image.{heapOf}
 use Rattle.model.specs.Machine.{Kind, action, acts, branch, branchBy, carryOut, halts, ifNull, ifSame, kind, picks, test}
 use Rattle.model.specs.Notions.{Room}
 use Rattle.model.specs.Records.{byte, shapeOf, valOf}
@@ -22,7 +22,6 @@ use Rattle.way.specs.Ready.{WayReady}
 use Rattle.way.specs.Way.{openedCount, openedHeap, wayIn}
 use Rattle.way.specs.declared.Way.{Way}
 use Rattle.edge.specs.WayRun.{WayRan}
-use Rattle.edge.specs.declared.Gone.{Gone}
 
 -- the pointers alone decide the branch
 pub branch-pointers : (k : Kind) (p : ℕ) (g h : Heap) → g .ptrs ≡ h .ptrs → branchBy k p g ≡ branchBy k p h

@@ -9,11 +9,9 @@ use model::Guards;
 use model::Statement;
 use update::Weights;
 use way::Way;
-ghost use Prim.Native.Nat.{_≤_};
 ghost use mathlib.Core.Path.{_≡_};
 ghost use mathlib.Core.Bool.{true};
 ghost use lib.ListN.{length, set};
-ghost use Rattle.model.specs.Records.{byte};
 ghost use Rattle.machine.specs.Run.{bytes};
 ghost use Rattle.edge.specs.Edge.{EdgeReady, LeavesBy};
 ghost use Rattle.edge.specs.WayRun.{FaultMade, RunsReady, WayRan, staysAt};
@@ -90,15 +88,17 @@ fn run_edge(
         &mut order,
         &mut seen,
     );
+    let guards = way.guards;
+    if gone.fault != 0 {
+        return fault_edge(location, gone.fault, guards, target);
+    }
     let n = gone.cells;
     let v = gone.visited;
-    if gone.fault != 0 {
-        return fault_edge(location, gone.fault, way.guards, target);
-    }
+    let node = way.node;
     let weights = Weights {
         nodes: location[3] as usize,
         split: way.split,
-        node: way.node,
+        node: node,
     };
     let m = leave(
         &pointers,
@@ -112,7 +112,7 @@ fn run_edge(
     record::write_head(target, 0x4c, statement::next_of(d, gone.branch), m);
     EdgeMade {
         branch: gone.branch,
-        guards: way.guards,
+        guards: guards,
         nodes: m,
     }
 }
@@ -140,9 +140,10 @@ fn keep_edge(
     let branch = effect::branch_of(d, way.pick, &location[4..10]);
     move_to(location, statement::next_of(d, branch), target);
     update::carry_updates(updates);
+    let guards = way.guards;
     EdgeMade {
         branch: branch,
-        guards: way.guards,
+        guards: guards,
         nodes: location[3] as usize,
     }
 }
