@@ -2,7 +2,8 @@
 ghost use mathlib.Core.Path.{_≡_};
 ghost use lib.ListN.{length};
 ghost use Rattle.model.specs.Base.{all};
-ghost use Rattle.model.specs.Records.{isZero, usesU, usesW, usesFirst, usesSecond, pointerField, targetBelow, fieldsS, targetsS, valueByte};
+ghost use Rattle.model.specs.Records.{isZero, usesU, usesW, usesFirst, usesSecond, valueByte};
+ghost use Rattle.model.specs.Records.{pointerField, targetBelow, fieldsS, targetsS};
 ghost use Rattle.layout.specs.Checked.{headH};
 
 // Whether all bytes are zero.

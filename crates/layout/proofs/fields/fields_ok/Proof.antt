@@ -6,7 +6,8 @@ use Rattle.layout.proofs.fields.fields_ok.Tie as tie
 
 returns : tie.Need-returns
 returns c =
-    let start = c .before .before .before .before .before .before .before .before .before .before .before .before .before .before in
+    let u = c .before .before .before .before .before .before .before .before .before in
+    let start = u .before .before .before .before .before in
     cc (part-from (start .args .rec .now) 6)
 
 pub fields-ok-spec : {M : Type 1} → statement M
