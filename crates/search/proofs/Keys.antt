@@ -1,7 +1,7 @@
 -- Bytes compared eight at a time: equal numbers have equal bytes, and equal bytes equal numbers.
 use Prim.Native.Nat.{ℕ, suc, _+_, _*_, _-_, _≤_, _<_}
 use mathlib.Core.Path.{_≡_, sym, ap, ap₂, subst, _∙_}
-use mathlib.Core.Bool.{true, false}
+use mathlib.Core.Bool.{true, false, _&&_}
 use mathlib.Core.List.{List}
 use native.Mathlib.Omega.{arith}
 use lib.Dec.{eqb, ltb}
@@ -10,9 +10,9 @@ use lib.ListN.{take, drop, getD, length}
 use lib.Seq.{take-all}
 use Rattle.model.specs.Base.{sameList}
 use Rattle.model.specs.Records.{word}
-use Rattle.model.proofs.lists.Logic.{bool-case, bool-ext, clash, not-true}
+use Rattle.model.proofs.lists.Logic.{bool-case, bool-ext, not-true}
 use Rattle.search.specs.Search.{fourAt, eightAt, keyAt}
-use Rattle.search.proofs.ListLaws.{Agree, agree-same, same-agree}
+use Rattle.search.proofs.ListLaws.{Agree, agree-same, same-agree, samePart, same-split}
 
 agree-at : (t : List ℕ) (a : ℕ) (r : List ℕ) (b n : ℕ) → Agree t a r b n → (k m : ℕ) → k + m ≤ n → Agree t (a + k) r (b + k) m
 agree-at t a r b n h k m q j l =
@@ -98,9 +98,8 @@ module _ (t r : List ℕ) (T : Bytes t) (R : Bytes r) where
       halves t a r b 4 (four-agree a b x) (four-agree (a + 4) (b + 4) y)
 
   -- parts of eight bytes are the same exactly where their numbers are
-  pub eight-is : (a b : ℕ) → a + 8 ≤ length t → b + 8 ≤ length r
-      → sameList eqb (take 8 (drop a t)) (take 8 (drop b r)) ≡ eqb (eightAt t a) (eightAt r b)
-  eight-is a b h k = bool-ext (sameList eqb (take 8 (drop a t)) (take 8 (drop b r))) (eqb (eightAt t a) (eightAt r b))
+  pub eight-is : (a b : ℕ) → a + 8 ≤ length t → b + 8 ≤ length r → samePart 8 t a r b ≡ eqb (eightAt t a) (eightAt r b)
+  eight-is a b h k = bool-ext (samePart 8 t a r b) (eqb (eightAt t a) (eightAt r b))
       (λ e. eq-eqb (eightAt t a) (eightAt r b) (eight-same t a r b (same-agree t a r b 8 e)))
       (λ e. agree-same t a r b 8 h k (eight-agree a b (eqb-true (eightAt t a) (eightAt r b) e)))
 
@@ -114,29 +113,14 @@ module _ (t : List ℕ) (a : ℕ) (r : List ℕ) (wide : length r ≡ 32) where
   record-agree : sameList eqb (take 32 (drop a t)) r ≡ true → Agree t a r 0 32
   record-agree e = same-agree t a r 0 32 (subst (λ z. sameList eqb (take 32 (drop a t)) z ≡ true) (sym whole) e)
 
-  -- the n bytes of the part from b on, k behind its start
-  pub part-same : (b k n : ℕ) → b ≡ a + k → a + 32 ≤ length t → k + n ≤ 32 → sameList eqb (take 32 (drop a t)) r ≡ true
-      → sameList eqb (take n (drop b t)) (take n (drop k r)) ≡ true
-  part-same b k n e l q w = agree-same t b r k n (omega arith) (omega arith) (λ j m.
-      let f : b + j ≡ a + (k + j) = omega arith in
-      let g : 0 + (k + j) ≡ k + j = omega arith in
-      ap (λ i. getD t i 0) f ∙ record-agree w (k + j) (omega arith) ∙ ap (λ i. getD r i 0) g)
-
-  pub part-differ : (b k n : ℕ) → b ≡ a + k → a + 32 ≤ length t → k + n ≤ 32 → sameList eqb (take n (drop b t)) (take n (drop k r)) ≡ false
-      → sameList eqb (take 32 (drop a t)) r ≡ false
-  part-differ b k n e l q d = not-true (sameList eqb (take 32 (drop a t)) r) (λ w. clash (part-same b k n e l q w) d)
-
   pub key-differ : (keyAt t a ≡ keyAt r 0 → ⊥) → sameList eqb (take 32 (drop a t)) r ≡ false
   key-differ h = not-true (sameList eqb (take 32 (drop a t)) r)
       (λ e. h (eight-same t (a + 1) r 1 (agree-at t a r 0 32 (record-agree e) 1 8 (omega arith))))
 
-  -- four parts that are the same
-  pub parts-same : a + 32 ≤ length t → sameList eqb (take 8 (drop a t)) (take 8 (drop 0 r)) ≡ true
-      → sameList eqb (take 8 (drop (a + 8) t)) (take 8 (drop 8 r)) ≡ true → sameList eqb (take 8 (drop (a + 16) t)) (take 8 (drop 16 r)) ≡ true
-      → sameList eqb (take 8 (drop (a + 24) t)) (take 8 (drop 24 r)) ≡ true → sameList eqb (take 32 (drop a t)) r ≡ true
-  parts-same l p q x y =
+  -- four parts of eight bytes
+  pub parts-same : sameList eqb (take 32 (drop a t)) r
+      ≡ (samePart 8 t a r 0 && samePart 8 t (a + 8) r 8) && (samePart 8 t (a + 16) r 16 && samePart 8 t (a + 24) r 24)
+  parts-same =
       let e : a + 16 + 8 ≡ a + 24 = omega arith in
-      let first : Agree t a r 0 16 = halves t a r 0 8 (same-agree t a r 0 8 p) (same-agree t (a + 8) r 8 8 q) in
-      let second : Agree t (a + 16) r 16 16 =
-      halves t (a + 16) r 16 8 (same-agree t (a + 16) r 16 8 x) (subst (λ i. Agree t i r 24 8) (sym e) (same-agree t (a + 24) r 24 8 y)) in
-      subst (λ z. sameList eqb (take 32 (drop a t)) z ≡ true) whole (agree-same t a r 0 32 l (omega arith) (halves t a r 0 16 first second))
+      ap (sameList eqb (take 32 (drop a t))) (sym whole) ∙ same-split 16 16 t a r 0
+      ∙ ap₂ _&&_ (same-split 8 8 t a r 0) (same-split 8 8 t (a + 16) r 16 ∙ rw e)
