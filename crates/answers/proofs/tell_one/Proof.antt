@@ -2,8 +2,8 @@
 use mathlib.Core.Path.{sym}
 use lib.Seq.{set-out}
 use borrow.Author.Needs.{needs}
-use Rattle.automaton.proofs.export.tell_one.Statement.{statement}
-use Rattle.automaton.proofs.export.tell_one.Tie as tie
+use Rattle.answers.proofs.tell_one.Statement.{statement}
+use Rattle.answers.proofs.tell_one.Tie as tie
 
 returns-2 : tie.Need-returns-2
 returns-2 c =

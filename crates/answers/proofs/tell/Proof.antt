@@ -4,8 +4,8 @@ use mathlib.Core.Path.{ap, _∙_}
 use mathlib.Core.List.{List}
 use lib.ListN.{set}
 use borrow.Author.Needs.{needs}
-use Rattle.automaton.proofs.export.tell.Statement.{statement}
-use Rattle.automaton.proofs.export.tell.Tie as tie
+use Rattle.answers.proofs.tell.Statement.{statement}
+use Rattle.answers.proofs.tell.Tie as tie
 
 returns : tie.Need-returns
 returns c =
