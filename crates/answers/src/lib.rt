@@ -4,7 +4,7 @@ use model::Stepped;
 ghost use mathlib.Core.Path.{_≡_};
 ghost use Prim.Native.Nat.{min};
 ghost use lib.ListN.{set};
-ghost use Rattle.model.specs.Answers.{refusalOf, stepAnswerOf, stepNumbers, verdictOf};
+ghost use Rattle.model.specs.Answers.{stepAnswerOf, stepNumbers, verdictOf};
 ghost use Rattle.model.specs.Image.{stepVerdict};
 ghost use Rattle.answers.specs.Numbers.{over, told, IsTold};
 

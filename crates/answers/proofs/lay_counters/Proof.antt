@@ -1,5 +1,5 @@
 -- `lay_counters` meets its contract: after i turns the first i elements are laid.
-use Prim.Native.Nat.{_≤_, _<_, _-_, min}
+use Prim.Native.Nat.{_≤_, _-_, min}
 use mathlib.Core.Path.{_≡_, ap, _∙_}
 use native.Mathlib.Omega.{arith}
 use lib.ListN.{length, getD, set, length-set}

@@ -1,4 +1,4 @@
--- `image::unfold` meets its contract: a refusal leaves all, and without one the image is spread. Assumes nothing.
+-- `unfold` meets its contract: a refusal leaves all, and without one the image is spread.
 use borrow.Author.Needs.{needs}
 use Rattle.heap_operations.proofs.UnfoldLaws.{spread-ready, unfold-done, unfold-refused}
 use Rattle.heap_operations.proofs.unfold.Statement.{statement}
