@@ -1,12 +1,13 @@
--- The plain step by its parts: the run on copies, and the answer of each case.
+-- The plain step by its parts: the run, and the answer of each case.
 use Prim.Native.Nat.{ℕ, zero, suc, _<_, _≤_}
 use native.Mathlib.Omega.{arith}
 use mathlib.Core.Path.{_≡_, refl, sym, ap, ap₂, subst, _∙_}
 use mathlib.Core.Bool.{Bool, true, false, _&&_, cond, not}
-use mathlib.Core.List.{List, [], _∷_}
+use mathlib.Core.List.{List, [], _∷_, _++_}
 use mathlib.Core.Logic.{inl}
 use lib.Dec.{eqb, leb}
-use lib.ListN.{length, replicate, getD-replicate, length-map}
+use lib.ListN.{drop, length, replicate, take, getD-replicate, length-map}
+use lib.Seq.{take-at, take-length}
 use borrow.Author.Tests.{leb-false, ne-eqb, not-true}
 use Rattle.model.specs.Heap.{Heap, inUse, next}
 use Rattle.model.specs.Machine.{Answer, done, Stmt, accepts, answerOf, branch, kind, carryOut, target, unlessStop, step, entry}
@@ -25,6 +26,13 @@ use Rattle.image_checks.proofs.StepChecks.{checked-fields, checked-image}
 use Rattle.plain_step.specs.Step.{Finished, RunOn, StepReady, decoded, opIn, stmtIn}
 
 -- ---- the run
+
+-- a list kept aside at the front of another
+pub kept-front : (xs zs : List ℕ) {m : List ℕ} → m ≡ take (length xs) xs ++ drop (length xs) zs
+    → take (length xs) m ≡ xs
+kept-front xs zs e =
+    let t = take-length xs in
+    ap (take (length xs)) e ∙ take-at (take (length xs) xs) (drop (length xs) zs) (length xs) (ap length t) ∙ t
 
 -- a fault says nothing of the heap
 fault-any : (f : ℕ) (g h : Heap) → effectOf (suc f) g ≡ effectOf (suc f) h
@@ -50,31 +58,17 @@ module _ {d : Decoded} {x : ℕ} {ps cs : List ℕ} where
       → RunOn d x ps cs f qs ds
   ran-on r = record { outcome = r .outcome; low = r .known }
 
-  -- on the copies vs, ws, which become qs, ds
-  module _ {vs ws : List ℕ} (e : (vs ≡ ps) × (ws ≡ cs)) where
-    pub copies-ready : StepReady d x ps cs → StepReady d x vs ws
-    copies-ready s = subst (λ y. StepReady d x vs y) (sym (e .1)) (subst (λ y. StepReady d x y cs) (sym (e .0)) s)
-
-    on-image : {f : ℕ} {qs ds : List ℕ} → RunOn d x vs ws f qs ds → RunOn d x ps cs f qs ds
-    on-image r = record {
-      outcome = r .outcome ∙ ap₂ (λ y z. carryOut (opIn d) x (heapOf y z)) (e .0) (e .1);
-      low = r .low;
-    }
-
-    pub copies-back : {qs ds : List ℕ} (f : ℕ) → RunOn d x vs ws f qs ds → {ps′ cs′ : List ℕ}
-        → (ps′ ≡ cond (eqb f 0) qs ps) × (cs′ ≡ cond (eqb f 0) ds cs) → Finished d x ps cs f ps′ cs′
-    copies-back zero r {ps′} {cs′} (p, q) =
-        let i = on-image r in
-        record {
-          ran = record { outcome = ap₂ (λ y z. done (heapOf y z)) p q ∙ i .outcome; low = i .low };
-          stays = λ n. absurd (n refl);
-        }
-    copies-back {qs} {ds} (suc f) r {ps′} {cs′} (p, q) =
-        let i = on-image r in
-        record {
-          ran = record { outcome = fault-any f (heapOf ps′ cs′) (heapOf qs ds) ∙ i .outcome; low = i .low };
-          stays = λ n. (p ∙ rw (ne-eqb (suc f) 0 n), q ∙ rw (ne-eqb (suc f) 0 n));
-        }
+  -- the image vs, ws, kept aside, is put back at a fault
+  pub put-back : {vs ws : List ℕ} → (vs ≡ ps) × (ws ≡ cs) → {qs ds : List ℕ} (f : ℕ) → RunOn d x ps cs f qs ds
+      → {ps′ cs′ : List ℕ} → (ps′ ≡ cond (eqb f 0) qs vs) × (cs′ ≡ cond (eqb f 0) ds ws) → Finished d x ps cs f ps′ cs′
+  put-back e zero r (p, q) = record {
+    ran = record { outcome = ap₂ (λ y z. done (heapOf y z)) p q ∙ r .outcome; low = r .low };
+    stays = λ n. absurd (n refl);
+  }
+  put-back e {qs} {ds} (suc f) r {ps′} {cs′} (p, q) = record {
+    ran = record { outcome = fault-any f (heapOf ps′ cs′) (heapOf qs ds) ∙ r .outcome; low = r .low };
+    stays = λ n. (p ∙ rw (ne-eqb (suc f) 0 n) (e .0), q ∙ rw (ne-eqb (suc f) 0 n) (e .1));
+  }
 
 -- ---- the answer
 
@@ -224,4 +218,5 @@ module _ {r : List ℕ} {p c : ℕ} {ps cs : List ℕ} {d : Decoded} (C : Checke
             let st = stmtIn d in
             let to = branch (opIn d) p (heapOf ps cs) in
             let x : ℕ → ℕ → Stepping = λ i j. record { answer = toNext i j; ptrBytes = qs; cellBytes = ds } in
-            ap (x b) h ∙ ap (λ i. x i (target st i)) (g cs) ∙ ran (x to (target st to)) (went-answer st to f qs ds ps cs z)
+            ap (x b) h ∙ ap (λ i. x i (target st i)) (g cs)
+            ∙ ran (x to (target st to)) (went-answer st to f qs ds ps cs z)

@@ -1,4 +1,4 @@
-// The plain step on an image that passed the checks: the statement is run on copies, which go back where there is no fault.
+// The plain step on an image that passed the checks. The image is kept aside, and put back where the run has a fault.
 use image_checks::entry_ok;
 use model::Decoded;
 use model::Pointer;
@@ -14,30 +14,11 @@ ghost use Rattle.model.specs.Machine.{target};
 ghost use Rattle.model.specs.Records.{firstFailed};
 ghost use Rattle.plain_step.specs.Step.{decoded, stmtIn, StepReady, RunOn, Finished};
 
-// Copies an image over another of its lengths.
-fn copy_image(pointers: &[u8], cells: &[u8], ps: &mut [u8], cs: &mut [u8])
-    requires { ⌜ (length (now ps) ≡ length (now pointers)) × (length (now cs) ≡ length (now cells)) ⌝ }
-    ensures { λ _. ⌜ (now (ps .exit) ≡ now (pointers .entry)) × (now (cs .exit) ≡ now (cells .entry)) ⌝ }
-{
-    bytes::copy(pointers, ps);
-    bytes::copy(cells, cs);
-}
-
-// The same where a run had no fault.
-fn copy_if_done(fault: u8, pointers: &[u8], cells: &[u8], ps: &mut [u8], cs: &mut [u8])
-    requires { ⌜ (length (now ps) ≡ length (now pointers)) × (length (now cs) ≡ length (now cells)) ⌝ }
-    ensures { λ _. ⌜ (now (ps .exit) ≡ cond (eqb fault 0) (now (pointers .entry)) (now (ps .entry)))
-        × (now (cs .exit) ≡ cond (eqb fault 0) (now (cells .entry)) (now (cs .entry))) ⌝ }
-{
-    if fault == 0 {
-        copy_image(pointers, cells, ps, cs);
-    }
-}
-
 // Runs a statement on the image, and answers the fault (0 for none).
 fn run_on(d: Decoded, x: usize, pointers: &mut [u8], cells: &mut [u8]) -> u8
     requires { ⌜ StepReady d x (now pointers) (now cells) ⌝ }
-    ensures { λ r. ⌜ RunOn d x (now (pointers .entry)) (now (cells .entry)) r (now (pointers .exit)) (now (cells .exit)) ⌝ }
+    ensures { λ r. ⌜ RunOn d x (now (pointers .entry)) (now (cells .entry))
+        r (now (pointers .exit)) (now (cells .exit)) ⌝ }
 {
     let mut order = [0u8; 240];
     let mut seen = [0u8; 240];
@@ -45,34 +26,49 @@ fn run_on(d: Decoded, x: usize, pointers: &mut [u8], cells: &mut [u8]) -> u8
     ran.fault
 }
 
-// Runs a statement on copies of the image, ps and cs, which go back only without a fault.
-fn run_copies(
+// Puts the image ps, cs back where a run had a fault.
+fn restore(fault: u8, ps: &[u8], cs: &[u8], pointers: &mut [u8], cells: &mut [u8])
+    requires { ⌜ (length (now pointers) ≡ length (now ps)) × (length (now cells) ≡ length (now cs)) ⌝ }
+    ensures { λ _. ⌜ (now (pointers .exit) ≡ cond (eqb fault 0) (now (pointers .entry)) (now (ps .entry)))
+        × (now (cells .exit) ≡ cond (eqb fault 0) (now (cells .entry)) (now (cs .entry))) ⌝ }
+{
+    if fault != 0 {
+        bytes::copy(ps, pointers);
+        bytes::copy(cs, cells);
+    }
+}
+
+// Runs a statement on the image, of which ps and cs are a copy, so that a fault leaves it.
+fn run_saved(
     d: Decoded,
     x: usize,
     pointers: &mut [u8],
     cells: &mut [u8],
-    ps: &mut [u8],
-    cs: &mut [u8],
+    ps: &[u8],
+    cs: &[u8],
 ) -> u8
     requires { ⌜ StepReady d x (now pointers) (now cells) ⌝ }
-    requires { ⌜ (length (now ps) ≡ length (now pointers)) × (length (now cs) ≡ length (now cells)) ⌝ }
-    ensures { λ r. ⌜ Finished d x (now (pointers .entry)) (now (cells .entry)) r (now (pointers .exit)) (now (cells .exit)) ⌝ }
+    requires { ⌜ (now ps ≡ now pointers) × (now cs ≡ now cells) ⌝ }
+    ensures { λ r. ⌜ Finished d x (now (pointers .entry)) (now (cells .entry))
+        r (now (pointers .exit)) (now (cells .exit)) ⌝ }
 {
-    copy_image(&pointers[..], &cells[..], ps, cs);
-    let fault = run_on(d, x, ps, cs);
-    copy_if_done(fault, &ps[..], &cs[..], pointers, cells);
+    let fault = run_on(d, x, pointers, cells);
+    restore(fault, ps, cs, pointers, cells);
     fault
 }
 
 // Runs a statement so that a fault leaves the image.
 fn run_statement(d: Decoded, x: usize, pointers: &mut [u8], cells: &mut [u8]) -> u8
     requires { ⌜ StepReady d x (now pointers) (now cells) ⌝ }
-    ensures { λ r. ⌜ Finished d x (now (pointers .entry)) (now (cells .entry)) r (now (pointers .exit)) (now (cells .exit)) ⌝ }
+    ensures { λ r. ⌜ Finished d x (now (pointers .entry)) (now (cells .entry))
+        r (now (pointers .exit)) (now (cells .exit)) ⌝ }
 {
     let n = cells.len();
     let mut ps = [0u8; 6];
     let mut cs = [0u8; 240];
-    run_copies(d, x, pointers, cells, &mut ps, &mut cs[..n])
+    bytes::copy(&pointers[..], &mut ps);
+    bytes::copy(&cells[..], &mut cs);
+    run_saved(d, x, pointers, cells, &ps, &cs[..n])
 }
 
 // The fields of a record of 32 bytes.

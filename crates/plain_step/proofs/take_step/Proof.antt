@@ -61,7 +61,8 @@ returns-4 c =
     let t = n .before .before in
     let e = t .before in
     step-went (checked (e .before .before)) (e .entry-ok .ensures) (not-false _ (t .if1 .left)) (n .if2 .left)
-    (r .run-statement .ensures) (c .before .if3 .left) (r .before .before .before .branch-of .ensures) (c .next-of .ensures)
+    (r .run-statement .ensures) (c .before .if3 .left)
+    (r .before .before .before .branch-of .ensures) (c .next-of .ensures)
 
 pub take-step-spec : {M : Type 1} → statement M
 take-step-spec =
