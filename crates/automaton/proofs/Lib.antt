@@ -2,4 +2,3 @@ pub mod Starts
 pub mod Outcomes
 pub mod Listed
 pub mod Answers
-pub mod Telling

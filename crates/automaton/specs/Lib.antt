@@ -1,2 +1,1 @@
 pub mod Starts
-pub mod Told

@@ -1,6 +1,4 @@
 // The translator: a routine in records to its locations and edges, in two lent tables.
-pub mod export;
-
 use explore::Explored;
 use input::Checked;
 use model::Statement;

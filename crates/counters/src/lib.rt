@@ -5,7 +5,6 @@ ghost use lib.Dec.{leb};
 ghost use lib.ListN.{length};
 ghost use Rattle.model.specs.Base.{all, sum};
 ghost use Rattle.model.specs.Image.{countersFit, countsFit};
-ghost use Rattle.model.specs.Records.{isZero};
 
 // Whether each counter is at least 1.
 fn all_positive(counters: &[u32]) -> bool
@@ -21,23 +20,9 @@ fn all_positive(counters: &[u32]) -> bool
     true
 }
 
-// Whether each counter is 0.
-fn all_zero(counters: &[u32]) -> bool
-    ensures { λ r. ⌜ r ≡ all isZero (now (counters .entry)) ⌝ }
-{
-    let mut i = 0;
-    while i < counters.len() {
-        if counters[i] != 0 {
-            return false;
-        }
-        i += 1;
-    }
-    true
-}
-
-// The number of cells that twelve counters ask for: it fits, since each has 32 bits.
+// The number of cells that at most twelve counters ask for: it fits, since each has 32 bits.
 fn total(counters: &[u32]) -> u64
-    requires { ⌜ length (now counters) ≡ 12 ⌝ }
+    requires { ⌜ length (now counters) ≤ 12 ⌝ }
     ensures { λ r. ⌜ r ≡ sum (λ v. v) (now (counters .entry)) ⌝ }
 {
     let mut t: u64 = 0;
@@ -49,17 +34,12 @@ fn total(counters: &[u32]) -> u64
     t
 }
 
-// Whether twelve counters fit k nodes and n cells.
+// Whether twelve counters fit k nodes and n cells: each node has a cell, and the counters past them ask for none.
 fn counts_fit(k: usize, counters: &[u32], n: usize) -> bool
     requires { ⌜ (length (now counters) ≡ 12) × (k ≤ 12) ⌝ }
     ensures { λ r. ⌜ r ≡ countsFit k (now (counters .entry)) n ⌝ }
 {
-    if all_positive(&counters[..k]) {
-        if all_zero(&counters[k..]) {
-            return total(counters) <= n as u64;
-        }
-    }
-    false
+    all_positive(&counters[..k]) & (total(&counters[k..]) == 0) & (total(counters) <= n as u64)
 }
 
 // Whether the counters are twelve, and fit k nodes and n cells.

@@ -1,52 +1,39 @@
 // The calls for Rust and C: a slice passes as a pointer and a length. Answers are written over the start of the lent slices, as far
 // as these reach. Each call answers the refusal's number, 0 for none, and writes its place. What a call writes must not overlap with
 // anything else that is lent to it: the contracts are about slices that are apart.
-use model::Ended;
-use model::Stepped;
-ghost use mathlib.Core.Path.{_≡_};
-ghost use Rattle.model.specs.Answers.{refusalOf, stepAnswerOf, stepNumbers, verdictOf};
-ghost use Rattle.model.specs.Image.{foldImage, stepImage, stepVerdict, unfoldImage};
-ghost use Rattle.currantplane.specs.Over.{over, IsFolded, IsStepped, IsUnfolded};
+use answers::lay;
+use answers::lay_counters;
+use answers::step_ended;
+use answers::step_numbers;
+use answers::tell;
+use answers::tell_ended;
+use model::Translated;
+ghost use lib.ListN.{length};
+ghost use Rattle.model.specs.Image.{foldImage, stepImage, unfoldImage};
+ghost use Rattle.currantplane.specs.Calls.{IsFolded, IsStepped, IsTranslated, IsUnfolded};
 
-fn lay(from: &[u8], to: &mut [u8])
-    ensures { λ _. ⌜ now (to .exit) ≡ over (now (from .entry)) (now (to .entry)) ⌝ }
+// Writes the refusal's place, the number of locations and the number of edges over `answer`.
+#[no_mangle]
+pub extern "C" fn currantplane_translate(
+    input: &[u8],
+    locations: &mut [u8],
+    edges: &mut [u8],
+    answer: &mut [usize],
+) -> u8
+    ensures { λ r. ⌜ IsTranslated (now (input .entry)) (length (now (locations .entry))) (length (now (edges .entry))) (now (answer .entry)) r (now (answer .exit)) (now (locations .exit)) (now (edges .exit)) ⌝ }
 {
-    if from.len() <= to.len() {
-        bytes::copy(from, to);
-        return;
-    }
-    let n = to.len();
-    bytes::copy(&from[..n], to);
-}
-
-fn lay_counters(from: &[u32], to: &mut [u32])
-    ensures { λ _. ⌜ now (to .exit) ≡ over (now (from .entry)) (now (to .entry)) ⌝ }
-{
-    let mut i = 0;
-    while i < from.len() {
-        if to.len() <= i {
-            return;
+    match automaton::translate(input, locations, edges) {
+        Translated::Listed {
+            locations: a,
+            edges: b,
+        } => {
+            tell(answer, 0, a, b);
+            0
         }
-        to[i] = from[i];
-        i += 1;
-    }
-}
-
-fn number_of(ended: Ended) -> u8
-    ensures { λ r. ⌜ r ≡ refusalOf (verdictOf ended) .number ⌝ }
-{
-    match ended {
-        Ended::Accepted => 0,
-        Ended::Refused { number, place: _ } => number,
-    }
-}
-
-fn place_of(ended: Ended) -> usize
-    ensures { λ r. ⌜ r ≡ refusalOf (verdictOf ended) .place ⌝ }
-{
-    match ended {
-        Ended::Accepted => 0,
-        Ended::Refused { number: _, place } => place,
+        Translated::Refused { number, place } => {
+            tell(answer, place, 0, 0);
+            number
+        }
     }
 }
 
@@ -61,13 +48,10 @@ pub extern "C" fn currantplane_fold(
     ensures { λ r. ⌜ IsFolded (foldImage (now (pointers .entry)) (now (cells .entry))) r (now (place .exit)) (now (shape .exit)) (now (shape .entry)) (now (counters .exit)) (now (counters .entry)) ⌝ }
 {
     let folded = heap_operations::fold(pointers, cells);
-    let record = folded.shape;
-    let counts = folded.counters;
+    lay(&folded.shape, shape);
+    lay_counters(&folded.counters, counters);
     let ended = folded.ended;
-    lay(&record, shape);
-    lay_counters(&counts, counters);
-    *place = place_of(ended);
-    number_of(ended)
+    tell_ended(ended, place)
 }
 
 #[no_mangle]
@@ -81,34 +65,7 @@ pub extern "C" fn currantplane_unfold(
     ensures { λ r. ⌜ IsUnfolded (unfoldImage (now (shape .entry)) (now (counters .entry)) (now (pointers .entry)) (now (cells .entry))) r (now (place .exit)) (now (pointers .exit)) (now (cells .exit)) ⌝ }
 {
     let ended = heap_operations::unfold(shape, counters, pointers, cells);
-    *place = place_of(ended);
-    number_of(ended)
-}
-
-// The fault, 1 for a stop, the branch and the next statement.
-fn step_numbers(stepped: Stepped) -> [u8; 4]
-    ensures { λ r. ⌜ r ≡ stepNumbers (stepAnswerOf stepped) ⌝ }
-{
-    match stepped {
-        Stepped::Went { branch, next } => [0, 0, branch, next.0],
-        Stepped::Faulted { fault } => [fault, 0, 0, 0],
-        Stepped::Stopped => [0, 1, 0, 0],
-        Stepped::Refused {
-            number: _,
-            place: _,
-        } => [0, 0, 0, 0],
-    }
-}
-
-fn step_ended(stepped: Stepped) -> Ended
-    ensures { λ r. ⌜ verdictOf r ≡ stepVerdict (stepAnswerOf stepped) ⌝ }
-{
-    match stepped {
-        Stepped::Went { branch: _, next: _ } => Ended::Accepted,
-        Stepped::Faulted { fault: _ } => Ended::Accepted,
-        Stepped::Stopped => Ended::Accepted,
-        Stepped::Refused { number, place } => Ended::Refused { number, place },
-    }
+    tell_ended(ended, place)
 }
 
 // Writes the fault, 1 for a stop, the branch and the next statement over `answer`.
@@ -127,7 +84,5 @@ pub extern "C" fn currantplane_step(
     let stepped = heap_operations::step(pointers, cells, statement, pick, cell);
     let numbers = step_numbers(stepped);
     lay(&numbers, answer);
-    let ended = step_ended(stepped);
-    *place = place_of(ended);
-    number_of(ended)
+    tell_ended(step_ended(stepped), place)
 }

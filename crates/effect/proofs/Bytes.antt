@@ -8,7 +8,8 @@ use lib.Dec.{eqb}
 use lib.ListN.{getD, length, length-map, set}
 use borrow.Author.Tests.{leb-false, eqb-true, ne-eqb}
 use Rattle.model.specs.Heap.{Val, Slot, unused, holds, Heap, ptr, next, closed, undef}
-use Rattle.model.specs.Machine.{Effect, done, put, putSlot, setPtr, held, wipe, wipeSlot, freeVal, make, perform, action}
+use Rattle.model.specs.Machine.{Effect, done, put, putSlot, setPtr, held, wipe, wipeSlot, freeVal, make, perform}
+use Rattle.model.specs.Machine.{action}
 use Rattle.model.specs.Records.{valOf, opOf}
 use Rattle.model.specs.Image.{cellSlot, heapOf, pastEnd}
 use Rattle.model.proofs.records.Bytes.{val-cell}
@@ -45,7 +46,8 @@ ptr-named : (ps cs : List ℕ) (u : ℕ) → closed (heapOf ps cs) ≡ true → 
 ptr-named ps cs u k h p q =
     let e = ptr-byte ps cs u h ∙ val-cell (getD ps u 0) p q in
     used-named ps cs (getD ps u 0)
-    (subst (Closed (next (heapOf ps cs))) e (closed-ptr (next (heapOf ps cs)) (heapOf ps cs .ptrs) u (test-closed (heapOf ps cs) k .0)))
+    (subst (Closed (next (heapOf ps cs))) e
+    (closed-ptr (next (heapOf ps cs)) (heapOf ps cs .ptrs) u (test-closed (heapOf ps cs) k .0)))
 
 -- a value's byte is not that of a cell not in use
 value-byte : (cs : List ℕ) (b : ℕ) → length cs ≤ 240 → Named cs b → b ≡ 0xfd → ⊥
@@ -91,7 +93,8 @@ put-set (x ∷ l) (suc c) s h = ap (λ r. x ∷ r) (put-set l c s (omega arith))
 
 -- one cell byte is one slot
 put-byte : (cs : List ℕ) (c b : ℕ) → c < length cs → map cellSlot (set cs c b) ≡ put (map cellSlot cs) c (cellSlot b)
-put-byte cs c b h = map-set cellSlot cs c b ∙ sym (put-set (map cellSlot cs) c (cellSlot b) (omega (arith, length-map cs cellSlot)))
+put-byte cs c b h =
+    map-set cellSlot cs c b ∙ sym (put-set (map cellSlot cs) c (cellSlot b) (omega (arith, length-map cs cellSlot)))
 
 pub set-ran : (ps cs : List ℕ) (u v : ℕ) → HasEffect (assigned u (valOf v)) ps cs 0 (set ps u v) cs
 set-ran ps cs u v = record {
@@ -99,20 +102,24 @@ set-ran ps cs u v = record {
   stays = λ z. absurd (z refl);
 }
 
-pub new-ran : (ps cs : List ℕ) (u x : ℕ) → x < length cs → length cs ≤ 240 → HasEffect (perform (make u) x) ps cs 0 (set ps u x) (set cs x 0xff)
+pub new-ran : (ps cs : List ℕ) (u x : ℕ) → x < length cs → length cs ≤ 240
+    → HasEffect (perform (make u) x) ps cs 0 (set ps u x) (set cs x 0xff)
 new-ran ps cs u x h l = record {
   outcome = ap₂ (λ vs ss. done (heap vs ss))
-      (map-set valOf ps u x ∙ ap (set (map valOf ps) u) (val-cell x (λ e. omega arith) (λ e. omega arith))) (put-byte cs x 0xff h);
+      (map-set valOf ps u x ∙ ap (set (map valOf ps) u) (val-cell x (λ e. omega arith) (λ e. omega arith)))
+      (put-byte cs x 0xff h);
   stays = λ z. absurd (z refl);
 }
 
 -- ---- through a value
 
 pub access-null : (v : ℕ) → v ≡ 0xfe → Access v 1
-access-null v e = record { faults = λ z h k. rw e; notNull = λ z. absurd (omega arith); notUndef = λ z. absurd (omega arith) }
+access-null v e =
+    record { faults = λ z h k. rw e; notNull = λ z. absurd (omega arith); notUndef = λ z. absurd (omega arith) }
 
 pub access-undef : (v : ℕ) → v ≡ 0xff → Access v 2
-access-undef v e = record { faults = λ z h k. rw e; notNull = λ z. absurd (omega arith); notUndef = λ z. absurd (omega arith) }
+access-undef v e =
+    record { faults = λ z h k. rw e; notNull = λ z. absurd (omega arith); notUndef = λ z. absurd (omega arith) }
 
 pub access-cell : (v : ℕ) → (v ≡ 0xfe → ⊥) → (v ≡ 0xff → ⊥) → Access v 0
 access-cell v p q = record { faults = λ z. absurd (z refl); notNull = λ z. p; notUndef = λ z. q }
@@ -124,7 +131,8 @@ load-fault ps cs u v r a z = record {
   stays = λ y. (refl, refl);
 }
 
-pub store-fault : (ps cs : List ℕ) (a v r : ℕ) → Access a r → (r ≡ 0 → ⊥) → HasEffect (stored (valOf a) (valOf v)) ps cs r ps cs
+pub store-fault : (ps cs : List ℕ) (a v r : ℕ) → Access a r → (r ≡ 0 → ⊥)
+    → HasEffect (stored (valOf a) (valOf v)) ps cs r ps cs
 store-fault ps cs a v r b z = record {
   outcome = b .faults z (heapOf ps cs) (λ c. putSlot c (holds (valOf v)) (heapOf ps cs));
   stays = λ y. (refl, refl);
@@ -140,7 +148,11 @@ load-cell ps cs u v f r qs a z n x =
     let p = a .notNull z in
     let q = a .notUndef z in
     let k = n p q in
-    record { outcome = rw (val-cell v p q, next-byte ps cs v (k .0), used-slot (getD cs v 0) (k .1)) (x .outcome); stays = x .stays }
+    record {
+      outcome = rw (val-cell v p q, next-byte ps cs v (k .0), used-slot (getD cs v 0) (k .1))
+          (x .outcome);
+      stays = x .stays;
+    }
 
 pub store-cell : (ps cs : List ℕ) (a v f : ℕ) → Access a f → f ≡ 0 → Named cs a → (v ≡ 0xfd → ⊥)
     → HasEffect (stored (valOf a) (valOf v)) ps cs 0 ps (set cs a v)
@@ -149,7 +161,8 @@ store-cell ps cs a v f b z n y =
     let q = b .notUndef z in
     record {
       outcome = rw (val-cell a p q)
-          (ap (λ ss. done (heap (map valOf ps) ss)) (put-byte cs a v (n p q .0) ∙ ap (put (map cellSlot cs) a) (used-slot v y)));
+          (ap (λ ss. done (heap (map valOf ps) ss))
+          (put-byte cs a v (n p q .0) ∙ ap (put (map cellSlot cs) a) (used-slot v y)));
       stays = λ o. absurd (o refl);
     }
 
@@ -191,6 +204,7 @@ free-cell ps cs a p q n l =
     let k = put-byte (map (wipeByte a) cs) a 0xfd (omega (arith, n p q .0, length-map cs (wipeByte a))) in
     record {
       outcome = rw (val-cell a p q)
-          (ap₂ (λ vs ss. done (heap vs ss)) (wipe-vals a ps small) (k ∙ ap (λ ss. put ss a unused) (wipe-slots a cs small)));
+          (ap₂ (λ vs ss. done (heap vs ss)) (wipe-vals a ps small)
+          (k ∙ ap (λ ss. put ss a unused) (wipe-slots a cs small)));
       stays = λ z. absurd (z refl);
     }

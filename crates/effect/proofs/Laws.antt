@@ -1,5 +1,5 @@
--- Laws of effects on heap images: an image's bytes are those of its heap; an effect that is done leaves a closed heap with as many slots;
--- what the number answered says.
+-- Laws of effects on heap images: an image's bytes are those of its heap; an effect that is done leaves a closed heap
+-- with as many slots; what the number answered says.
 use Prim.Native.Nat.{ℕ, zero, suc}
 use mathlib.Core.Path.{_∙_, _≡_, ap, ap₂, refl, subst, sym}
 use mathlib.Core.Bool.{true, false}
@@ -82,7 +82,8 @@ effect-closed a n h g c r e =
 pub effect-slots : (a : Action) (n : ℕ) (h g : Heap) → closed h ≡ true → pastEnd a n (length (h .slots)) ≡ false
     → perform a n h ≡ done g → length (g .slots) ≡ length (h .slots)
 effect-slots a n h g c q e =
-    subst (SlotsAre (length (h .slots))) e (leaves-slots a n h q (perform a n h) (effect-leaves a n h (test-closed h c)))
+    subst (SlotsAre (length (h .slots))) e
+    (leaves-slots a n h q (perform a n h) (effect-leaves a n h (test-closed h c)))
 
 -- the same of an image: there are as many slots as cell bytes
 pub image-slots : (a : Action) (n : ℕ) (ps cs : List ℕ) (g : Heap) → closed (heapOf ps cs) ≡ true

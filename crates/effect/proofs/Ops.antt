@@ -1,4 +1,4 @@
--- Ops by their numbers: those that leave the heap, and those that take branch 0; values are equal where their bytes are.
+-- Ops by their numbers: those that leave the heap, those that take branch 0. Values are equal where their bytes are.
 use Prim.Native.Nat.{zero, ℕ, _<_, _≤_, suc, _+_}
 use mathlib.Core.Path.{_∙_, _≡_, ap, refl, sym}
 use native.Mathlib.Omega.{arith}

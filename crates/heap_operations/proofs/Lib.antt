@@ -1,4 +1,2 @@
-pub mod ImageLaws
+pub mod FoldLaws
 pub mod UnfoldLaws
-pub mod EntryLaws
-pub mod StepLaws

@@ -1,21 +1,18 @@
 // The three calls on heap images: folding, unfolding and the plain step. They take any bytes and lengths: each tests, and answers a
 // refusal, before it works. What they answer, and every byte afterwards, is the definition's.
-mod checks;
-mod steps;
-
-use checks::check_image;
-use checks::step_refusal;
-use checks::unfold_refusal;
+use image_checks::check_image;
+use image_checks::step_refusal;
+use image_checks::unfold_refusal;
 use model::Ended;
 use model::Folded;
 use model::Statement;
 use model::Stepped;
-use steps::take_step;
+use plain_step::take_step;
 ghost use Prim.Native.Nat.{_-_};
 ghost use mathlib.Core.Path.{_≡_};
 ghost use Rattle.model.specs.Answers.{foldingOf, unfoldingOf, steppingOf};
 ghost use Rattle.model.specs.Image.{heapOf, foldImage, unfoldImage, stepImage};
-ghost use Rattle.heap_operations.specs.StepAndFold.{FoldReady, foldedHeap};
+ghost use Rattle.heap_operations.specs.Fold.{FoldReady, foldedHeap};
 
 // Folds a heap whose visit order and counts of holders are given. Sizes past the nodes stay zero.
 fn fold_heap(pointers: &[u8], cells: &[u8], order: &[u8], n: usize, held: &[u8]) -> Folded

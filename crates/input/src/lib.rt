@@ -28,13 +28,7 @@ pub enum Checked {
 fn kind_fits(after: bool, tag: u8) -> bool
     ensures { λ r. ⌜ r ≡ kindFits after tag ⌝ }
 {
-    if tag == 0x48 {
-        return true;
-    }
-    if tag == 0x53 {
-        return !after;
-    }
-    false
+    (tag == 0x48) | ((tag == 0x53) & !after)
 }
 
 // The first record of a wrong kind; the number of records where there is none.
@@ -145,7 +139,7 @@ fn check_records(input: &[u8], statements: usize, shapes: usize) -> Checked
 fn within(low: usize, high: usize, n: usize) -> bool
     ensures { λ r. ⌜ r ≡ between low high n ⌝ }
 {
-    low <= n && n <= high
+    (low <= n) & (n <= high)
 }
 
 // The numbers of statements and of shapes, then the records.
@@ -190,13 +184,7 @@ pub fn check(input: &[u8]) -> Checked
     ensures counts { λ r. ⌜ GoodCounts r (now (input .entry)) ⌝ }
 {
     let length = input.len();
-    if length == 0 {
-        return Checked::Bad {
-            number: 1,
-            place: 0,
-        };
-    }
-    if length % 32 != 0 {
+    if (length == 0) | (length % 32 != 0) {
         return Checked::Bad {
             number: 1,
             place: 0,

@@ -1,9 +1,10 @@
-// Tests of bytes and of single fields of S and H records.
+// Tests of bytes and of single fields of S and H records. They are joined by & and |, so that there are no branches.
 ghost use mathlib.Core.Path.{_≡_};
 ghost use lib.ListN.{length};
 ghost use Rattle.model.specs.Base.{all};
-ghost use Rattle.model.specs.Records.{isZero, usesU, usesW, usesFirst, usesSecond, pointerField, targetField, targetBelow, fieldsS, targetsS, valueByte};
-ghost use Rattle.layout.specs.Checked.{pointersS, unusedS, headH};
+ghost use Rattle.model.specs.Records.{isZero, usesU, usesW, usesFirst, usesSecond, valueByte};
+ghost use Rattle.model.specs.Records.{pointerField, targetBelow, fieldsS, targetsS};
+ghost use Rattle.layout.specs.Checked.{headH};
 
 // Whether all bytes are zero.
 pub fn all_zero(bytes: &[u8]) -> bool
@@ -23,7 +24,7 @@ pub fn all_zero(bytes: &[u8]) -> bool
 pub fn value_byte(k: u8, b: u8) -> bool
     ensures { λ r. ⌜ r ≡ valueByte k b ⌝ }
 {
-    b < k || (b == 0xfe || b == 0xff)
+    (b < k) | (b == 0xfe) | (b == 0xff)
 }
 
 // Whether all bytes are values in a shape of k nodes.
@@ -45,16 +46,13 @@ pub fn all_values(bytes: &[u8], k: u8) -> bool
 pub fn uses_u(op: u8) -> bool
     ensures { λ r. ⌜ r ≡ usesU op ⌝ }
 {
-    1 <= op && op <= 9
+    (1 <= op) & (op <= 9)
 }
 
 pub fn uses_w(op: u8) -> bool
     ensures { λ r. ⌜ r ≡ usesW op ⌝ }
 {
-    match op {
-        2 | 3 | 5 | 9 => true,
-        _ => false,
-    }
+    (op == 2) | (op == 3) | (op == 5) | (op == 9)
 }
 
 pub fn uses_first(op: u8) -> bool
@@ -66,7 +64,7 @@ pub fn uses_first(op: u8) -> bool
 pub fn uses_second(op: u8) -> bool
     ensures { λ r. ⌜ r ≡ usesSecond op ⌝ }
 {
-    8 <= op && op <= 10
+    (8 <= op) & (op <= 10)
 }
 
 // A used pointer is below 6, an unused one zero.
@@ -76,41 +74,24 @@ pub fn pointer_field(used: bool, b: u8) -> bool
     if used { b < 6 } else { b == 0 }
 }
 
-// An unused target is zero.
-pub fn target_field(used: bool, b: u8) -> bool
-    ensures { λ r. ⌜ r ≡ targetField used b ⌝ }
+// Each field as its op uses it: both pointers, both targets, and zeros after them.
+pub fn fields_ok(rec: &[u8]) -> bool
+    requires { ⌜ length (now rec) ≡ 32 ⌝ }
+    ensures { λ r. ⌜ r ≡ fieldsS (now (rec .entry)) ⌝ }
 {
-    used || b == 0
+    let op = rec[1];
+    let u = pointer_field(uses_u(op), rec[2]);
+    let w = pointer_field(uses_w(op), rec[3]);
+    let first = uses_first(op) | (rec[4] == 0);
+    let second = uses_second(op) | (rec[5] == 0);
+    u & w & first & second & all_zero(&rec[6..])
 }
 
 // A used target is one of n statements.
 pub fn target_below(n: usize, used: bool, b: u8) -> bool
     ensures { λ r. ⌜ r ≡ targetBelow n used b ⌝ }
 {
-    !used || (b as usize) < n
-}
-
-// Both pointers of a statement.
-fn pointers_ok(op: u8, u: u8, w: u8) -> bool
-    ensures { λ r. ⌜ r ≡ pointersS op u w ⌝ }
-{
-    pointer_field(uses_u(op), u) && pointer_field(uses_w(op), w)
-}
-
-// Both targets, where they are not used.
-fn unused_ok(op: u8, first: u8, second: u8) -> bool
-    ensures { λ r. ⌜ r ≡ unusedS op first second ⌝ }
-{
-    target_field(uses_first(op), first) && target_field(uses_second(op), second)
-}
-
-// Each field as its op uses it, and zeros after the fields.
-pub fn fields_ok(rec: &[u8]) -> bool
-    requires { ⌜ length (now rec) ≡ 32 ⌝ }
-    ensures { λ r. ⌜ r ≡ fieldsS (now (rec .entry)) ⌝ }
-{
-    let op = rec[1];
-    pointers_ok(op, rec[2], rec[3]) && (unused_ok(op, rec[4], rec[5]) && all_zero(&rec[6..]))
+    !used | ((b as usize) < n)
 }
 
 // Each used target is one of n statements.
@@ -119,7 +100,7 @@ pub fn targets_ok(n: usize, rec: &[u8]) -> bool
     ensures { λ r. ⌜ r ≡ targetsS n (now (rec .entry)) ⌝ }
 {
     let op = rec[1];
-    target_below(n, uses_first(op), rec[4]) && target_below(n, uses_second(op), rec[5])
+    target_below(n, uses_first(op), rec[4]) & target_below(n, uses_second(op), rec[5])
 }
 
 // ---- H records
@@ -128,14 +109,5 @@ pub fn targets_ok(n: usize, rec: &[u8]) -> bool
 pub fn head_ok(tag: u8, statement: u8, fault: u8, k: u8) -> bool
     ensures { λ r. ⌜ r ≡ headH tag statement fault k ⌝ }
 {
-    if tag != 0x48 {
-        return false;
-    }
-    if statement != 0 {
-        return false;
-    }
-    if fault != 0 {
-        return false;
-    }
-    k <= 12
+    (tag == 0x48) & (statement == 0) & (fault == 0) & (k <= 12)
 }

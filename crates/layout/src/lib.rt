@@ -37,5 +37,5 @@ pub fn layout_ok(rec: &[u8]) -> bool
         return false;
     }
     let end = 10 + k as usize;
-    all_values(&rec[4..end], k) && all_zero(&rec[end..])
+    all_values(&rec[4..end], k) & all_zero(&rec[end..])
 }

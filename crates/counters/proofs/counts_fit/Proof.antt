@@ -1,15 +1,14 @@
--- `counts_fit` meets its contract: each answer is the case of the tests on the counters below k and from k on.
-use Prim.Native.Nat.{_≤_}
-use mathlib.Core.Path.{_≡_, sym}
-use mathlib.Core.Bool.{true, false}
+-- `counts_fit` meets its contract: the counters from k on are all zero where their sum is.
+use mathlib.Core.Path.{_≡_, sym, ap, _∙_}
+use mathlib.Core.Bool.{_&&_}
 use native.Mathlib.Omega.{arith}
-use lib.Dec.{leb}
-use lib.ListN.{drop, length, take}
+use lib.Dec.{eqb, leb}
+use lib.ListN.{drop}
 use lib.Seq.{length-take-le}
 use borrow.Author.Needs.{needs}
-use Rattle.model.specs.Base.{all}
-use Rattle.model.specs.Records.{isZero}
+use Rattle.model.specs.Base.{sum}
 use Rattle.model.proofs.lists.Slices.{part-from}
+use Rattle.counters.proofs.Zeros.{zero-sum}
 use Rattle.counters.proofs.counts_fit.Statement.{statement}
 use Rattle.counters.proofs.counts_fit.Tie as tie
 
@@ -20,26 +19,12 @@ slice-aggregate-all-positive c =
 
 returns : tie.Need-returns
 returns c =
-    let a = c .before .before .before .before .before .before .before .before .args in
+    let a = c .before .before .before .before .before .before .args in
     let vs = a .counters .now in
-    let h : a .k ≤ length vs = omega arith in
-    let p : all (leb 1) (take (a .k) vs) ≡ true = cc in
-    let z : all isZero (drop (a .k) vs) ≡ true = cc (part-from vs (a .k)) in
-    rw (p, z, c .total .ensures)
-
-returns-2 : tie.Need-returns-2
-returns-2 c =
-    let a = c .before .before .before .before .before .before .before .args in
-    let vs = a .counters .now in
-    let p : all (leb 1) (take (a .k) vs) ≡ true = cc in
-    let z : all isZero (drop (a .k) vs) ≡ false = cc (part-from vs (a .k)) in
-    rw (p, z)
-
-returns-3 : tie.Need-returns-3
-returns-3 c =
-    let a = c .before .before .before .before .args in
-    let p : all (leb 1) (take (a .k) (a .counters .now)) ≡ false = cc in
-    rw p
+    let rest : c .before .total .result ≡ sum (λ v. v) (drop (a .k) vs) =
+    c .before .total .ensures ∙ ap (sum (λ v. v)) (part-from vs (a .k)) in
+    let zeros = ap (λ s. eqb s 0) rest ∙ zero-sum (drop (a .k) vs) in
+    λ i. c .before .before .before .all-positive .ensures i && zeros i && leb (c .total2 .ensures i) (a .n)
 
 pub counts-fit-spec : {M : Type 1} → statement M
 counts-fit-spec =
@@ -53,6 +38,4 @@ counts-fit-spec =
     (λ c. search needs)
     (λ c κs. search needs)
     (λ c κs. search needs)
-    returns
-    returns-2
-    returns-3)
+    returns)

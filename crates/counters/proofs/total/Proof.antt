@@ -2,7 +2,7 @@
 use Prim.Native.Nat.{_+_, _*_, _-_, _≤_}
 use mathlib.Core.Path.{_≡_}
 use native.Mathlib.Omega.{arith}
-use lib.ListN.{drop}
+use lib.ListN.{drop, length}
 use borrow.Author.Needs.{needs}
 use Rattle.model.specs.Base.{sum}
 use Rattle.model.proofs.lists.Loops.{sum-end, sum-step}
@@ -10,10 +10,11 @@ use Rattle.counters.proofs.total.Statement.{statement}
 use Rattle.counters.proofs.total.Tie as tie
 
 abbrev Inv-loop : tie.InvT-loop
-Inv-loop counters t₀ i₀ t i = (i ≤ 12) × (t ≤ 4294967296 * i) × (t + sum (λ v. v) (drop i counters) ≡ sum (λ v. v) counters)
+Inv-loop counters t₀ i₀ t i =
+    (i ≤ length counters) × (t ≤ 4294967296 * i) × (t + sum (λ v. v) (drop i counters) ≡ sum (λ v. v) counters)
 
 abbrev μ-loop : tie.MeasureT-loop
-μ-loop counters t₀ i₀ t i = 12 - i
+μ-loop counters t₀ i₀ t i = length counters - i
 
 cast-t : tie.Need-cast-t Inv-loop μ-loop
 cast-t c = omega (arith, c .shared-slice-known .given (c .before .before .loop .i))

@@ -1,7 +1,7 @@
--- `image::fold` meets its contract: a refusal, and the fold of an image that passes the checks. Assumes nothing.
+-- `fold` meets its contract: a refusal, and the fold of an image that passes the checks.
 use mathlib.Core.Path.{sym, _∙_}
 use borrow.Author.Needs.{needs}
-use Rattle.heap_operations.proofs.ImageLaws.{fold-passed, fold-ready, fold-refused}
+use Rattle.heap_operations.proofs.FoldLaws.{fold-passed, fold-ready, fold-refused}
 use Rattle.heap_operations.proofs.fold.Statement.{statement}
 use Rattle.heap_operations.proofs.fold.Tie as tie
 

@@ -1,9 +1,9 @@
--- `image::fold_heap` meets its contract: the record is that of the shape, folded in place, and the counters past it are zero. Assumes nothing.
+-- `fold_heap` meets its contract: the record is that of the shape, folded in place, and the counters past it are zero.
 use borrow.Author.Needs.{needs}
 use mathlib.Core.List.{[]}
 use native.Mathlib.Omega.{arith}
 use lib.ListN.{length-append}
-use Rattle.heap_operations.proofs.ImageLaws.{fold-is}
+use Rattle.heap_operations.proofs.FoldLaws.{fold-is}
 use Rattle.heap_operations.proofs.fold_heap.Statement.{statement}
 use Rattle.heap_operations.proofs.fold_heap.Tie as tie
 

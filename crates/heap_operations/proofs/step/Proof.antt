@@ -1,7 +1,7 @@
--- `image::step` meets its contract: a refusal leaves all, and without one the step is taken. Assumes nothing.
+-- `step` meets its contract: a refusal leaves all, and without one the step is taken.
 use mathlib.Core.Path.{sym, _∙_}
 use borrow.Author.Needs.{needs}
-use Rattle.heap_operations.proofs.StepLaws.{step-unchecked}
+use Rattle.plain_step.proofs.StepLaws.{step-unchecked}
 use Rattle.heap_operations.proofs.step.Statement.{statement}
 use Rattle.heap_operations.proofs.step.Tie as tie
 

@@ -1,4 +1,4 @@
--- `unfold` meets its contract: a refusal leaves all, and without one the shape is unfolded. Assumes nothing.
+-- `unfold` meets its contract: a refusal leaves all, and without one the shape is unfolded.
 use borrow.Author.Needs.{needs}
 use Rattle.heap_operations.proofs.UnfoldLaws.{unfold-ready, unfold-done, unfold-refused}
 use Rattle.heap_operations.proofs.unfold.Statement.{statement}

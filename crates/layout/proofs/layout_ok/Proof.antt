@@ -1,7 +1,7 @@
 -- `layout_ok` meets its contract: the head, then the values, then the zeros.
 use Prim.Native.Nat.{_+_, _-_, _≤_}
-use mathlib.Core.Path.{_≡_, sym, ap, _∙_}
-use mathlib.Core.Bool.{true, _&&_}
+use mathlib.Core.Path.{_≡_, sym, ap, ap₂, _∙_}
+use mathlib.Core.Bool.{true, false, _&&_}
 use native.Mathlib.Omega.{arith}
 use lib.Dec.{eqb, leb}
 use lib.ListN.{take, drop}
@@ -12,7 +12,6 @@ use Rattle.model.specs.Records.{byte, isZero, valueByte}
 use Rattle.model.proofs.lists.Logic.{and-r}
 use Rattle.model.proofs.lists.Slices.{part-from}
 use Rattle.layout.specs.Checked.{headH}
-use Rattle.layout.proofs.Tests.{and-taken, and-left, layout-is}
 use Rattle.layout.proofs.layout_ok.Statement.{statement}
 use Rattle.layout.proofs.layout_ok.Tie as tie
 
@@ -26,8 +25,9 @@ few c =
 returns : tie.Need-returns
 returns c =
     let r = c .before .before .before .before .before .before .before .args .rec .now in
-    let n = not-true _ (c .if1 .taken) in
-    sym n ∙ and-left _ (c .before .head-ok .ensures) n ∙ sym (layout-is r)
+    let h : headH (byte r 0) (byte r 1) (byte r 2) (byte r 3) ≡ false =
+    sym (c .before .head-ok .ensures) ∙ not-true _ (c .if1 .taken) in
+    rw h
 
 cast-end : tie.Need-cast-end
 cast-end c = omega (arith, few c)
@@ -39,33 +39,22 @@ part-all-values-end : tie.Need-part-all-values-end
 part-all-values-end c = omega (arith, few c)
 
 sub-all-zero : tie.Need-sub-all-zero
-sub-all-zero c = omega (arith, few (c .before .before .before))
+sub-all-zero c = omega (arith, few (c .before .before))
 
 part-all-zero-start : tie.Need-part-all-zero-start
-part-all-zero-start c = omega (arith, few (c .before .before .before))
+part-all-zero-start c = omega (arith, few (c .before .before))
 
 returns-2 : tie.Need-returns-2
 returns-2 c =
-    let r = c .before .before .before .before .before .before .before .before .before .before .before .before .args .rec .now in
+    let if1 = c .before .before .before .before in
+    let r = if1 .before .before .before .before .before .before .before .args .rec .now in
     let k = byte r 3 in
     let e : (10 + k) - 4 ≡ 6 + k = omega arith in
     let h : headH (byte r 0) (byte r 1) (byte r 2) k ≡ true =
-    sym (c .before .before .before .before .before .before .head-ok .ensures) ∙ not-false _ (c .before .before .before .before .before .if1 .left) in
-    let v : all (valueByte k) (take (6 + k) (drop 4 r)) ≡ true =
-    ap (λ n. all (valueByte k) (take n (drop 4 r))) (sym e) ∙ sym (c .before .before .before .all-values .ensures) ∙ c .before .before .if2 .taken in
-    let z : c .all-zero .result ≡ all isZero (drop (10 + k) r) = c .all-zero .ensures ∙ ap (all isZero) (part-from r (10 + k)) in
-    and-taken h (and-taken v z) ∙ sym (layout-is r)
-
-returns-3 : tie.Need-returns-3
-returns-3 c =
-    let r = c .before .before .before .before .before .before .before .before .before .before .args .rec .now in
-    let k = byte r 3 in
-    let e : (10 + k) - 4 ≡ 6 + k = omega arith in
-    let h : headH (byte r 0) (byte r 1) (byte r 2) k ≡ true =
-    sym (c .before .before .before .before .head-ok .ensures) ∙ not-false _ (c .before .before .before .if1 .left) in
-    let v : c .before .all-values .result ≡ all (valueByte k) (take (6 + k) (drop 4 r)) =
-    c .before .all-values .ensures ∙ ap (λ n. all (valueByte k) (take n (drop 4 r))) e in
-    and-taken h (and-left _ v (c .if2 .left)) ∙ sym (layout-is r)
+    sym (if1 .before .head-ok .ensures) ∙ not-false _ (if1 .if1 .left) in
+    let v = c .before .before .all-values .ensures ∙ ap (λ n. all (valueByte k) (take n (drop 4 r))) e in
+    let z = c .all-zero .ensures ∙ ap (all isZero) (part-from r (10 + k)) in
+    rw h (ap₂ _&&_ v z)
 
 pub layout-ok-spec : {M : Type 1} → statement M
 layout-ok-spec =
@@ -87,5 +76,4 @@ layout-ok-spec =
     part-all-zero-start
     (λ c. search needs)
     (λ c κs. search needs)
-    returns-2
-    returns-3)
+    returns-2)

@@ -1,5 +1,4 @@
 -- `write_cells` meets its contract: the strands written, and the rest marked.
-use mathlib.Core.Path.{_∙_}
 use native.Mathlib.Omega.{arith}
 use lib.ListN.{length}
 use borrow.Author.Needs.{needs}

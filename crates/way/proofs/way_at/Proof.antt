@@ -20,8 +20,7 @@ returns c =
 returns-2 : tie.Need-returns-2
 returns-2 c =
     let g = c .one-guard2 in
-    let a = c .before .before .args in
-    (
+    let a = c .before .before .args in (
       plain-way (a .v) (a .j) (g .result) (search needs) (search needs) (g .ensures .0),
       ((λ l. (l, none-writes (g .result) (g .ensures .0) (g .ensures .1))), λ e. clash e refl),
     )

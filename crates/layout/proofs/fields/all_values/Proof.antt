@@ -1,7 +1,6 @@
 -- `all_values` meets its contract: the bytes from i on decide.
 use Prim.Native.Nat.{_-_}
 use mathlib.Core.Path.{_≡_, sym, _∙_}
-use native.Mathlib.Omega.{arith}
 use lib.ListN.{drop, drop-of-length-le, length}
 use borrow.Author.Tests.{not-true, not-false}
 use borrow.Author.Needs.{needs}

@@ -1,7 +1,6 @@
 -- `all_zero` meets its contract: the bytes from i on decide.
 use Prim.Native.Nat.{_-_}
 use mathlib.Core.Path.{_≡_}
-use native.Mathlib.Omega.{arith}
 use lib.ListN.{drop, drop-of-length-le, length}
 use borrow.Author.Tests.{eq-eqb, ne-eqb}
 use borrow.Author.Needs.{needs}

@@ -1,0 +1,89 @@
+-- The checks of a plain step: of its image and record, of its entry, and what the run may ask once they are passed.
+use Prim.Native.Nat.{ℕ, _≤_, _<_}
+use Rattle.model.proofs.records.Checks.{failed-after, failed-before, given-failed, none-failed, pass-after, pass-before, pass-none}
+use mathlib.Core.Path.{_≡_, refl, sym, ap, _∙_}
+use mathlib.Core.Bool.{Bool, true, false, _&&_, not, Bool·not-not}
+use mathlib.Core.List.{List, [], _∷_}
+use lib.Dec.{eqb, leb}
+use lib.ListN.{length, getD, length-map}
+use borrow.Author.Tests.{eq-eqb, eqb-true, le-leb, lt-leb, ne-eqb}
+use Rattle.model.specs.Heap.{inUse, next}
+use Rattle.model.specs.Machine.{kind, entry}
+use Rattle.model.specs.Records.{byte, isS, opOf, refusalS, Row, checksS, firstFailed, unless}
+use Rattle.model.specs.Image.{heapOf, refusalImage, cellSlot, checksImage, checksStatement, entryFits}
+use Rattle.model.proofs.images.Images.{image-accepted, number-case}
+use Rattle.model.proofs.lists.Logic.{and-l}
+use Rattle.model.proofs.records.Ops.{each-op}
+use Rattle.model.proofs.records.Statements.{statement-fields}
+use Rattle.visit.proofs.ByteLaws.{slot-at, used-byte}
+use mathlib.Core.Logic.{inl}
+
+-- ---- the checks
+
+abbrev statement : List ℕ → Bool
+statement r = eqb (length r) 32 && isS r
+
+-- the checks after those of the image
+abbrev recordChecks : List ℕ → List Row
+recordChecks r = unless 4 (statement r) ∷ checksS 64 r
+
+module _ (r ps cs : List ℕ) {m : ℕ} (e : m ≡ refusalImage ps cs) where
+  pub refuse-image : (m ≡ 0 → ⊥) → m ≡ firstFailed (checksStatement r ps cs)
+  refuse-image z = number-case m (λ q. absurd (z q)) (λ k q. q ∙ sym (failed-before (checksImage ps cs) (recordChecks r) k (sym e ∙ q)))
+
+  module _ (z : m ≡ 0) where
+    past-image : (s : ℕ) → s ≡ firstFailed (recordChecks r) → s ≡ firstFailed (checksStatement r ps cs)
+    past-image s q = q ∙ sym (failed-after (checksImage ps cs) (recordChecks r) refl (sym e ∙ z))
+
+    pub refuse-width : (length r ≡ 32 → ⊥) → 4 ≡ firstFailed (checksStatement r ps cs)
+    refuse-width n = past-image 4 (sym (given-failed (recordChecks r) 4 (inl (refl, rw (ne-eqb (length r) 32 n)))))
+
+    module _ (l : length r ≡ 32) where
+      pub refuse-tag : (byte r 0 ≡ 0x53 → ⊥) → 4 ≡ firstFailed (checksStatement r ps cs)
+      refuse-tag n = past-image 4 (sym (given-failed (recordChecks r) 4 (inl (refl, rw (eq-eqb (length r) 32 l, ne-eqb (byte r 0) 0x53 n)))))
+
+      pub refuse-record : byte r 0 ≡ 0x53 → (s : ℕ) → s ≡ refusalS 64 r → s ≡ firstFailed (checksStatement r ps cs)
+      refuse-record t s q =
+          let p : statement r ≡ true = rw (eq-eqb (length r) 32 l, eq-eqb (byte r 0) 0x53 t) in
+          past-image s (q ∙ sym (failed-after (unless 4 (statement r) ∷ []) (checksS 64 r) refl (pass-none (unless 4 (statement r) ∷ []) (p, tt))))
+
+-- ---- the entry
+
+module _ (op p c : ℕ) (cs : List ℕ) where
+  pub entry-pick : op ≡ 10 → (u w : ℕ) (ps : List ℕ) → leb p 1 ≡ entryFits (kind (opOf op u w)) (entry p c) (heapOf ps cs)
+  entry-pick e u w ps = rw e
+
+  pub entry-cell : op ≡ 6 → c < length cs → (u w : ℕ) (ps : List ℕ) → eqb (getD cs c 0) 0xfd ≡ entryFits (kind (opOf op u w)) (entry p c) (heapOf ps cs)
+  entry-cell e l u w ps =
+      let s : inUse (next (heapOf ps cs) c) ≡ not (eqb (getD cs c 0) 0xfd) = ap inUse (slot-at cs c l) ∙ used-byte (getD cs c 0) in
+      rw (e, length-map cs cellSlot, lt-leb (length cs) c l, s) (sym (Bool·not-not (eqb (getD cs c 0) 0xfd)))
+
+  pub entry-past : op ≡ 6 → length cs ≤ c → (u w : ℕ) (ps : List ℕ) → false ≡ entryFits (kind (opOf op u w)) (entry p c) (heapOf ps cs)
+  entry-past e l u w ps = rw (e, length-map cs cellSlot, le-leb (length cs) c l)
+
+  pub entry-other : op ≤ 11 → (op ≡ 10 → ⊥) → (op ≡ 6 → ⊥) → (u w : ℕ) (ps : List ℕ) → true ≡ entryFits (kind (opOf op u w)) (entry p c) (heapOf ps cs)
+  entry-other l a b u w ps =
+      each-op (λ k. op ≡ k → true ≡ entryFits (kind (opOf k u w)) (entry p c) (heapOf ps cs))
+      (λ q. refl) (λ q. refl) (λ q. refl) (λ q. refl) (λ q. refl) (λ q. refl) (λ q. absurd (b q)) (λ q. refl) (λ q. refl) (λ q. refl)
+      (λ q. absurd (a q)) (λ q. refl) op l refl
+
+-- ---- what passed
+
+module _ (r ps cs : List ℕ) (z : firstFailed (checksStatement r ps cs) ≡ 0) where
+  checked : (refusalImage ps cs ≡ 0) × (statement r ≡ true) × (refusalS 64 r ≡ 0)
+  checked =
+      let p = none-failed (checksStatement r ps cs) refl z in
+      let q = pass-after (checksImage ps cs) (recordChecks r) p in
+      (pass-none (checksImage ps cs) (pass-before (checksImage ps cs) (recordChecks r) p), q .0, pass-none (checksS 64 r) (q .1))
+
+  pub checked-image : refusalImage ps cs ≡ 0
+  checked-image = checked .0
+
+  pub checked-wide : length r ≡ 32
+  checked-wide = eqb-true (length r) 32 (and-l (eqb (length r) 32) (isS r) (checked .1))
+
+  pub checked-fields : (byte r 1 ≤ 11) × (byte r 2 < 6) × (byte r 3 < 6)
+  checked-fields = statement-fields 64 r (checked .2)
+
+  pub checked-six : length ps ≡ 6
+  checked-six = image-accepted ps cs .0 (checked .0) .0
