@@ -17,7 +17,7 @@ fn lengths_ok(pointers: &[u8], cells: &[u8]) -> bool
     if pointers.len() != 6 {
         return false;
     }
-    cells.len() <= 240
+    cells.len() <= model::MOST_CELLS
 }
 
 // What checking an image gives: the refusal (0 for none) and, without one, how many cells were visited.
@@ -74,7 +74,7 @@ pub fn unfold_refusal(rec: &[u8], counters: &[u32], pointers: usize, cells: usiz
     if pointers != 6 {
         return 13;
     }
-    if 240 < cells {
+    if model::MOST_CELLS < cells {
         return 13;
     }
     if !is_shape(rec) {
@@ -108,7 +108,7 @@ pub fn step_refusal(rec: &[u8], pointers: &[u8], cells: &[u8]) -> u8
     if rec[0] != 0x53 {
         return 4;
     }
-    layout::statement_refusal(rec, 64)
+    layout::statement_refusal(rec, model::MOST_STATEMENTS)
 }
 
 // Whether the pick at choose is 0 or 1, and the cell at new is one of the image that is not in use.
