@@ -2,17 +2,17 @@
 use Prim.Native.Nat.{ℕ, _≤_, _<_}
 use Rattle.model.proofs.records.Checks.{failed-after, failed-before, given-failed, none-failed, pass-after, pass-before, pass-none}
 use mathlib.Core.Path.{_≡_, refl, sym, ap, _∙_}
-use mathlib.Core.Bool.{Bool, true, false, _&&_, not, Bool·not-not}
+use mathlib.Core.Bool.{Bool, true, false, _&&_, not, Bool·not-not, cond}
 use mathlib.Core.List.{List, [], _∷_}
 use lib.Dec.{eqb, leb}
 use lib.ListN.{length, getD, length-map}
 use borrow.Author.Tests.{eq-eqb, eqb-true, le-leb, lt-leb, ne-eqb}
-use Rattle.model.specs.Heap.{inUse, next}
-use Rattle.model.specs.Machine.{kind, entry}
-use Rattle.model.specs.Records.{byte, isS, opOf, refusalS, Row, checksS, firstFailed, unless}
+use Rattle.model.specs.Heap.{inUse, next, Heap}
+use Rattle.model.specs.Machine.{entry}
+use Rattle.model.specs.Records.{byte, isS, opOf, refusalS, Row, checksS, firstFailed, unless, opCount}
 use Rattle.model.specs.Image.{heapOf, refusalImage, cellSlot, checksImage, checksStatement, entryFits}
 use Rattle.model.proofs.images.Images.{image-accepted, number-case}
-use Rattle.model.proofs.lists.Logic.{and-l}
+use Rattle.model.proofs.lists.Logic.{and-l, and-true}
 use Rattle.model.proofs.records.Ops.{each-op}
 use Rattle.model.proofs.records.Statements.{statement-fields}
 use Rattle.visit.proofs.ByteLaws.{slot-at, used-byte}
@@ -49,23 +49,31 @@ module _ (r ps cs : List ℕ) {m : ℕ} (e : m ≡ refusalImage ps cs) where
 
 -- ---- the entry
 
-module _ (op p c : ℕ) (cs : List ℕ) where
-  pub entry-pick : op ≡ 10 → (u w : ℕ) (ps : List ℕ) → leb p 1 ≡ entryFits (kind (opOf op u w)) (entry p c) (heapOf ps cs)
-  entry-pick e u w ps = rw e
+-- what the entry is looked at for, by the op's number: the pick at choose, the cell at new
+abbrev fitsAt : ℕ → ℕ → Heap → ℕ → Bool
+fitsAt p c h n =
+    cond (eqb n 10) (leb p 1 && true) (cond (eqb n 6) (not (leb (length (h .slots)) c) && not (inUse (next h c))) true)
 
-  pub entry-cell : op ≡ 6 → c < length cs → (u w : ℕ) (ps : List ℕ) → eqb (getD cs c 0) 0xfd ≡ entryFits (kind (opOf op u w)) (entry p c) (heapOf ps cs)
-  entry-cell e l u w ps =
-      let s : inUse (next (heapOf ps cs) c) ≡ not (eqb (getD cs c 0) 0xfd) = ap inUse (slot-at cs c l) ∙ used-byte (getD cs c 0) in
-      rw (e, length-map cs cellSlot, lt-leb (length cs) c l, s) (sym (Bool·not-not (eqb (getD cs c 0) 0xfd)))
+module _ (op p c : ℕ) (cs : List ℕ) (lt : op < opCount) (u w : ℕ) (ps : List ℕ) where
+  abbrev heap : Heap
+  heap = heapOf ps cs
 
-  pub entry-past : op ≡ 6 → length cs ≤ c → (u w : ℕ) (ps : List ℕ) → false ≡ entryFits (kind (opOf op u w)) (entry p c) (heapOf ps cs)
-  entry-past e l u w ps = rw (e, length-map cs cellSlot, le-leb (length cs) c l)
+  entry-is : entryFits (opOf op u w) (entry p c) heap ≡ fitsAt p c heap op
+  entry-is = each-op (λ o. entryFits o (entry p c) heap) (fitsAt p c heap) u w refl op lt
 
-  pub entry-other : op ≤ 11 → (op ≡ 10 → ⊥) → (op ≡ 6 → ⊥) → (u w : ℕ) (ps : List ℕ) → true ≡ entryFits (kind (opOf op u w)) (entry p c) (heapOf ps cs)
-  entry-other l a b u w ps =
-      each-op (λ k. op ≡ k → true ≡ entryFits (kind (opOf k u w)) (entry p c) (heapOf ps cs))
-      (λ q. refl) (λ q. refl) (λ q. refl) (λ q. refl) (λ q. refl) (λ q. refl) (λ q. absurd (b q)) (λ q. refl) (λ q. refl) (λ q. refl)
-      (λ q. absurd (a q)) (λ q. refl) op l refl
+  pub entry-pick : op ≡ 10 → leb p 1 ≡ entryFits (opOf op u w) (entry p c) heap
+  entry-pick e = sym (entry-is ∙ ap (fitsAt p c heap) e ∙ and-true (leb p 1))
+
+  pub entry-cell : op ≡ 6 → c < length cs → eqb (getD cs c 0) 0xfd ≡ entryFits (opOf op u w) (entry p c) heap
+  entry-cell e l =
+      let s : inUse (next heap c) ≡ not (eqb (getD cs c 0) 0xfd) = ap inUse (slot-at cs c l) ∙ used-byte (getD cs c 0) in
+      sym (entry-is ∙ ap (fitsAt p c heap) e ∙ rw (length-map cs cellSlot, lt-leb (length cs) c l, s) (Bool·not-not (eqb (getD cs c 0) 0xfd)))
+
+  pub entry-past : op ≡ 6 → length cs ≤ c → false ≡ entryFits (opOf op u w) (entry p c) heap
+  entry-past e l = sym (entry-is ∙ ap (fitsAt p c heap) e ∙ rw (length-map cs cellSlot, le-leb (length cs) c l))
+
+  pub entry-other : (op ≡ 10 → ⊥) → (op ≡ 6 → ⊥) → true ≡ entryFits (opOf op u w) (entry p c) heap
+  entry-other a b = sym (entry-is ∙ rw (ne-eqb op 10 a, ne-eqb op 6 b))
 
 -- ---- what passed
 
@@ -82,7 +90,7 @@ module _ (r ps cs : List ℕ) (z : firstFailed (checksStatement r ps cs) ≡ 0) 
   pub checked-wide : length r ≡ 32
   checked-wide = eqb-true (length r) 32 (and-l (eqb (length r) 32) (isS r) (checked .1))
 
-  pub checked-fields : (byte r 1 ≤ 11) × (byte r 2 < 6) × (byte r 3 < 6)
+  pub checked-fields : (byte r 1 < opCount) × (byte r 2 < 6) × (byte r 3 < 6)
   checked-fields = statement-fields 64 r (checked .2)
 
   pub checked-six : length ps ≡ 6

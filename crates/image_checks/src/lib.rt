@@ -1,13 +1,13 @@
 // The checks of the three calls: of a heap image, of the record and counters of an unfolding, and of a step's record and entry.
-ghost use Prim.Native.Nat.{ℕ, _≤_};
+ghost use Prim.Native.Nat.{ℕ, _<_};
 ghost use mathlib.Core.Bool.{_&&_};
 ghost use mathlib.Core.List.{List};
 ghost use mathlib.Core.Path.{_≡_};
 ghost use lib.Dec.{eqb};
 ghost use lib.ListN.{length, replicate};
 ghost use Rattle.model.specs.Image.{lengths, refusalUnfold, checksStatement, entryFits, heapOf};
-ghost use Rattle.model.specs.Machine.{entry, kind};
-ghost use Rattle.model.specs.Records.{firstFailed, layoutH, opOf};
+ghost use Rattle.model.specs.Machine.{entry};
+ghost use Rattle.model.specs.Records.{firstFailed, layoutH, opCount, opOf};
 ghost use Rattle.image_checks.specs.Checked.{ImageChecked};
 
 // Whether there are six pointers and at most 240 cells.
@@ -17,7 +17,7 @@ fn lengths_ok(pointers: &[u8], cells: &[u8]) -> bool
     if pointers.len() != 6 {
         return false;
     }
-    cells.len() <= 240
+    cells.len() <= model::MOST_CELLS
 }
 
 // What checking an image gives: the refusal (0 for none) and, without one, how many cells were visited.
@@ -74,7 +74,7 @@ pub fn unfold_refusal(rec: &[u8], counters: &[u32], pointers: usize, cells: usiz
     if pointers != 6 {
         return 13;
     }
-    if 240 < cells {
+    if model::MOST_CELLS < cells {
         return 13;
     }
     if !is_shape(rec) {
@@ -108,13 +108,14 @@ pub fn step_refusal(rec: &[u8], pointers: &[u8], cells: &[u8]) -> u8
     if rec[0] != 0x53 {
         return 4;
     }
-    layout::statement_refusal(rec, 64)
+    layout::statement_refusal(rec, model::MOST_STATEMENTS)
 }
 
 // Whether the pick at choose is 0 or 1, and the cell at new is one of the image that is not in use.
 pub fn entry_ok(op: u8, pick: u8, cell: usize, cells: &[u8]) -> bool
-    requires { ⌜ op ≤ 11 ⌝ }
-    ensures { λ r. ⌜ ((u w : ℕ) (ps : List ℕ) → r ≡ entryFits (kind (opOf op u w)) (entry pick cell) (heapOf ps (now (cells .entry)))) ⌝ }
+    requires { ⌜ op < opCount ⌝ }
+    ensures { λ r. ⌜ ((u w : ℕ) (ps : List ℕ)
+        → r ≡ entryFits (opOf op u w) (entry pick cell) (heapOf ps (now (cells .entry)))) ⌝ }
 {
     if op == 10 {
         return pick <= 1;

@@ -149,14 +149,14 @@ fn check_counts(input: &[u8], records: usize) -> Checked
     ensures counts { λ r. ⌜ GoodCounts r (now (input .entry)) ⌝ }
 {
     let statements = count_statements(input, records);
-    if !within(1, 64, statements) {
+    if !within(1, model::MOST_STATEMENTS, statements) {
         return Checked::Bad {
             number: 2,
             place: 0,
         };
     }
     let shapes = records - statements;
-    if !within(1, 16, shapes) {
+    if !within(1, model::MOST_SHAPES, shapes) {
         return Checked::Bad {
             number: 3,
             place: 0,

@@ -15,7 +15,7 @@ pub fn statement_refusal(rec: &[u8], n: usize) -> u8
     requires { ⌜ length (now rec) ≡ 32 ⌝ }
     ensures { λ r. ⌜ r ≡ refusalS n (now (rec .entry)) ⌝ }
 {
-    if 12 <= rec[1] {
+    if model::OPS <= rec[1] {
         return 5;
     }
     if !fields_ok(rec) {

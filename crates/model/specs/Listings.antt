@@ -7,7 +7,7 @@ use mathlib.Core.Bool.{Bool, _&&_, _||_, cond, false, not, true}
 use mathlib.Core.List.{List, [], _++_, _∷_, map}
 use lib.Dec.{eqb}
 use lib.ListN.{drop, getD, length, replicate, take}
-use Rattle.model.specs.Base.{any, count, joined, numbers, placeOf}
+use Rattle.model.specs.Base.{any, count, joined, numbers, placeOf, mostNodes, mostShapes, mostStatements, pointerCount, recordSize}
 use Rattle.model.specs.Edges.{Edge, Loc, at, edgesOf, failed, sameLoc}
 use Rattle.model.specs.Heap.{Heap, Slot, Val, cell, holds, null, order, undef, unused}
 use Rattle.model.specs.Machine.{Op, Stmt, choose, clear, copy, free, isNull, leak, load, new, same, setNull, skip, stop, store}
@@ -115,11 +115,11 @@ pub record Refused (sts : List Stmt) (hs : List Heap) (cl ce : ℕ) (x : Refusal
 
 -- the records of an input
 abbrev pub recordsOf : List ℕ → List (List ℕ)
-recordsOf s = chunks (length s / 32) s
+recordsOf s = chunks (length s / recordSize) s
 
 -- 1: "empty, or not a multiple of 32 bytes"
 abbrev pub noRecords : List ℕ → Bool
-noRecords s = eqb (length s) 0 || not (eqb (length s % 32) 0)
+noRecords s = eqb (length s) 0 || not (eqb (length s % recordSize) 0)
 
 -- 4: record i is neither S nor H, or is an S after an H
 abbrev pub wrongKind : List (List ℕ) → ℕ → Bool
@@ -138,10 +138,10 @@ RightRecords s i = (j : ℕ) → j < i → recordRefusal (recordsOf s) j ≡ 0
 
 -- there are 1 to 64 S and 1 to 16 H
 abbrev pub rightS : List ℕ → Bool
-rightS s = between 1 64 (count isS (recordsOf s))
+rightS s = between 1 mostStatements (count isS (recordsOf s))
 
 abbrev pub rightH : List ℕ → Bool
-rightH s = between 1 16 (count isH (recordsOf s))
+rightH s = between 1 mostShapes (count isH (recordsOf s))
 
 -- What is wrong with an input, in the order of the checks, each where all before it pass: "whole input, in this order"; "Records are checked in
 -- input order, the lowest number first."
@@ -180,8 +180,8 @@ SmallSlot k (holds v) = SmallVal k v
 
 -- six pointers, at most twelve slots, all in use, and every value a cell below their number, null or undefined
 pub record Writable (h : Heap) : Type 0 where
-  pub six : length (h .ptrs) ≡ 6
-  pub few : length (h .slots) ≤ 12
+  pub six : length (h .ptrs) ≡ pointerCount
+  pub few : length (h .slots) ≤ mostNodes
   pub pointers : (v : Val) → In v (h .ptrs) → SmallVal (length (h .slots)) v
   pub nexts : (s : Slot) → In s (h .slots) → SmallSlot (length (h .slots)) s
 
@@ -192,7 +192,7 @@ WritableLoc (failed s f) = Unit {0}
 
 -- a location that is good: a shape with six pointers, or a fault
 abbrev pub GoodLoc : Loc → Type 0
-GoodLoc (at s h) = Canon h × (length (h .ptrs) ≡ 6)
+GoodLoc (at s h) = Canon h × (length (h .ptrs) ≡ pointerCount)
 GoodLoc (failed s f) = Unit {0}
 
 -- the number of an op in 01's table, and its pointers u and w, 0 where it has none

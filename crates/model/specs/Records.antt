@@ -5,7 +5,7 @@ use mathlib.Core.Bool.{Bool, true, false, _&&_, _||_, cond, not}
 use mathlib.Core.List.{List, [], _∷_, _++_, map}
 use lib.Dec.{eqb, leb, ltb}
 use lib.ListN.{length, getD, take, drop, replicate}
-use Rattle.model.specs.Base.{all, any, mem, joined, sameList}
+use Rattle.model.specs.Base.{all, any, mem, joined, sameList, mostNodes, pointerCount, recordSize}
 use Rattle.model.specs.Heap.{Val, cell, null, undef, Slot, unused, holds, Heap}
 use Rattle.model.specs.Shape.{canonical}
 use Rattle.model.specs.Machine.{Op, stop, setNull, copy, load, clear, store, new, free, isNull, same, choose, skip, Stmt, faultNumber}
@@ -75,7 +75,7 @@ word r i = byte r i + 256 * byte r (suc i)
 
 -- record n of a table
 abbrev pub recordAt : List ℕ → ℕ → List ℕ
-recordAt t n = take 32 (drop (32 * n) t)
+recordAt t n = take recordSize (drop (recordSize * n) t)
 
 abbrev pub isZero : ℕ → Bool
 isZero b = eqb b 0
@@ -107,7 +107,7 @@ valOf b = cond (eqb b 0xfe) null (cond (eqb b 0xff) undef (cell b))
 
 abbrev pub shapeOf : List ℕ → Heap
 shapeOf r = record {
-  ptrs = map valOf (take 6 (drop 4 r));
+  ptrs = map valOf (take pointerCount (drop 4 r));
   slots = map (λ b. holds (valOf b)) (take (byte r 3) (drop 10 r));
 }
 
@@ -156,7 +156,7 @@ usesSecond op = leb 8 op && leb op 10
 
 -- a used pointer is below 6, and "a field that the op doesn't use is zero"
 abbrev pub pointerField : Bool → ℕ → Bool
-pointerField used b = cond used (ltb b 6) (isZero b)
+pointerField used b = cond used (ltb b pointerCount) (isZero b)
 
 abbrev pub targetField : Bool → ℕ → Bool
 targetField used b = used || isZero b
@@ -193,8 +193,8 @@ valueByte k b = ltb b k || eqb b 0xfe || eqb b 0xff
 abbrev pub layoutH : List ℕ → Bool
 layoutH r =
     let k = byte r 3 in
-    isH r && isZero (byte r 1) && isZero (byte r 2) && leb k 12
-    && all (valueByte k) (take (6 + k) (drop 4 r)) && all isZero (drop (10 + k) r)
+    isH r && isZero (byte r 1) && isZero (byte r 2) && leb k mostNodes
+    && all (valueByte k) (take (pointerCount + k) (drop 4 r)) && all isZero (drop (10 + k) r)
 
 -- "9: a node unreachable or not core, or another numbering", "10: equal to an earlier H"
 abbrev pub checksH : List (List ℕ) → List ℕ → List Row

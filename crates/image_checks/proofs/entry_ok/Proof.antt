@@ -5,22 +5,23 @@ use Rattle.image_checks.proofs.entry_ok.Statement.{statement}
 use Rattle.image_checks.proofs.entry_ok.Tie as tie
 
 returns : tie.Need-returns
-returns c = let a = c .before .args in entry-pick (a .op) (a .pick) (a .cell) (a .cells .now) (c .if1 .taken)
+returns c u w ps =
+    let a = c .before .args in entry-pick (a .op) (a .pick) (a .cell) (a .cells .now) (c .before .pre) u w ps (c .if1 .taken)
 
 returns-2 : tie.Need-returns-2
-returns-2 c =
+returns-2 c u w ps =
     let a = c .before .before .before .before .args in
-    entry-cell (a .op) (a .pick) (a .cell) (a .cells .now) (c .before .before .if2 .taken) (c .before .if3 .taken)
+    entry-cell (a .op) (a .pick) (a .cell) (a .cells .now) (c .before .before .before .before .pre) u w ps (c .before .before .if2 .taken) (c .before .if3 .taken)
 
 returns-3 : tie.Need-returns-3
-returns-3 c =
+returns-3 c u w ps =
     let a = c .before .before .before .args in
-    entry-past (a .op) (a .pick) (a .cell) (a .cells .now) (c .before .if2 .taken) (c .if3 .left)
+    entry-past (a .op) (a .pick) (a .cell) (a .cells .now) (c .before .before .before .pre) u w ps (c .before .if2 .taken) (c .if3 .left)
 
 returns-4 : tie.Need-returns-4
-returns-4 c =
-    let s = c .before .before in
-    entry-other (s .args .op) (s .args .pick) (s .args .cell) (s .args .cells .now) (s .pre) (c .before .if1 .left) (c .if2 .left)
+returns-4 c u w ps =
+    let a = c .before .before .args in
+    entry-other (a .op) (a .pick) (a .cell) (a .cells .now) (c .before .before .pre) u w ps (c .before .if1 .left) (c .if2 .left)
 
 pub entry-ok-spec : {M : Type 1} → statement M
 entry-ok-spec = tie.close (tie.spec returns (λ c. search needs) returns-2 returns-3 returns-4)
