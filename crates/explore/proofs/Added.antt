@@ -7,7 +7,7 @@ use native.Mathlib.Omega.{arith}
 use lib.Dec.{eqb, ltb}
 use lib.ListN.{length}
 use borrow.Author.Tests.{eqb-false, eqb-true}
-use Rattle.model.specs.Base.{placeOf}
+use Rattle.model.specs.Base.{mostEdges, mostLocations, placeOf}
 use Rattle.model.specs.Edges.{Edge, at, sameLoc}
 use Rattle.model.specs.Records.{refusal}
 use Rattle.model.specs.Translate.{Listing, addEdges, full, grown, places}
@@ -31,10 +31,10 @@ more-fine n i e t F k l q = bool-case (ltb (placeOf (sameLoc (e .to)) (t .locs))
 
 module _ (t : Listing) (i : ℕ) (e : Edge) (rest : List Edge) (ls es : List ℕ) where
   abbrev cl : ℕ
-  cl = places 1024 (length ls)
+  cl = places mostLocations (length ls)
 
   abbrev ce : ℕ
-  ce = places 2048 (length es)
+  ce = places mostEdges (length es)
 
   -- the first of the edges is added
   pub add-step : (c : Counts) → GrownTo t i e ls es (Added c)

@@ -5,6 +5,7 @@ use mathlib.Core.List.{List}
 use native.Mathlib.Omega.{arith}
 use native.Mathlib.Numerals.{add-one}
 use lib.ListN.{length}
+use Rattle.model.specs.Base.{mostEdges, mostLocations}
 use Rattle.model.specs.Machine.{Stmt}
 use Rattle.model.specs.Edges.{Edge, edgesOf}
 use Rattle.model.specs.Records.{refusal}
@@ -47,15 +48,16 @@ explore-done sts cl ce zero i t h = refl
 explore-done sts cl ce (suc f) i t h = explore-end sts cl ce f i t h
 
 -- there are at most 1,024 locations
-pub most-locations : (s : List ℕ) (n : ℕ) (ls es : List ℕ) (c : Counts) → ExploreReady s n ls es c → c .locations ≤ 1024
+pub most-locations : (s : List ℕ) (n : ℕ) (ls es : List ℕ) (c : Counts) → ExploreReady s n ls es c
+    → c .locations ≤ mostLocations
 most-locations s n ls es c R = let H = R .held in omega (arith, H .locNumber, H .locsFit)
 
 module _ (s : List ℕ) (n : ℕ) (ls es : List ℕ) (c : Counts) where
   abbrev cl : ℕ
-  cl = places 1024 (length ls)
+  cl = places mostLocations (length ls)
 
   abbrev ce : ℕ
-  ce = places 2048 (length es)
+  ce = places mostEdges (length es)
 
   -- whichever the statements and whichever listing was held at first, in ls and es
   abbrev pub Explores : List ℕ → List ℕ → Counts → ℕ → Type 0

@@ -5,6 +5,7 @@ use mathlib.Core.List.{List, [], map}
 use native.Mathlib.Omega.{arith}
 use lib.ListN.{drop, length, length-drop, length-map, take}
 use lib.Seq.{take-all}
+use Rattle.model.specs.Base.{mostLocations}
 use Rattle.model.specs.Heap.{Heap}
 use Rattle.model.specs.Machine.{Stmt, leak}
 use Rattle.model.specs.Edges.{Loc, at, edgesAt, edgesOf, failed, stmtAt}
@@ -41,9 +42,9 @@ module _ (t : Listing) (ls es : List ℕ) (c : Counts) (i : ℕ) (H : Holds t ls
   below = omega (arith, H .locNumber)
 
   pub within : 32 * i + 32 ≤ length ls
-  within = place-within 1024 (length ls) i (omega (arith, below, H .locsFit))
+  within = place-within mostLocations (length ls) i (omega (arith, below, H .locsFit))
 
-  pub low : i < 1024
+  pub low : i < mostLocations
   low = omega (arith, below, H .locsFit)
 
   -- its record

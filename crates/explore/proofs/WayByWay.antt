@@ -3,6 +3,7 @@ use Prim.Native.Nat.{ℕ, _+_, _≤_, _<_}
 use mathlib.Core.Path.{_≡_, refl, ap, subst, _∙_}
 use mathlib.Core.List.{List, _∷_}
 use lib.ListN.{length}
+use Rattle.model.specs.Base.{mostEdges, mostLocations}
 use Rattle.model.specs.Heap.{Heap}
 use Rattle.model.specs.Edges.{Edge, edgesAt}
 use Rattle.model.specs.Records.{refusal}
@@ -29,10 +30,10 @@ pub record Left (n i cl ce : ℕ) (edges left : List Edge) (t₀ : Listing) (ls 
 
 module _ (l : List ℕ) (d : Decoded) (ls es : List ℕ) (c : Counts) (i : ℕ) where
   abbrev cl : ℕ
-  cl = places 1024 (length ls)
+  cl = places mostLocations (length ls)
 
   abbrev ce : ℕ
-  ce = places 2048 (length es)
+  ce = places mostEdges (length es)
 
   -- whichever location was given and whichever listing was held at first, in ls and es: those from way j on are left
   abbrev pub Adds : List ℕ → List ℕ → Counts → ℕ → Type 0

@@ -4,6 +4,7 @@ use mathlib.Core.Bool.{true}
 use mathlib.Core.Path.{_≡_}
 use mathlib.Core.List.{List}
 use lib.ListN.{length}
+use Rattle.model.specs.Base.{mostEdges, mostLocations, mostStatements}
 use Rattle.model.specs.Edges.{Edge, Loc, at, edgesOf, failed, stmtAt}
 use Rattle.model.specs.Machine.{Stmt}
 use Rattle.model.specs.Records.{isS, recordAt, refusal, refusalS, stmtOf}
@@ -22,7 +23,7 @@ pub record StatementOk (r : List ℕ) (n : ℕ) : Type 0 where
   pub wide : length r ≡ 32
   pub isStatement : isS r ≡ true
   pub accepted : refusalS n r ≡ 0
-  pub few : n ≤ 64
+  pub few : n ≤ mostStatements
 
 -- the first n records of the input are the statements sts
 pub record StatementsOk (s : List ℕ) (n : ℕ) (sts : List Stmt) : Type 0 where
@@ -62,11 +63,11 @@ pub record ExploreReady (s : List ℕ) (n : ℕ) (ls es : List ℕ) (c : Counts)
 
 -- edges of location i added to the listing t, and t explored, with the places of the tables ls and es
 abbrev pub addedIn : List ℕ → List ℕ → ℕ → List Edge → Listing → Explored
-addedIn ls es i e t = addEdges (places 1024 (length ls)) (places 2048 (length es)) i e t
+addedIn ls es i e t = addEdges (places mostLocations (length ls)) (places mostEdges (length es)) i e t
 
 abbrev pub exploredIn : List ℕ → List ℕ → List Stmt → Listing → Explored
 exploredIn ls es sts t =
-    explore sts (places 1024 (length ls)) (places 2048 (length es)) (places 1024 (length ls)) 0 t
+    explore sts (places mostLocations (length ls)) (places mostEdges (length es)) (places mostLocations (length ls)) 0 t
 
 -- whichever the statements and whichever listing was held, the edges of location i are added
 abbrev pub LocationExplored : List ℕ → ℕ → List ℕ → List ℕ → Counts → ℕ → List ℕ → List ℕ → Grown → Type 0

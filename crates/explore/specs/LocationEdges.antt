@@ -5,6 +5,7 @@ use mathlib.Core.Path.{_≡_}
 use mathlib.Core.Bool.{false}
 use mathlib.Core.List.{List, [], _∷_}
 use lib.ListN.{length}
+use Rattle.model.specs.Base.{mostStatements}
 use Rattle.model.specs.Heap.{Heap}
 use Rattle.model.specs.Machine.{action, branch, isStop, kind, target}
 use Rattle.model.specs.Edges.{Edge, at, edgeBy, edgesAt, stepBy, view, viewVal}
@@ -27,7 +28,7 @@ use Rattle.explore.specs.declared.Ways.{Ways}
 pub record Among (d : Decoded) (n : ℕ) : Type 0 where
   pub fields : DecodedOk d
   pub leads : isStop (kind (opIn d)) ≡ false → (p : ℕ) (h : Heap) → target (stmtIn d) (branch (opIn d) p h) < n
-  pub few : n ≤ 64
+  pub few : n ≤ mostStatements
 
 -- l is the record of statement s, which is d, with shape h
 pub record AtShape (l : List ℕ) (d : Decoded) (n s : ℕ) (h : Heap) : Type 0 where

@@ -7,7 +7,7 @@ use native.Mathlib.Omega.{arith}
 use lib.Dec.{ltb}
 use lib.ListN.{length}
 use borrow.Author.Tests.{le-ltb, lt-ltb, ltb-false}
-use Rattle.model.specs.Base.{placeOf}
+use Rattle.model.specs.Base.{mostEdges, mostLocations, placeOf}
 use Rattle.model.specs.Edges.{Loc, Edge, sameLoc, at, failed}
 use Rattle.model.specs.Records.{locRecord, byte}
 use Rattle.model.specs.Translate.{Link, Listing, linkRecord, places, grown}
@@ -29,13 +29,13 @@ use Rattle.listing.proofs.Kept.{Kept, kept-next}
 
 -- the location table, and the edge table
 abbrev LocsKept : ℕ → List Loc → List ℕ → ℕ → Type 0
-LocsKept = Kept locRecord WritableLoc 1024
+LocsKept = Kept locRecord WritableLoc mostLocations
 
 abbrev FewUpdates : Link → Type 0
 FewUpdates k = length (k .edge .updates) ≤ 12
 
 abbrev LinksKept : ℕ → List Link → List ℕ → ℕ → Type 0
-LinksKept = Kept linkRecord FewUpdates 2048
+LinksKept = Kept linkRecord FewUpdates mostEdges
 
 locs-kept : (t : Listing) (ls es : List ℕ) (c : Counts) → Holds t ls es c
     → LocsKept (length ls) (t .locs) ls (c .locations)
@@ -59,11 +59,12 @@ links-kept t ls es c H = record {
 
 -- the location table once the target is kept, where b says that it is known
 target-case : (b : Bool) (ls : List Loc) (l : Loc) (tab r : List ℕ) (size nl j : ℕ) → ltb j nl ≡ b
-    → LocsKept size ls tab nl → WritableLoc l → r ≡ locRecord l → j < places 1024 size
+    → LocsKept size ls tab nl → WritableLoc l → r ≡ locRecord l → j < places mostLocations size
     → LocsKept size (cond b ls (ls ++ l ∷ [])) (cond b tab (placed tab nl r)) (cond b nl (nl + 1))
 target-case true ls l tab r size nl j e K W p h = K
 target-case false ls l tab r size nl j e K W p h =
-    kept-next locRecord WritableLoc record-length 1024 size ls tab r nl l K W p (omega (arith, ltb-false j nl e))
+    kept-next locRecord WritableLoc record-length mostLocations size ls tab r nl l K W p
+    (omega (arith, ltb-false j nl e))
 
 holds-both : (t : Listing) (ls es : List ℕ) (a b : ℕ) (c : Counts) → LocsKept a (t .locs) ls (c .locations)
     → LinksKept b (t .links) es (c .edges) → Holds t ls es c
@@ -94,19 +95,21 @@ module _ (t : Listing) (i : ℕ) (e : Edge) (ls es r us : List ℕ) (m : EdgeMad
       ∙ found-location (t .locs) (e .to) (length ls) ls r (H .goodLocs) W (H .locs) (B .target)
 
   -- 11: no place for a new location
-  pub full-locations : places 1024 (length ls) ≤ j → GrownTo t i e ls es (Full 11)
+  pub full-locations : places mostLocations (length ls) ≤ j → GrownTo t i e ls es (Full 11)
   full-locations h =
-      rw (← number-is) (le-ltb j (places 1024 (length ls)) h, (λ z. absurd (omega arith)), omega arith, omega arith)
+      let none = le-ltb j (places mostLocations (length ls)) h in
+      rw (← number-is) (none, (λ z. absurd (omega arith)), omega arith, omega arith)
 
   -- 12: no place for the edge
-  pub full-edges : j < places 1024 (length ls) → places 2048 (length es) ≤ c .edges → GrownTo t i e ls es (Full 12)
+  pub full-edges : j < places mostLocations (length ls) → places mostEdges (length es) ≤ c .edges
+      → GrownTo t i e ls es (Full 12)
   full-edges h k =
       let n = H .edgeNumber in
-      let full : ltb (length (t .links)) (places 2048 (length es)) ≡ false =
-      le-ltb (length (t .links)) (places 2048 (length es)) (omega arith) in
-      rw (← number-is) (lt-ltb j (places 1024 (length ls)) h, (λ z. full), omega arith, omega arith)
+      let full : ltb (length (t .links)) (places mostEdges (length es)) ≡ false =
+      le-ltb (length (t .links)) (places mostEdges (length es)) (omega arith) in
+      rw (← number-is) (lt-ltb j (places mostLocations (length ls)) h, (λ z. full), omega arith, omega arith)
 
-  links-next : c .edges < places 2048 (length es)
+  links-next : c .edges < places mostEdges (length es)
       → LinksKept (length es) (grown i j e t .links)
       (placed es (c .edges) (edgeBytes (fieldsTo m i j) us)) (c .edges + 1)
   links-next k =
@@ -114,10 +117,10 @@ module _ (t : Listing) (i : ℕ) (e : Edge) (ls es r us : List ℕ) (m : EdgeMad
       let link : Link = record { from = i; dest = j; edge = e } in
       let bytes : edgeBytes (fieldsTo m i j) us ≡ linkRecord link =
       edge-record (fieldsTo m i j) us e (B .branch) (B .guards) (B .updates) in
-      kept-next linkRecord FewUpdates (λ l h. edge-length (l .from) (l .dest) (l .edge) h) 2048 (length es) (t .links)
-      es (edgeBytes (fieldsTo m i j) us) (c .edges) link (links-kept t ls es c H) few bytes k
+      kept-next linkRecord FewUpdates (λ l h. edge-length (l .from) (l .dest) (l .edge) h) mostEdges (length es)
+      (t .links) es (edgeBytes (fieldsTo m i j) us) (c .edges) link (links-kept t ls es c H) few bytes k
 
-  locs-next : j < places 1024 (length ls)
+  locs-next : j < places mostLocations (length ls)
       → LocsKept (length ls) (grown i j e t .locs) (targetKept ls (c .locations) j r) (countKept (c .locations) j)
   locs-next h =
       let nl = c .locations in
@@ -127,7 +130,7 @@ module _ (t : Listing) (i : ℕ) (e : Edge) (ls es r us : List ℕ) (m : EdgeMad
       subst (λ n. LocsKept (length ls) (locs n) (targetKept ls nl j r) (countKept nl j)) (H .locNumber) K
 
   -- one edge more: the target has its place, and the edge's record stands behind the others
-  pub one-more : j < places 1024 (length ls) → c .edges < places 2048 (length es)
+  pub one-more : j < places mostLocations (length ls) → c .edges < places mostEdges (length es)
       → (ls′ es′ : List ℕ) (n : ℕ) → n ≡ countKept (c .locations) j → ls′ ≡ targetKept ls (c .locations) j r
       → (f : EdgeFields) → f ≡ fieldsTo m i j → es′ ≡ placed es (c .edges) (edgeBytes f us)
       → GrownTo t i e ls′ es′ (Added (countsAfter c n))
@@ -143,9 +146,10 @@ module _ (t : Listing) (i : ℕ) (e : Edge) (ls es r us : List ℕ) (m : EdgeMad
       rw (p, q, s) (holds-both (grown i j e t) (targetKept ls (c .locations) j r)
       (placed es (c .edges) (edgeBytes (fieldsTo m i j) us)) (length ls) (length es)
       (countsAfter c (countKept (c .locations) j)) K L) in
-      let a : ltb j (places 1024 (length ls′)) ≡ true = rw sl (lt-ltb j (places 1024 (length ls)) h) in
-      let b : ltb (length (t .links)) (places 2048 (length es′)) ≡ true =
-      rw (se, ← num) (lt-ltb (c .edges) (places 2048 (length es)) k) in
+      let a : ltb j (places mostLocations (length ls′)) ≡ true =
+      rw sl (lt-ltb j (places mostLocations (length ls)) h) in
+      let b : ltb (length (t .links)) (places mostEdges (length es′)) ≡ true =
+      rw (se, ← num) (lt-ltb (c .edges) (places mostEdges (length es)) k) in
       rw (← number-is) (a, b, X)
 
 -- the record of an edge's target is that of a location

@@ -5,7 +5,7 @@ use mathlib.Core.Bool.{true, false}
 use mathlib.Core.List.{List, map}
 use lib.Dec.{ltb}
 use lib.ListN.{length}
-use Rattle.model.specs.Base.{placeOf}
+use Rattle.model.specs.Base.{mostEdges, mostLocations, placeOf}
 use Rattle.model.specs.Edges.{Loc, Edge, sameLoc}
 use Rattle.model.specs.Records.{locRecord}
 use Rattle.model.specs.Structs.{IsEdge}
@@ -23,8 +23,8 @@ pub record Holds (t : Listing) (ls es : List ℕ) (c : Counts) : Type 0 where
   pub edges : es ≡ tableOf (length es) (map linkRecord (t .links))
   pub locNumber : c .locations ≡ length (t .locs)
   pub edgeNumber : c .edges ≡ length (t .links)
-  pub locsFit : length (t .locs) ≤ places 1024 (length ls)
-  pub edgesFit : length (t .links) ≤ places 2048 (length es)
+  pub locsFit : length (t .locs) ≤ places mostLocations (length ls)
+  pub edgesFit : length (t .links) ≤ places mostEdges (length es)
   pub goodLocs : (l : Loc) → In l (t .locs) → WritableLoc l
   pub goodLinks : (k : Link) → In k (t .links) → length (k .edge .updates) ≤ 12
 
@@ -43,12 +43,12 @@ pub record GrowReady (ls es : List ℕ) (c : Counts) (i : ℕ) (m : EdgeMade) (r
 abbrev pub GrownTo : Listing → ℕ → Edge → List ℕ → List ℕ → Grown → Type 0
 GrownTo t i e ls es (Added c) =
     let j = placeOf (sameLoc (e .to)) (t .locs) in
-    (ltb j (places 1024 (length ls)) ≡ true) × (ltb (length (t .links)) (places 2048 (length es)) ≡ true)
+    (ltb j (places mostLocations (length ls)) ≡ true) × (ltb (length (t .links)) (places mostEdges (length es)) ≡ true)
     × Holds (grown i j e t) ls es c
 GrownTo t i e ls es (Full n) =
     let j = placeOf (sameLoc (e .to)) (t .locs) in
-    (ltb j (places 1024 (length ls)) ≡ ltb 11 n)
-    × (n ≡ 12 → ltb (length (t .links)) (places 2048 (length es)) ≡ false) × (11 ≤ n) × (n ≤ 12)
+    (ltb j (places mostLocations (length ls)) ≡ ltb 11 n)
+    × (n ≡ 12 → ltb (length (t .links)) (places mostEdges (length es)) ≡ false) × (11 ≤ n) × (n ≤ 12)
 
 -- whichever listing was held and whichever edge was given
 abbrev pub Grows : List ℕ → List ℕ → Counts → ℕ → EdgeMade → List ℕ → List ℕ → List ℕ → List ℕ → Grown → Type 0

@@ -80,11 +80,11 @@ pub fn add_edge(
     let nl = counts.locations;
     let ne = counts.edges;
     let j = search::find(&locations[..], nl, target);
-    let cl = places(1024, locations.len());
+    let cl = places(model::MOST_LOCATIONS, locations.len());
     if cl <= j {
         return Grown::Full { number: 11 };
     }
-    let ce = places(2048, edges.len());
+    let ce = places(model::MOST_EDGES, edges.len());
     if ce <= ne {
         return Grown::Full { number: 12 };
     }

@@ -4,6 +4,7 @@ use mathlib.Core.Path.{_≡_, refl, _∙_}
 use native.Mathlib.Omega.{arith}
 use lib.ListN.{length}
 use borrow.Author.Needs.{needs}
+use Rattle.model.specs.Base.{mostLocations}
 use Rattle.explore.proofs.Exploration.{Explores, explores-end, explores-full, explores-next, explores-start, grown-since, most-locations, next-ready}
 use Rattle.explore.proofs.explore_all.Statement.{statement}
 use Rattle.explore.proofs.explore_all.Tie as tie
@@ -14,7 +15,7 @@ Inv-loop input n locations₀ edges₀ held₀ i₀ locations edges held i =
     × Explores input n locations₀ edges₀ held₀ locations edges held i
 
 abbrev μ-loop : tie.MeasureT-loop
-μ-loop input n locations₀ edges₀ held₀ i₀ locations edges held i = 1024 - i
+μ-loop input n locations₀ edges₀ held₀ i₀ locations edges held i = mostLocations - i
 
 loop-holds : tie.Need-loop-holds Inv-loop μ-loop
 loop-holds c = (refl, refl, explores-start _ _ _ _ _)
@@ -24,7 +25,7 @@ since : (c : tie.At-loop Inv-loop μ-loop)
     → c .before .before .before .before .args .counts .locations ≤ c .loop .held .locations
 since c = grown-since _ _ _ _ _ _ _ _ _ (c .loop .inv .2) (c .before .before .before .before .pre)
 
-few : (c : tie.At-loop Inv-loop μ-loop) → c .loop .held .locations ≤ 1024
+few : (c : tie.At-loop Inv-loop μ-loop) → c .loop .held .locations ≤ mostLocations
 few c =
     most-locations _ _ _ _ _ (next-ready _ _ _ _ _ _ _ _ _ (c .loop .inv .2) (c .before .before .before .before .pre))
 

@@ -2,6 +2,7 @@
 use Prim.Native.Nat.{_<_}
 use lib.ListN.{length}
 use borrow.Author.Needs.{needs}
+use Rattle.model.specs.Base.{mostLocations}
 use Rattle.model.specs.Translate.{places}
 use Rattle.listing.proofs.Kept.{place-within}
 use Rattle.listing.proofs.Held.{full-edges, full-locations, one-more, target-tag}
@@ -25,8 +26,8 @@ keep-target-requires c κs =
     let s = c .before .before .before .before .before .before .before .before .before .before .before in
     let a = s .args in
     let j = c .before .before .before .before .before .find .result in
-    let h : j < places 1024 (length (a .locations .now)) = search needs in
-    (place-within 1024 (length (a .locations .now)) j h, search needs, target-tag (s .pre .bytes))
+    let h : j < places mostLocations (length (a .locations .now)) = search needs in
+    (place-within mostLocations (length (a .locations .now)) j h, search needs, target-tag (s .pre .bytes))
 
 put-edge-requires : tie.Need-put-edge-requires
 put-edge-requires c κs = rw (c .fields-to .ensures) (search needs)
@@ -38,7 +39,7 @@ returns-3 c t e H W B =
     let f = p .find in
     let a = p .before .before .before .before .before .before .args in
     let kept = d .keep-target in
-    let h : f .result < places 1024 (length (a .locations .now)) = search needs in
+    let h : f .result < places mostLocations (length (a .locations .now)) = search needs in
     let fields = c .before .before .before .fields-to in
     one-more t (a .from) e _ _ _ _ _ _ H W B (f .result) (f .ensures) h (search needs) _ _ (kept .result)
     (kept .ensures .0) (kept .ensures .1)
