@@ -4,7 +4,7 @@ ghost use Prim.Native.Nat.{_≤_};
 ghost use lib.Dec.{leb};
 ghost use lib.ListN.{length};
 ghost use Rattle.model.specs.Base.{all, sum};
-ghost use Rattle.model.specs.Image.{countersFit, countsFit};
+ghost use Rattle.model.specs.Image.{countersFit};
 
 // Whether each counter is at least 1.
 fn all_positive(counters: &[u32]) -> bool
@@ -34,15 +34,7 @@ fn total(counters: &[u32]) -> u64
     t
 }
 
-// Whether twelve counters fit k nodes and n cells: each node has a cell, and the counters past them ask for none.
-fn counts_fit(k: usize, counters: &[u32], n: usize) -> bool
-    requires { ⌜ (length (now counters) ≡ 12) × (k ≤ 12) ⌝ }
-    ensures { λ r. ⌜ r ≡ countsFit k (now (counters .entry)) n ⌝ }
-{
-    all_positive(&counters[..k]) & (total(&counters[k..]) == 0) & (total(counters) <= n as u64)
-}
-
-// Whether the counters are twelve, and fit k nodes and n cells.
+// Whether the counters are twelve and fit k nodes and n cells: each node has a cell, counters past them ask for none.
 pub fn counters_fit(k: usize, counters: &[u32], n: usize) -> bool
     requires { ⌜ k ≤ 12 ⌝ }
     ensures { λ r. ⌜ r ≡ countersFit k (now (counters .entry)) n ⌝ }
@@ -50,5 +42,5 @@ pub fn counters_fit(k: usize, counters: &[u32], n: usize) -> bool
     if counters.len() != 12 {
         return false;
     }
-    counts_fit(k, counters, n)
+    all_positive(&counters[..k]) & (total(&counters[k..]) == 0) & (total(counters) <= n as u64)
 }

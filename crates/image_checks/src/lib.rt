@@ -80,11 +80,10 @@ pub fn unfold_refusal(rec: &[u8], counters: &[u32], pointers: usize, cells: usiz
     if !is_shape(rec) {
         return 8;
     }
-    let k = rec[3] as usize;
-    let end = 10 + k;
-    if !visit::is_canonical(&rec[4..10], &rec[10..end]) {
+    if !layout::canonical_shape(rec) {
         return 9;
     }
+    let k = rec[3] as usize;
     if counters::counters_fit(k, counters, cells) {
         0
     } else {

@@ -1,16 +1,15 @@
 // The checks of the translator's input: S records, then H records, 32 bytes each. The first that fails gives the refusal.
+use layout::canonical_shape;
 use layout::layout_ok;
 use layout::statement_refusal;
-use visit::is_canonical;
 ghost use mathlib.Core.Path.{_≡_};
-ghost use mathlib.Core.Bool.{true, false};
+ghost use mathlib.Core.Bool.{false};
 ghost use mathlib.Core.Option.{none};
 ghost use Prim.Native.Nat.{_+_, _*_, _≤_};
 ghost use lib.Dec.{eqb};
 ghost use lib.ListN.{length};
 ghost use Rattle.model.specs.Base.{any, count, sameList};
-ghost use Rattle.model.specs.Records.{isS, layoutH, refusalH, shapeOf};
-ghost use Rattle.model.specs.Shape.{canonical};
+ghost use Rattle.model.specs.Records.{isS, refusalH};
 ghost use Rattle.model.specs.Translate.{badKind, between, check, checkCounts, checkKinds, checkRecords};
 ghost use Rattle.model.specs.Listings.{recordsOf};
 ghost use Rattle.input.specs.Input.{checkedOf, GoodCounts};
@@ -66,15 +65,6 @@ fn count_statements(input: &[u8], records: usize) -> usize
 }
 
 // ---- a single record
-
-// Whether the shape of an H record, which keeps the layout, is canonical.
-fn canonical_shape(rec: &[u8]) -> bool
-    requires { ⌜ (length (now rec) ≡ 32) × (layoutH (now rec) ≡ true) ⌝ }
-    ensures { λ r. ⌜ r ≡ canonical (shapeOf (now (rec .entry))) ⌝ }
-{
-    let end = 10 + rec[3] as usize;
-    is_canonical(&rec[4..10], &rec[10..end])
-}
 
 // Whether a record equals one of the first i records of the input.
 fn repeats(input: &[u8], i: usize, rec: &[u8]) -> bool

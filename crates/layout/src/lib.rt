@@ -1,4 +1,4 @@
-// The layout of S and H records of 32 bytes: which refusal a statement has, whether a shape keeps the layout.
+// S and H records of 32 bytes: which refusal a statement has, whether a shape keeps the layout and is canonical.
 pub mod fields;
 
 use fields::all_values;
@@ -7,8 +7,10 @@ use fields::fields_ok;
 use fields::head_ok;
 use fields::targets_ok;
 ghost use mathlib.Core.Path.{_≡_};
+ghost use mathlib.Core.Bool.{true};
 ghost use lib.ListN.{length};
-ghost use Rattle.model.specs.Records.{refusalS, layoutH};
+ghost use Rattle.model.specs.Records.{refusalS, layoutH, shapeOf};
+ghost use Rattle.model.specs.Shape.{canonical};
 
 // The refusal of an S record among n statements, 0 for none.
 pub fn statement_refusal(rec: &[u8], n: usize) -> u8
@@ -38,4 +40,13 @@ pub fn layout_ok(rec: &[u8]) -> bool
     }
     let end = 10 + k as usize;
     all_values(&rec[4..end], k) & all_zero(&rec[end..])
+}
+
+// Whether the shape of an H record, which keeps the layout, is canonical.
+pub fn canonical_shape(rec: &[u8]) -> bool
+    requires { ⌜ (length (now rec) ≡ 32) × (layoutH (now rec) ≡ true) ⌝ }
+    ensures { λ r. ⌜ r ≡ canonical (shapeOf (now (rec .entry))) ⌝ }
+{
+    let end = 10 + rec[3] as usize;
+    visit::is_canonical(&rec[4..10], &rec[10..end])
 }

@@ -1,7 +1,8 @@
 -- `fold` meets its contract: a refusal, and the fold of an image that passes the checks.
 use mathlib.Core.Path.{sym, _∙_}
+use native.Mathlib.Omega.{arith}
 use borrow.Author.Needs.{needs}
-use Rattle.heap_operations.proofs.FoldLaws.{fold-passed, fold-ready, fold-refused}
+use Rattle.heap_operations.proofs.FoldLaws.{count-visited, few-visited, fold-passed, fold-ready, fold-refused}
 use Rattle.heap_operations.proofs.fold.Statement.{statement}
 use Rattle.heap_operations.proofs.fold.Tie as tie
 
@@ -11,14 +12,31 @@ returns c =
     let k = c .before .before .before .before .check-image in
     fold-refused (a .pointers .now) (a .cells .now) (k .result .refusal) (k .ensures .refusal) (c .if1 .taken)
 
+array-share-prefix-order : tie.Need-array-share-prefix-order
+array-share-prefix-order c =
+    let k = c .before .before .before .before .check-image in
+    omega (arith, few-visited (k .ensures) (c .if1 .left), k .kept .1 .1 .0)
+
+slice-aggregate-fold-heap : tie.Need-slice-aggregate-fold-heap
+slice-aggregate-fold-heap c =
+    let k = c .before .before .before .before .before .check-image in
+    count-visited (k .ensures) (c .before .if1 .left) (k .kept .1 .1 .0)
+
 fold-heap-requires : tie.Need-fold-heap-requires
-fold-heap-requires c κs = let k = c .before .before .before .before .before .before .check-image in fold-ready (k .ensures) (c .before .before .if1 .left) (k .kept .1 .1 .0) (k .kept .1 .1 .1 .0)
+fold-heap-requires c κs =
+    let k = c .before .before .before .before .before .before .check-image in
+    fold-ready (k .ensures) (c .before .before .if1 .left) (k .kept .1 .1 .1 .0)
 
 returns-2 : tie.Need-returns-2
 returns-2 c =
-    let k = c .before .before .before .before .before .before .before in
+    let e = c .before .before .before in
+    let k = e .before .before .before .before in
     let a = k .before .before .before .before .before .args in
-    c .fold-heap .ensures ∙ fold-passed (a .pointers .now) (a .cells .now) (sym (k .check-image .ensures .refusal) ∙ c .before .before .before .if1 .left)
+    c .fold-heap .ensures
+    ∙ fold-passed (a .pointers .now) (a .cells .now) (sym (k .check-image .ensures .refusal) ∙ e .if1 .left)
 
 pub fold-spec : {M : Type 1} → statement M
-fold-spec = tie.close (tie.spec (λ c. search needs) (λ c. search needs) (λ c κs. search needs) returns (λ c. search needs) (λ c. search needs) fold-heap-requires returns-2)
+fold-spec =
+    tie.close
+    (tie.spec (λ c. search needs) (λ c. search needs) (λ c κs. search needs) returns array-share-prefix-order
+    slice-aggregate-fold-heap (λ c. search needs) fold-heap-requires returns-2)

@@ -8,7 +8,8 @@ returns : tie.Need-returns
 returns c =
     let a = c .before .before .before .before .before .before .args in
     let u = c .before .unfold-refusal in
-    unfold-refused (a .rec .now) (a .counters .now) (a .pointers .now) (a .cells .now) (u .result) (u .ensures) (c .if1 .taken)
+    unfold-refused (a .rec .now) (a .counters .now) (a .pointers .now) (a .cells .now) (u .result) (u .ensures)
+    (c .if1 .taken)
 
 unfold-shape-requires : tie.Need-unfold-shape-requires
 unfold-shape-requires c κs =
@@ -23,8 +24,8 @@ returns-2 c =
     let t = c .before .before .before .before .before .before .before in
     let u = t .before .unfold-refusal in
     let a = t .before .before .before .before .before .before .args in
-    unfold-done (a .rec .now) (a .counters .now) (a .pointers .now) (a .cells .now) (u .result) (u .ensures) (t .if1 .left)
-    (s .last .1 .1 .0) (s .last .1 .1 .1 .0) (s .ensures .0) (s .ensures .1)
+    unfold-done (a .rec .now) (a .counters .now) (a .pointers .now) (a .cells .now) (u .result) (u .ensures)
+    (t .if1 .left) (s .last .1 .1 .0) (s .last .1 .1 .1 .0) (s .ensures .0) (s .ensures .1)
 
 pub unfold-spec : {M : Type 1} → statement M
 unfold-spec =

@@ -6,7 +6,9 @@ use lib.ListN.{length}
 use borrow.Author.Needs.{needs}
 use borrow.Author.Tests.{not-false, not-true}
 use Rattle.model.specs.Records.{byte}
-use Rattle.image_checks.proofs.UnfoldChecks.{canonical-ready, laid-few, laid-layout, laid-wide, refuse-cells, refuse-counters, refuse-layout, refuse-none, refuse-numbering, refuse-pointers}
+use Rattle.image_checks.proofs.UnfoldChecks.{laid-few, laid-layout, laid-wide}
+use Rattle.image_checks.proofs.UnfoldChecks.{refuse-cells, refuse-counters, refuse-layout, refuse-none}
+use Rattle.image_checks.proofs.UnfoldChecks.{refuse-numbering, refuse-pointers}
 use Rattle.image_checks.proofs.unfold_refusal.Statement.{statement}
 use Rattle.image_checks.proofs.unfold_refusal.Tie as tie
 
@@ -24,72 +26,83 @@ returns-3 : tie.Need-returns-3
 returns-3 c =
     let a = c .before .before .before .before .before .before .args in
     let s = c .before .is-shape in
-    refuse-layout (a .rec .now) (a .counters .now) (a .pointers) (a .cells) (c .before .before .before .if1 .left) (c .before .before .if2 .left)
+    refuse-layout (a .rec .now) (a .counters .now) (a .pointers) (a .cells)
+    (c .before .before .before .if1 .left) (c .before .before .if2 .left)
     (s .result) (s .ensures) (not-true _ (c .if3 .taken))
 
 -- a record that passed the test of its layout: 32 bytes, and at most twelve nodes
 wide : (c : tie.Else3) → length (c .before .before .before .before .before .before .args .rec .now) ≡ 32
-wide c = laid-wide (c .before .before .before .before .before .before .args .rec .now) (c .before .is-shape .ensures) (not-false _ (c .if3 .left))
+wide c =
+    laid-wide (c .before .before .before .before .before .before .args .rec .now) (c .before .is-shape .ensures)
+    (not-false _ (c .if3 .left))
 
 few : (c : tie.Else3) → byte (c .before .before .before .before .before .before .args .rec .now) 3 ≤ 12
-few c = laid-few (c .before .before .before .before .before .before .args .rec .now) (c .before .is-shape .ensures) (not-false _ (c .if3 .left))
+few c =
+    laid-few (c .before .before .before .before .before .before .args .rec .now) (c .before .is-shape .ensures)
+    (not-false _ (c .if3 .left))
 
-shared-slice-read-k : tie.Need-shared-slice-read-k
-shared-slice-read-k c = omega (arith, wide (c .before))
-
-cast-k : tie.Need-cast-k
-cast-k c = omega (arith, few (c .before))
-
-add-end : tie.Need-add-end
-add-end c = omega (arith, few (c .before))
-
-part-is-canonical-end : tie.Need-part-is-canonical-end
-part-is-canonical-end c = omega (arith, wide (c .before))
-
-part-is-canonical-end-2 : tie.Need-part-is-canonical-end-2
-part-is-canonical-end-2 c = omega (arith, wide (c .before .before), few (c .before .before))
-
-is-canonical-requires : tie.Need-is-canonical-requires
-is-canonical-requires c κs =
-    let t = c .before .before .before in
-    let r = t .before .before .before .before .before .before .args .rec .now in
-    canonical-ready r (wide t) (laid-layout r (t .before .is-shape .ensures) (not-false _ (t .if3 .left)))
+canonical-shape-requires : tie.Need-canonical-shape-requires
+canonical-shape-requires c κs = (
+  wide c,
+  laid-layout (c .before .before .before .before .before .before .args .rec .now) (c .before .is-shape .ensures)
+      (not-false _ (c .if3 .left)),
+)
 
 returns-4 : tie.Need-returns-4
 returns-4 c =
-    let n = c .before .is-canonical in
-    let t = c .before .before .before .before .before in
+    let n = c .before .canonical-shape in
+    let t = c .before .before in
     let a = t .before .before .before .before .before .before .args in
-    refuse-numbering (a .rec .now) (a .counters .now) (a .pointers) (a .cells) (t .before .before .before .if1 .left) (t .before .before .if2 .left)
-    (t .before .is-shape .ensures) (not-false _ (t .if3 .left)) (n .result) (n .ensures) (not-true _ (c .if4 .taken))
+    refuse-numbering (a .rec .now) (a .counters .now) (a .pointers) (a .cells)
+    (t .before .before .before .if1 .left) (t .before .before .if2 .left)
+    (t .before .is-shape .ensures) (not-false _ (t .if3 .left))
+    (n .result) (n .ensures) (not-true _ (c .if4 .taken))
+
+shared-slice-read-k : tie.Need-shared-slice-read-k
+shared-slice-read-k c = omega (arith, wide (c .before .before .before))
+
+cast-k : tie.Need-cast-k
+cast-k c = omega (arith, few (c .before .before .before))
 
 counters-fit-requires : tie.Need-counters-fit-requires
-counters-fit-requires c κs =
-    few (c .before .before .before .before .before)
+counters-fit-requires c κs = few (c .before .before .before)
 
 returns-5 : tie.Need-returns-5
 returns-5 c =
     let f = c .before .counters-fit in
-    let n = c .before .before .before .is-canonical in
-    let t = c .before .before .before .before .before .before .before in
+    let n = c .before .before .before .before .canonical-shape in
+    let t = c .before .before .before .before .before in
     let a = t .before .before .before .before .before .before .args in
-    refuse-none (a .rec .now) (a .counters .now) (a .pointers) (a .cells) (t .before .before .before .if1 .left) (t .before .before .if2 .left)
-    (t .before .is-shape .ensures) (not-false _ (t .if3 .left)) (n .result) (n .ensures) (not-false _ (c .before .before .if4 .left))
+    refuse-none (a .rec .now) (a .counters .now) (a .pointers) (a .cells)
+    (t .before .before .before .if1 .left) (t .before .before .if2 .left)
+    (t .before .is-shape .ensures) (not-false _ (t .if3 .left))
+    (n .result) (n .ensures) (not-false _ (c .before .before .before .if4 .left))
     (f .result) (f .ensures) (c .if5 .taken)
 
 returns-6 : tie.Need-returns-6
 returns-6 c =
     let f = c .before .counters-fit in
-    let n = c .before .before .before .is-canonical in
-    let t = c .before .before .before .before .before .before .before in
+    let n = c .before .before .before .before .canonical-shape in
+    let t = c .before .before .before .before .before in
     let a = t .before .before .before .before .before .before .args in
-    refuse-counters (a .rec .now) (a .counters .now) (a .pointers) (a .cells) (t .before .before .before .if1 .left) (t .before .before .if2 .left)
-    (t .before .is-shape .ensures) (not-false _ (t .if3 .left)) (n .result) (n .ensures) (not-false _ (c .before .before .if4 .left))
+    refuse-counters (a .rec .now) (a .counters .now) (a .pointers) (a .cells)
+    (t .before .before .before .if1 .left) (t .before .before .if2 .left)
+    (t .before .is-shape .ensures) (not-false _ (t .if3 .left))
+    (n .result) (n .ensures) (not-false _ (c .before .before .before .if4 .left))
     (f .result) (f .ensures) (c .if5 .left)
 
 pub unfold-refusal-spec : {M : Type 1} → statement M
 unfold-refusal-spec =
     tie.close
-    (tie.spec returns returns-2 (λ c κs. search needs) returns-3 shared-slice-read-k cast-k add-end (λ c. search needs) (λ c. search needs)
-    part-is-canonical-end (λ c. search needs) (λ c. search needs) part-is-canonical-end-2 is-canonical-requires returns-4
-    counters-fit-requires returns-5 returns-6)
+    (tie.spec
+    returns
+    returns-2
+    (λ c κs. search needs)
+    returns-3
+    canonical-shape-requires
+    returns-4
+    shared-slice-read-k
+    cast-k
+    counters-fit-requires
+    returns-5
+    returns-6)

@@ -5,12 +5,12 @@ use native.Mathlib.Omega.{arith}
 use lib.ListN.{drop, length-drop}
 use lib.Seq.{length-take-le}
 use borrow.Author.Needs.{needs}
+use Rattle.model.specs.Heap.{closed}
 use Rattle.model.specs.Records.{byte}
 use Rattle.model.specs.Shape.{canonical}
-use Rattle.model.proofs.records.ShapeBack.{layout-few, shape-image}
-use Rattle.input.proofs.Shapes.{image-closed}
-use Rattle.input.proofs.canonical_shape.Statement.{statement}
-use Rattle.input.proofs.canonical_shape.Tie as tie
+use Rattle.model.proofs.records.ShapeBack.{layout-closed, layout-few, shape-image}
+use Rattle.layout.proofs.canonical_shape.Statement.{statement}
+use Rattle.layout.proofs.canonical_shape.Tie as tie
 
 cast-end : tie.Need-cast-end
 cast-end c =
@@ -32,8 +32,10 @@ is-canonical-requires c κs =
     let s = c .before .before .before .before in
     let r = s .args .rec .now in
     let few = layout-few r (s .pre .0) (s .pre .1) in
+    let image = shape-image r (s .pre .0) (s .pre .1) in
+    let successors = length-take-le (byte r 3) (drop 10 r) (omega (arith, length-drop 10 r)) in
     let e : (10 + byte r 3) - 10 ≡ byte r 3 = omega arith in
-    rw e (image-closed r (s .pre .0) (s .pre .1), omega (arith, length-take-le (byte r 3) (drop 10 r) (omega (arith, length-drop 10 r))))
+    rw e (ap closed (sym image) ∙ layout-closed r (s .pre .0) (s .pre .1), omega (arith, successors))
 
 returns : tie.Need-returns
 returns c =
