@@ -128,7 +128,8 @@ pub record Checked (r : List ℕ) (p c : ℕ) (ps cs : List ℕ) (d : Decoded) :
 module _ {r : List ℕ} {p c : ℕ} {ps cs : List ℕ} {d : Decoded} (C : Checked r p c ps cs d) where
   pub decoded-fields : (d .op < opCount) × (d .u .0 < 6) × (d .w .0 < 6)
   decoded-fields =
-      subst (λ x. (x .op < opCount) × (x .u .0 < 6) × (x .w .0 < 6)) (sym (C .decodes)) (checked-fields r ps cs (C .passed))
+      subst (λ x. (x .op < opCount) × (x .u .0 < 6) × (x .w .0 < 6)) (sym (C .decodes))
+      (checked-fields r ps cs (C .passed))
 
   -- a is what the test of the entry gives, which reads the op and the cells only
   module _ {a : Bool}
@@ -171,7 +172,8 @@ module _ {r : List ℕ} {p c : ℕ} {ps cs : List ℕ} {d : Decoded} (C : Checke
           let st = stmtOf r in
           let h = heapOf ps cs in
           let x : Bool = pastEnd (action (st .op)) c (length (h .slots)) in
-          let g : accepts (st .op) (entry p c) h ≡ true = and-r (not x) (accepts (st .op) (entry p c) h) (sym fits ∙ t) in
+          let g : accepts (st .op) (entry p c) h ≡ true =
+          and-r (not x) (accepts (st .op) (entry p c) h) (sym fits ∙ t) in
           let v : step st (entry p c) h ≡ cond (isStop (kind (st .op))) stopped (ranAnswer st p c ps cs) = rw g in
           w ∙ ap (λ z. stmtAnswer (stmtIn z) p c ps cs) (C .decodes) ∙ ap (λ z. answered z ps cs) (sym v)
           ∙ image-answered r p c ps cs (after ∙ pass-none (entryCheck r p c ps cs ∷ []) (sym fits ∙ t, tt))
