@@ -7,12 +7,12 @@ use lib.Dec.{leb}
 use lib.ListN.{length, getD, take, drop}
 use Rattle.model.specs.Heap.{Heap, IsHeap, next, order}
 use Rattle.model.specs.Image.{heapOf}
-use Rattle.model.specs.Machine.{branch, carryOut}
+use Rattle.model.specs.Machine.{branch, carryOut, target}
 use Rattle.model.specs.Edges.{at, updateOf}
 use Rattle.model.specs.Records.{byte, locRecord, shapeOf, updateCode}
 use Rattle.model.specs.Shape.{segments, shape}
 use Rattle.model.specs.Notions.{Used}
-use Rattle.model.specs.Structs.{opIn}
+use Rattle.model.specs.Structs.{opIn, stmtIn}
 use Rattle.model.specs.declared.Decoded.{Decoded}
 use Rattle.model.specs.declared.EdgeMade.{EdgeMade}
 use Rattle.model.specs.declared.Guards.{Guards}
@@ -35,6 +35,11 @@ staysAt op = leb 8 op
 -- what is made of a fault f of the location l: t is the fault's record
 abbrev pub FaultMade : List ℕ → ℕ → Guards → List ℕ → EdgeMade → Type 0
 FaultMade l f g t r = (r .branch ≡ 0) × (r .guards ≡ g) × (r .nodes ≡ 0) × (t ≡ faultBytes (byte l 1) f)
+
+-- the edge by branch b, with guards g and m new nodes, to the statement of that branch: its target before (t) and after (t′)
+abbrev pub EdgeOn : Decoded → ℕ → Guards → ℕ → List ℕ → List ℕ → EdgeMade → Type 0
+EdgeOn d b g m t t′ r =
+    (r ≡ record { branch = b; guards = g; nodes = m }) × (t′ ≡ 0x4c ∷ target (stmtIn d) b ∷ 0 ∷ m ∷ drop 4 t)
 
 -- some location is given of which the way is ready, and there is room for the heap image and the visit
 pub record RunsReady (l : List ℕ) (d : Decoded) (y : Way) (image : Bytes) (visit seen : List ℕ) : Type 0 where

@@ -2,8 +2,8 @@
 use update::Weights;
 ghost use Rattle.edge.specs.WayRun.{IsLeft, LeaveReady};
 
-// Folds what a run left, by its visit order and marks: the target's record but for its head, and an update for each new node.
-// Answers how many there are.
+// Folds what a run left, by its visit order and marks: the target's record but for its head, and an update for each
+// new node. Answers how many there are.
 pub fn leave(
     pointers: &[u8],
     cells: &[u8],
@@ -14,7 +14,8 @@ pub fn leave(
     updates: &mut [u16],
 ) -> usize
     requires { ⌜ LeaveReady (now pointers) (now cells) (now order) (now held) weights (now target) (now updates) ⌝ }
-    ensures { λ r. ⌜ IsLeft (now (pointers .entry)) (now (cells .entry)) weights (now (target .exit)) (now (updates .exit)) r ⌝ }
+    ensures { λ r. ⌜ IsLeft (now (pointers .entry)) (now (cells .entry)) weights (now (target .exit))
+        (now (updates .exit)) r ⌝ }
 {
     let mut node = [0u8; 16];
     let mut last = [0u8; 16];

@@ -1,5 +1,5 @@
-// One edge of a location: the statement is run on the location's shape, opened for the way, and the result is folded. A statement
-// that keeps the heap needs no run.
+// One edge of a location: the statement is run on the location's shape, opened for the way, and the result is folded.
+// A statement that keeps the heap needs no run.
 mod fold;
 
 use fold::leave;
@@ -11,13 +11,15 @@ use update::Weights;
 use way::Way;
 ghost use mathlib.Core.Path.{_≡_};
 ghost use mathlib.Core.Bool.{true};
+ghost use Prim.Native.Nat.{_≤_};
 ghost use lib.ListN.{length, set};
+ghost use Rattle.model.specs.Records.{byte};
 ghost use Rattle.machine.specs.Run.{bytes};
 ghost use Rattle.edge.specs.Edge.{EdgeReady, LeavesBy};
-ghost use Rattle.edge.specs.WayRun.{FaultMade, RunsReady, WayRan, staysAt};
+ghost use Rattle.edge.specs.WayRun.{EdgeOn, FaultMade, RunsReady, WayRan, staysAt};
 
-// What the run by a way gives beside the heap image: the fault (0 for none), the branch, how many cells there are, and how many
-// were visited.
+// What the run by a way gives beside the heap image: the fault (0 for none), the branch, how many cells there are, and
+// how many were visited.
 pub struct Gone {
     pub fault: u8,
     pub branch: u8,
@@ -64,6 +66,34 @@ fn fault_edge(location: &[u8], fault: u8, guards: Guards, target: &mut [u8]) -> 
     }
 }
 
+// How much each cell counts where the way opens the location's shape.
+fn weights_of(location: &[u8], way: Way) -> Weights
+    requires { ⌜ (length (now location) ≡ 32) × (byte (now location) 3 ≤ 12) ⌝ }
+    ensures { λ r. ⌜ (r .nodes ≡ byte (now (location .entry)) 3) × (r .split ≡ way .split)
+        × (r .node .0 ≡ way .node .0) ⌝ }
+{
+    let node = way.node;
+    Weights {
+        nodes: location[3] as usize,
+        split: way.split,
+        node: node,
+    }
+}
+
+// The edge to the statement of the branch, whose shape the target has already: the target's head, and what else there
+// is to an edge.
+fn edge_on(d: Decoded, branch: u8, guards: Guards, nodes: usize, target: &mut [u8]) -> EdgeMade
+    requires { ⌜ (length (now target) ≡ 32) × (nodes ≤ 12) ⌝ }
+    ensures { λ r. ⌜ EdgeOn d branch guards nodes (now (target .entry)) (now (target .exit)) r ⌝ }
+{
+    record::write_head(target, 0x4c, statement::next_of(d, branch), nodes);
+    EdgeMade {
+        branch: branch,
+        guards: guards,
+        nodes: nodes,
+    }
+}
+
 // The edge by running the statement and folding what the run leaves.
 fn run_edge(
     location: &[u8],
@@ -88,33 +118,21 @@ fn run_edge(
         &mut order,
         &mut seen,
     );
-    let guards = way.guards;
     if gone.fault != 0 {
-        return fault_edge(location, gone.fault, guards, target);
+        return fault_edge(location, gone.fault, way.guards, target);
     }
     let n = gone.cells;
     let v = gone.visited;
-    let node = way.node;
-    let weights = Weights {
-        nodes: location[3] as usize,
-        split: way.split,
-        node: node,
-    };
     let m = leave(
         &pointers,
         &cells[..n],
         &order[..v],
         &seen,
-        weights,
+        weights_of(location, way),
         target,
         updates,
     );
-    record::write_head(target, 0x4c, statement::next_of(d, gone.branch), m);
-    EdgeMade {
-        branch: gone.branch,
-        guards: guards,
-        nodes: m,
-    }
+    edge_on(d, gone.branch, way.guards, m, target)
 }
 
 // Writes the location's record with another statement.
@@ -148,7 +166,8 @@ fn keep_edge(
     }
 }
 
-// The edge by one way out of a location: its target's record, its updates, its branch and guards, and how many new nodes there are.
+// The edge by one way out of a location: its target's record, its updates, its branch and guards, and how many new
+// nodes there are.
 pub fn one_edge(
     location: &[u8],
     d: Decoded,

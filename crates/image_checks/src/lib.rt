@@ -1,4 +1,5 @@
-// The checks of the three calls: of a heap image, of the record and counters of an unfolding, and of a step's record and entry.
+// The checks of the three calls: of a heap image, of the record and counters of an unfolding, and of a step's record
+// and entry.
 ghost use Prim.Native.Nat.{ℕ, _<_};
 ghost use mathlib.Core.Bool.{_&&_};
 ghost use mathlib.Core.List.{List};
@@ -26,10 +27,12 @@ pub struct Checked {
     pub visited: usize,
 }
 
-// Checks an image: its lengths and values, then that every cell in use is visited. The order and the marks of the visit are kept.
+// Checks an image: its lengths and values, then that every cell in use is visited. The order and the marks of the
+// visit are kept.
 pub fn check_image(pointers: &[u8], cells: &[u8], order: &mut [u8], seen: &mut [u8]) -> Checked
     requires { ⌜ (length (now order) ≡ 240) × (now seen ≡ replicate 240 0) ⌝ }
-    ensures { λ r. ⌜ ImageChecked (now (pointers .entry)) (now (cells .entry)) (now (order .exit)) (now (seen .exit)) (r .refusal) (r .visited) ⌝ }
+    ensures { λ r. ⌜ ImageChecked (now (pointers .entry)) (now (cells .entry)) (now (order .exit)) (now (seen .exit))
+        (r .refusal) (r .visited) ⌝ }
 {
     if !lengths_ok(pointers, cells) {
         return Checked {
@@ -93,7 +96,8 @@ pub fn unfold_refusal(rec: &[u8], counters: &[u32], pointers: usize, cells: usiz
 
 // The refusal of a step (0 for none) by its image and its record; 16 comes after these.
 pub fn step_refusal(rec: &[u8], pointers: &[u8], cells: &[u8]) -> u8
-    ensures { λ r. ⌜ r ≡ firstFailed (checksStatement (now (rec .entry)) (now (pointers .entry)) (now (cells .entry))) ⌝ }
+    ensures { λ r. ⌜ r ≡ firstFailed (checksStatement (now (rec .entry)) (now (pointers .entry))
+        (now (cells .entry))) ⌝ }
 {
     let mut order = [0u8; 240];
     let mut seen = [0u8; 240];

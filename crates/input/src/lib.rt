@@ -1,4 +1,5 @@
-// The checks of the translator's input: S records, then H records, 32 bytes each. The first that fails gives the refusal.
+// The checks of the translator's input: S records, then H records, 32 bytes each. The first that fails gives the
+// refusal.
 use layout::canonical_shape;
 use layout::layout_ok;
 use layout::statement_refusal;
@@ -110,7 +111,8 @@ fn record_refusal(input: &[u8], i: usize, statements: usize) -> u8
 // The records one after the other.
 fn check_records(input: &[u8], statements: usize, shapes: usize) -> Checked
     requires { ⌜ GoodCounts (Checked.Good statements shapes) (now input) ⌝ }
-    ensures outcome { λ r. ⌜ checkedOf r (now (input .entry)) ≡ checkRecords statements (recordsOf (now (input .entry))) ⌝ }
+    ensures outcome { λ r. ⌜ checkedOf r (now (input .entry))
+        ≡ checkRecords statements (recordsOf (now (input .entry))) ⌝ }
     ensures counts { λ r. ⌜ GoodCounts r (now (input .entry)) ⌝ }
 {
     let records = statements + shapes;

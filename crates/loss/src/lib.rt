@@ -1,4 +1,5 @@
-// Leaks that are seen in a location's record, before the statement is run: a third of the edges of large listings are such.
+// Leaks that are seen in a location's record, before the statement is run: a third of the edges of large listings are
+// such.
 use model::Decoded;
 use model::Pointer;
 use way::Way;
@@ -36,7 +37,8 @@ fn stands_once(location: &[u8], u: Pointer) -> bool
     count == 1
 }
 
-// Whether the op puts another value into pointer u: not so where it copies u to itself, or reads through a pointer that holds no node.
+// Whether the op puts another value into pointer u: not so where it copies u to itself, or reads through a pointer
+// that holds no node.
 fn overwrites(location: &[u8], op: u8, u: Pointer, w: Pointer) -> bool
     requires { ⌜ (length (now location) ≡ 32) × (w .0 < 6) ⌝ }
     ensures { λ r. ⌜ (r ≡ true → Overwrites (now (location .entry)) op (u .0) (w .0)) ⌝ }
@@ -60,8 +62,8 @@ fn alone_holds(location: &[u8], u: Pointer) -> bool
     location[at] < location[3] && stands_once(location, u)
 }
 
-// Whether the run by the way is seen to be a leak before it is made: the tail of a split goes with its head's next, or a node goes
-// with the only pointer that holds it.
+// Whether the run by the way is seen to be a leak before it is made: the tail of a split goes with its head's next, or
+// a node goes with the only pointer that holds it.
 pub fn surely_lost(location: &[u8], d: Decoded, way: Way) -> bool
     requires { ⌜ LossReady (now location) d way ⌝ }
     ensures { λ r. ⌜ (r ≡ true → Leaks (now (location .entry)) d way) ⌝ }

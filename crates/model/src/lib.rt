@@ -76,7 +76,8 @@ pub struct Guards {
     pub first: Guard,
 }
 
-// What a way makes beside the target's record and the updates: the branch, the guards, and how many new nodes there are.
+// What a way makes beside the target's record and the updates: the branch, the guards, and how many new nodes there
+// are.
 pub struct EdgeMade {
     pub branch: u8,
     pub guards: Guards,

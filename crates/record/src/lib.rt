@@ -37,10 +37,12 @@ pub fn write_fault(part: &mut [u8], statement: Statement, fault: u8)
     part[2] = fault;
 }
 
-// An L record with the shape that the record rec has: the part is that of the location table from 32 times its number on.
+// An L record with the shape that the record rec has: the part is that of the location table from 32 times its number
+// on.
 pub fn write_location(part: &mut [u8], statement: Statement, fault: u8, rec: &[u8])
     requires { ⌜ (32 ≤ length (now part)) × (length (now rec) ≡ 32) ⌝ }
-    ensures { λ _. ⌜ now (part .exit) ≡ locationBytes (statement .0) fault (now (rec .entry)) ++ drop 32 (now (part .entry)) ⌝ }
+    ensures { λ _. ⌜ now (part .exit) ≡ locationBytes (statement .0) fault (now (rec .entry))
+        ++ drop 32 (now (part .entry)) ⌝ }
 {
     bytes::copy(rec, part);
     part[0] = 0x4c;
@@ -51,7 +53,8 @@ pub fn write_location(part: &mut [u8], statement: Statement, fault: u8, rec: &[u
 // The first k updates, two bytes each, the low byte first, from byte 8 on.
 fn write_updates(part: &mut [u8], updates: &[u16], k: usize)
     requires { ⌜ (8 + 2 * k ≤ length (now part)) × (k ≤ length (now updates)) ⌝ }
-    ensures { λ _. ⌜ now (part .exit) ≡ take 8 (now (part .entry)) ++ (updateBytes (now (updates .entry)) k ++ drop (8 + 2 * k) (now (part .entry))) ⌝ }
+    ensures { λ _. ⌜ now (part .exit) ≡ take 8 (now (part .entry))
+        ++ (updateBytes (now (updates .entry)) k ++ drop (8 + 2 * k) (now (part .entry))) ⌝ }
 {
     let mut j = 0;
     while j < k {

@@ -61,7 +61,8 @@ fn place_pointers(firsts: &[u8], values: &[u8], pointers: &mut [u8])
 // Writes the strand of count cells from cell at on, whose last cell holds value.
 fn write_strand(cells: &mut [u8], at: usize, count: usize, value: u8)
     requires { ⌜ (1 ≤ count) × (at + count ≤ length (now cells)) × (length (now cells) ≤ 240) ⌝ }
-    ensures { λ _. ⌜ take (at + count) (now (cells .exit)) ≡ take at (now (cells .entry)) ++ strandBytes at count value ⌝ }
+    ensures { λ _. ⌜ take (at + count) (now (cells .exit))
+        ≡ take at (now (cells .entry)) ++ strandBytes at count value ⌝ }
 {
     let last = at + count - 1;
     let mut i = at;
@@ -77,7 +78,8 @@ fn write_strands(firsts: &[u8], successors: &[u8], counters: &[u32], cells: &mut
     requires { ⌜ (length (now successors) ≡ length (now counters)) × (all (leb 1) (now counters) ≡ true) ⌝ }
     requires { ⌜ (sum (λ v. v) (now counters) ≤ length (now cells)) × (length (now cells) ≤ 240) ⌝ }
     ensures count { λ r. ⌜ r ≡ sum (λ v. v) (now (counters .entry)) ⌝ }
-    ensures bytes { λ r. ⌜ take r (now (cells .exit)) ≡ strandsBytes (now (firsts .entry)) 0 (now (successors .entry)) (now (counters .entry)) ⌝ }
+    ensures bytes { λ r. ⌜ take r (now (cells .exit))
+        ≡ strandsBytes (now (firsts .entry)) 0 (now (successors .entry)) (now (counters .entry)) ⌝ }
 {
     let mut at = 0;
     let mut n = 0;
@@ -95,7 +97,8 @@ fn write_strands(firsts: &[u8], successors: &[u8], counters: &[u32], cells: &mut
 fn write_cells(firsts: &[u8], successors: &[u8], counters: &[u32], cells: &mut [u8])
     requires { ⌜ (length (now successors) ≡ length (now counters)) × (all (leb 1) (now counters) ≡ true) ⌝ }
     requires { ⌜ (sum (λ v. v) (now counters) ≤ length (now cells)) × (length (now cells) ≤ 240) ⌝ }
-    ensures { λ _. ⌜ now (cells .exit) ≡ imageBytes (length (now (cells .entry))) (strandsBytes (now (firsts .entry)) 0 (now (successors .entry)) (now (counters .entry))) ⌝ }
+    ensures { λ _. ⌜ now (cells .exit) ≡ imageBytes (length (now (cells .entry)))
+        (strandsBytes (now (firsts .entry)) 0 (now (successors .entry)) (now (counters .entry))) ⌝ }
 {
     let count = write_strands(firsts, successors, counters, cells);
     fill::fill(&mut cells[count..], 0xfd);
@@ -104,8 +107,12 @@ fn write_cells(firsts: &[u8], successors: &[u8], counters: &[u32], cells: &mut [
 // Writes the image of the shape in rec, unfolded by the counters.
 pub fn unfold_shape(rec: &[u8], counters: &[u32], pointers: &mut [u8], cells: &mut [u8])
     requires { ⌜ UnfoldReady (now rec) (now counters) (now pointers) (now cells) ⌝ }
-    ensures pointers { λ _. ⌜ now (pointers .exit) ≡ map valByte (unfoldHeap (shapeOf (now (rec .entry))) (take (byte (now (rec .entry)) 3) (now (counters .entry))) .ptrs) ⌝ }
-    ensures cells { λ _. ⌜ now (cells .exit) ≡ cellBytesOf (length (now (cells .entry))) (unfoldHeap (shapeOf (now (rec .entry))) (take (byte (now (rec .entry)) 3) (now (counters .entry)))) ⌝ }
+    ensures pointers { λ _. ⌜ now (pointers .exit)
+        ≡ map valByte (unfoldHeap (shapeOf (now (rec .entry)))
+        (take (byte (now (rec .entry)) 3) (now (counters .entry))) .ptrs) ⌝ }
+    ensures cells { λ _. ⌜ now (cells .exit)
+        ≡ cellBytesOf (length (now (cells .entry)))
+        (unfoldHeap (shapeOf (now (rec .entry))) (take (byte (now (rec .entry)) 3) (now (counters .entry)))) ⌝ }
 {
     let k = rec[3] as usize;
     let end = 10 + k;

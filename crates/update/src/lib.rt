@@ -1,5 +1,5 @@
-// Updates. An update's code: bits 0 to 11 are the old counters added, bits 12 and 13 the constant plus one. Codes are summed up from
-// the cells of an opened shape, and read.
+// Updates. An update's code: bits 0 to 11 are the old counters added, bits 12 and 13 the constant plus one. Codes are
+// summed up from the cells of an opened shape, and read.
 use model::Node;
 ghost use mathlib.Core.Path.{_≡_};
 ghost use mathlib.Core.Bool.{true};
@@ -11,8 +11,8 @@ ghost use Rattle.model.specs.Runs.{added, applied};
 ghost use Rattle.update.specs.Counted.{addedCount};
 ghost use Rattle.update.specs.Codes.{CellsReady, baseAt, codeAt, plusIn, sumAt};
 
-// What the cells of an opened shape stand for: the number of old nodes, and whether and which node is split into its head and the
-// tail, a cell past the nodes.
+// What the cells of an opened shape stand for: the number of old nodes, and whether and which node is split into its
+// head and the tail, a cell past the nodes.
 pub struct Weights {
     pub nodes: usize,
     pub split: bool,
@@ -29,9 +29,11 @@ fn flag(n: Node) -> u16
     1u16 << n.0
 }
 
-// What cell c adds to the code of its update: one to the constant for the head or a new cell; else the flag of the node it is of.
+// What cell c adds to the code of its update: one to the constant for the head or a new cell; else the flag of the
+// node it is of.
 fn cell_plus(c: u8, weights: Weights) -> u16
-    requires { ⌜ (c ≤ weights .nodes) × (weights .nodes ≤ 12) × (weights .split ≡ true → weights .node .0 < weights .nodes) ⌝ }
+    requires { ⌜ (c ≤ weights .nodes) × (weights .nodes ≤ 12)
+        × (weights .split ≡ true → weights .node .0 < weights .nodes) ⌝ }
     ensures { λ r. ⌜ (r ≡ plusIn weights c) × (r ≤ 4096) ⌝ }
 {
     let last = weights.nodes as u8;
@@ -67,7 +69,8 @@ fn set_code(updates: &mut [u16], n: Node, code: u16)
 // Adds to the code of node n's update.
 fn add_code(updates: &mut [u16], n: Node, plus: u16)
     requires { ⌜ (n .0 < length (now updates)) × (getD (now updates) (n .0) 0 + plus < 65536) ⌝ }
-    ensures { λ _. ⌜ now (updates .exit) ≡ set (now (updates .entry)) (n .0) (getD (now (updates .entry)) (n .0) 0 + plus) ⌝ }
+    ensures { λ _. ⌜ now (updates .exit) ≡ set (now (updates .entry)) (n .0)
+        (getD (now (updates .entry)) (n .0) 0 + plus) ⌝ }
 {
     let j = n.0 as usize;
     updates[j] += plus;

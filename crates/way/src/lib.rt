@@ -37,7 +37,8 @@ fn held_by(u: Pointer, pointers: &[u8]) -> u8
 // The value through which a statement reads, writes or frees; null for a statement that does none of these.
 pub fn view(d: Decoded, pointers: &[u8]) -> u8
     requires { ⌜ (d .op < opCount) × (d .u .0 < 6) × (d .w .0 < 6) × (length (now pointers) ≡ 6) ⌝ }
-    ensures { λ r. ⌜ ((cs : List ℕ) → viewVal (valOf r) ≡ view (action (opIn d)) (heapOf (now (pointers .entry)) cs)) ⌝ }
+    ensures { λ r. ⌜ ((cs : List ℕ) → viewVal (valOf r)
+        ≡ view (action (opIn d)) (heapOf (now (pointers .entry)) cs)) ⌝ }
 {
     let op = d.op;
     match op {
@@ -49,8 +50,8 @@ pub fn view(d: Decoded, pointers: &[u8]) -> u8
     }
 }
 
-// How many ways lead out of a location whose statement has the op and looks at the value v: counter = 1 and counter at least 2
-// for a node, two picks for a choice, none for a stop, else one.
+// How many ways lead out of a location whose statement has the op and looks at the value v: counter = 1 and counter at
+// least 2 for a node, two picks for a choice, none for a stop, else one.
 pub fn way_count(op: u8, v: u8) -> u8
     requires { ⌜ op < opCount ⌝ }
     ensures { λ r. ⌜ ((u w : ℕ) (h : Heap) → r ≡ wayNumber (kind (opOf op u w)) (viewVal (valOf v)) h) ⌝ }
@@ -99,7 +100,8 @@ pub fn way_at(v: u8, j: u8) -> Way
     }
 }
 
-// Opens k cells: for a split the tail, cell k, takes over the node's successor and follows the node; for new, cell k is not in use.
+// Opens k cells: for a split the tail, cell k, takes over the node's successor and follows the node; for new, cell k
+// is not in use.
 fn open_cells(cells: &mut [u8], k: usize, op: u8, split: bool, node: Node) -> usize
     requires { ⌜ (k ≤ 12) × (13 ≤ length (now cells)) × (split ≡ true → node .0 < k) ⌝ }
     ensures count { λ r. ⌜ r ≡ openedCount split op k ⌝ }

@@ -1,15 +1,14 @@
 -- `edge::run_edge` meets its contract: the way is run on a blank image; a fault is written as such, and what a run leaves is folded.
 use borrow.Author.Needs.{needs}
-use Rattle.update.specs.declared.Weights.{Weights}
 use Rattle.edge.proofs.run_edge.Statement.{statement}
 use Rattle.edge.proofs.run_edge.Tie as tie
 use native.Mathlib.Omega.{arith}
 use Rattle.edge.proofs.Edges.{fault-leaves, done-leaves, run-faults, leave-ready}
-use mathlib.Core.Path.{refl, sym}
+use mathlib.Core.Path.{refl, subst, sym}
 use Rattle.edge.proofs.Running.{zeros}
 use Rattle.way.proofs.Ready.{location-wide, nodes-few}
 use lib.Seq.{length-take-le}
-use Rattle.model.specs.Records.{byte}
+use Rattle.edge.specs.Edge.{LeavesBy}
 
 run-way-requires : tie.Need-run-way-requires
 run-way-requires c κs =
@@ -27,67 +26,64 @@ run-way-requires c κs =
 
 fault-edge-requires : tie.Need-fault-edge-requires
 fault-edge-requires c κs =
-    let p = c .before .before .before .before .before .before .before .before .before .before .before .before .before .before .before .before .pre in
+    let p = c .before .before .before .before .before .before .before .before .before .before .before .before .before .before .before .pre in
     (location-wide (p .ready), p .wide)
 
 returns : tie.Need-returns
 returns c =
-    let g = c .before .before .before .before .before .before .before .before .before .before .before .run-way in
+    let g = c .before .before .before .before .before .before .before .before .before .before .run-way in
     let f = c .before .before .fault-edge in
     fault-leaves (run-faults (g .ensures) (c .before .before .before .before .if1 .taken)) (f .ensures)
 
-shared-slice-read-t29 : tie.Need-shared-slice-read-t29
-shared-slice-read-t29 c = omega (arith, location-wide (c .before .before .before .before .before .before .before .before .before .before .before .before .before .before .before .before .before .pre .ready))
-
-cast-t30 : tie.Need-cast-t30
-cast-t30 c = omega (arith, nodes-few (c .before .before .before .before .before .before .before .before .before .before .before .before .before .before .before .before .before .pre .ready))
-
 array-share-prefix-cells : tie.Need-array-share-prefix-cells
 array-share-prefix-cells c =
-    let g = c .before .before .before .before .before .before .before .before .before .before .run-way in
-    omega (arith, g .ensures .count, nodes-few (c .before .before .before .before .before .before .before .before .before .before .before .before .before .before .before .before .before .before .pre .ready), g .kept .1 .1 .1 .1 .0)
+    let g = c .before .before .before .before .before .before .before .run-way in
+    omega (arith, g .ensures .count, nodes-few (c .before .before .before .before .before .before .before .before .before .before .before .before .before .before .before .pre .ready), g .kept .1 .1 .1 .1 .0)
 
 slice-aggregate-leave-2 : tie.Need-slice-aggregate-leave-2
 slice-aggregate-leave-2 c =
-    let g = c .before .before .before .before .before .before .before .before .before .before .before .run-way in
-    sym (length-take-le _ _ (omega (arith, g .ensures .count, nodes-few (c .before .before .before .before .before .before .before .before .before .before .before .before .before .before .before .before .before .before .before .pre .ready), g .kept .1 .1 .1 .1 .0)))
+    let g = c .before .before .before .before .before .before .before .before .run-way in
+    sym (length-take-le _ _ (omega (arith, g .ensures .count, nodes-few (c .before .before .before .before .before .before .before .before .before .before .before .before .before .before .before .before .pre .ready), g .kept .1 .1 .1 .1 .0)))
 
 array-share-prefix-order : tie.Need-array-share-prefix-order
 array-share-prefix-order c =
-    let g = c .before .before .before .before .before .before .before .before .before .before .before .run-way in
-    omega (arith, g .ensures .few (c .before .before .before .before .if1 .left), g .ensures .count, nodes-few (c .before .before .before .before .before .before .before .before .before .before .before .before .before .before .before .before .before .before .before .pre .ready), g .kept .1 .1 .1 .1 .1 .0)
+    let g = c .before .before .before .before .before .before .before .before .run-way in
+    omega (arith, g .ensures .few (c .before .before .if1 .left), g .ensures .count, nodes-few (c .before .before .before .before .before .before .before .before .before .before .before .before .before .before .before .before .pre .ready), g .kept .1 .1 .1 .1 .1 .0)
 
 slice-aggregate-leave-3 : tie.Need-slice-aggregate-leave-3
 slice-aggregate-leave-3 c =
-    let g = c .before .before .before .before .before .before .before .before .before .before .before .before .run-way in
-    sym (length-take-le _ _ (omega (arith, g .ensures .few (c .before .before .before .before .before .if1 .left), g .ensures .count, nodes-few (c .before .before .before .before .before .before .before .before .before .before .before .before .before .before .before .before .before .before .before .before .pre .ready), g .kept .1 .1 .1 .1 .1 .0)))
+    let g = c .before .before .before .before .before .before .before .before .before .run-way in
+    sym (length-take-le _ _ (omega (arith, g .ensures .few (c .before .before .before .if1 .left), g .ensures .count, nodes-few (c .before .before .before .before .before .before .before .before .before .before .before .before .before .before .before .before .before .pre .ready), g .kept .1 .1 .1 .1 .1 .0)))
+
+weights-of-requires : tie.Need-weights-of-requires
+weights-of-requires c κs = (location-wide (c .before .before .before .before .before .before .before .before .before .before .before .before .before .before .before .before .before .before .pre .ready), nodes-few (c .before .before .before .before .before .before .before .before .before .before .before .before .before .before .before .before .before .before .pre .ready))
 
 leave-requires : tie.Need-leave-requires
 leave-requires c κs =
-    let p = c .before .before .before .before .before .before .before .before .before .before .before .before .before .before .before .before .before .before .before .before .before .before .before .pre in
-    let a = c .before .before .before .before .before .before .before .before .before .before .before .before .before .before .before .before .before .before .before .before .before .before .before .args in
-    let g = c .before .before .before .before .before .before .before .before .before .before .before .before .before .before .before .run-way in
-    let w : Weights = record { nodes = byte (a .location .now) 3; split = a .way .split; node = a .way .node } in
-    leave-ready (g .ensures) (p .ready) w refl refl refl (g .kept .1 .1 .1 .0) (omega (arith, g .kept .1 .1 .1 .1 .0))
+    let p = c .before .before .before .before .before .before .before .before .before .before .before .before .before .before .before .before .before .before .before .before .before .pre in
+    let a = c .before .before .before .before .before .before .before .before .before .before .before .before .before .before .before .before .before .before .before .before .before .args in
+    let g = c .before .before .before .before .before .before .before .before .before .before .before .before .before .run-way in
+    let w = c .before .before .weights-of in
+    leave-ready (g .ensures) (p .ready) (w .result) (w .ensures .0) (w .ensures .1) (w .ensures .2)
+    (g .kept .1 .1 .1 .0) (omega (arith, g .kept .1 .1 .1 .1 .0))
     (omega (arith, g .kept .1 .1 .1 .1 .1 .0)) (omega (arith, g .kept .1 .1 .1 .1 .1 .1 .0))
-    (a .target .now) (a .updates .now) (p .wide) (p .room) (c .before .before .before .before .before .before .before .before .if1 .left)
+    (a .target .now) (a .updates .now) (p .wide) (p .room) (c .before .before .before .before .before .before .before .if1 .left)
 
-write-head-requires : tie.Need-write-head-requires
-write-head-requires c κs =
-    let p = c .before .before .before .before .before .before .before .before .before .before .before .before .before .before .before .before .before .before .before .before .before .before .before .before .before .before .before .before .before .before .pre in
-    let l = c .before .before .before .before .before .before .leave in
-    (omega (arith, l .kept .1 .1 .1 .1 .1 .0, p .wide), l .ensures .few)
+edge-on-requires : tie.Need-edge-on-requires
+edge-on-requires c κs =
+    let l = c .before .before .before .before .before .leave in
+    (omega (arith, l .kept .1 .1 .1 .1 .1 .0, c .before .before .before .before .before .before .before .before .before .before .before .before .before .before .before .before .before .before .before .before .before .before .before .before .before .before .before .pre .wide), l .ensures .few)
 
 returns-2 : tie.Need-returns-2
 returns-2 c =
-    let g = c .before .before .before .before .before .before .before .before .before .before .before .before .before .before .before .before .before .before .before .before .before .before .before .before .before .run-way in
-    let l = c .before .before .before .before .before .before .before .before .before .leave in
-    let n = c .before .before .before .next-of in
-    let h = c .before .before .write-head in
-    let a = c .before .before .before .before .before .before .before .before .before .before .before .before .before .before .before .before .before .before .before .before .before .before .before .before .before .before .before .before .before .before .before .before .before .args in
-    let w : Weights = record { nodes = byte (a .location .now) 3; split = a .way .split; node = a .way .node } in
-    done-leaves (g .ensures) w refl refl refl (l .last .1 .1 .1 .1 .1 .0) (h .last .0) (l .last .1 .1 .1 .1 .1 .1 .0) (n .result .0) (l .result)
-    (c .before .before .before .before .before .before .before .before .before .before .before .before .before .before .before .before .before .before .if1 .left) (n .ensures) (l .ensures) (h .ensures)
+    let a = c .before .before .before .before .before .before .before .before .before .before .before .before .before .before .before .before .before .before .before .before .before .before .before .before .before .before .before .before .before .before .args in
+    let g = c .before .before .before .before .before .before .before .before .before .before .before .before .before .before .before .before .before .before .before .before .before .before .run-way in
+    let w = c .before .before .before .before .before .before .before .before .before .before .before .weights-of in
+    let l = c .before .before .before .before .before .before .before .before .leave in
+    let e = c .before .before .edge-on in
+    subst (LeavesBy (a .location .now) (a .d) (a .way) (e .last .1 .1 .1 .1 .0) (l .last .1 .1 .1 .1 .1 .1 .0)) (sym (e .ensures .0))
+    (done-leaves (g .ensures) (w .result) (w .ensures .0) (w .ensures .1) (w .ensures .2) (l .last .1 .1 .1 .1 .1 .0)
+    (e .last .1 .1 .1 .1 .0) (l .last .1 .1 .1 .1 .1 .1 .0) _ (l .result) (c .before .before .before .before .before .before .before .before .before .before .before .before .before .before .before .before .if1 .left) refl (l .ensures) (e .ensures .1))
 
 pub run-edge-spec : {M : Type 1} → statement M
 run-edge-spec =
@@ -101,17 +97,15 @@ run-edge-spec =
     fault-edge-requires
     (λ c. search needs)
     returns
-    shared-slice-read-t29
-    cast-t30
     (λ c. search needs)
     array-share-prefix-cells
     slice-aggregate-leave-2
     array-share-prefix-order
     slice-aggregate-leave-3
     (λ c. search needs)
+    weights-of-requires
     leave-requires
-    (λ c κs. search needs)
-    write-head-requires
+    edge-on-requires
     (λ c. search needs)
     (λ c. search needs)
     returns-2)
