@@ -40,4 +40,5 @@ place-numbers p q [] d i h = refl
 place-numbers p q (x ∷ l) d i h =
     let z : i + 0 ≡ i = omega arith in
     ap₂ (λ b n. cond b 0 (suc n)) (ap p (sym z) ∙ h 0 (omega arith))
-    (place-numbers p q l d (suc i) (λ j k. let e : suc i + j ≡ i + suc j = omega arith in ap p e ∙ h (suc j) (omega arith)))
+    (place-numbers p q l d (suc i) (λ j k. let e : suc i + j ≡ i + suc j = omega arith in
+    ap p e ∙ h (suc j) (omega arith)))
