@@ -18,8 +18,8 @@ laid-over (x ∷ xs) [] = rw min-zero
 laid-over (x ∷ xs) (y ∷ l) = rw suc-min-suc (ap (λ z. x ∷ z) (laid-over xs l))
 
 -- a copy of that many
-pub copied-over : (xs l m : List ℕ) (n : ℕ) → n ≡ min (length xs) (length l)
+pub copied-over : (xs l : List ℕ) {m : List ℕ} {n : ℕ} → n ≡ min (length xs) (length l)
     → m ≡ take (length (take n xs)) (take n xs) ++ drop (length (take n xs)) l → m ≡ over xs l
-copied-over xs l m n h e =
+copied-over xs l {m} {n} h e =
     let k : length (take n xs) ≡ n = length-take-le n xs (omega arith) in
     e ∙ ap₂ (λ y i. y ++ drop i l) (take-length (take n xs)) k ∙ ap (λ i. laid i xs l) h ∙ laid-over xs l

@@ -24,15 +24,16 @@ outcome-told {s} {a} {b} {xs} {ys} {u} e p = record {
   automaton = λ z. demand-three s a b (zero-accepted s a b (sym (ap (λ x. refusalOf (x .verdict) .number) e) ∙ z));
 }
 
-pub folded-as : {f g : Folding} {n p : ℕ} {r r₀ vs vs₀ : List ℕ} → f ≡ g → IsFolded f n p r r₀ vs vs₀ → IsFolded g n p r r₀ vs vs₀
+pub folded-as : {f g : Folding} {n p : ℕ} {r r₀ vs vs₀ : List ℕ} → f ≡ g
+    → IsFolded f n p r r₀ vs vs₀ → IsFolded g n p r r₀ vs vs₀
 folded-as {f} {g} {n} {p} {r} {r₀} {vs} {vs₀} e t = subst (λ h. IsFolded h n p r r₀ vs vs₀) e t
 
 pub unfolded-as : {u v : Unfolding} {n p : ℕ} {ps cs : List ℕ} → u ≡ v → IsUnfolded u n p ps cs → IsUnfolded v n p ps cs
 unfolded-as {u} {v} {n} {p} {ps} {cs} e t = subst (λ h. IsUnfolded h n p ps cs) e t
 
 -- the verdict v and the numbers ns are those of the step
-pub stepped-as : {s t : Stepping} {v : Verdict} {n p : ℕ} {ns a l : List ℕ} → s ≡ t → v ≡ stepVerdict (s .answer) → IsTold v n p
-    → ns ≡ stepNumbers (s .answer) → a ≡ over ns l → IsStepped t n p (s .ptrBytes) (s .cellBytes) a l
+pub stepped-as : {s t : Stepping} {v : Verdict} {n p : ℕ} {ns a l : List ℕ} → s ≡ t → v ≡ stepVerdict (s .answer)
+    → IsTold v n p → ns ≡ stepNumbers (s .answer) → a ≡ over ns l → IsStepped t n p (s .ptrBytes) (s .cellBytes) a l
 stepped-as {s} {t} {v} {n} {p} {ns} {a} {l} e q x m y =
     subst (λ h. IsStepped h n p (s .ptrBytes) (s .cellBytes) a l) e
     (record { ended = subst (λ w. IsTold w n p) q x; pointers = refl; cells = refl; answer = y ∙ ap (λ w. over w l) m })

@@ -8,10 +8,13 @@ use Rattle.model.specs.Runs.{IsRoutineOf}
 use Rattle.model.specs.Translate.{translate}
 use Rattle.answers.specs.Numbers.{IsTold, over, told}
 
--- a translation of input s into tables of a and b bytes: the number r, the answer before (xs) and after (ys), and the bytes of the tables
+-- a translation of input s into tables of a and b bytes: the number r, the answer before (xs) and after (ys), and the
+-- bytes of the tables
 pub record IsTranslated (s : List ℕ) (a b : ℕ) (xs : List ℕ) (r : ℕ) (ys ls es : List ℕ) : Type 0 where
   pub number : r ≡ refusalOf (translate s a b .verdict) .number
-  pub answer : ys ≡ told xs (refusalOf (translate s a b .verdict) .place) (translate s a b .tables .locCount) (translate s a b .tables .edgeCount)
+  pub answer : ys
+      ≡ told xs (refusalOf (translate s a b .verdict) .place)
+      (translate s a b .tables .locCount) (translate s a b .tables .edgeCount)
   pub locations : ls ≡ translate s a b .tables .locBytes
   pub edges : es ≡ translate s a b .tables .edgeBytes
   pub automaton : r ≡ 0 → IsRoutineOf s (translate s a b .tables)

@@ -1,6 +1,6 @@
-// The calls for Rust and C: a slice passes as a pointer and a length. Answers are written over the start of the lent slices, as far
-// as these reach. Each call answers the refusal's number, 0 for none, and writes its place. What a call writes must not overlap with
-// anything else that is lent to it: the contracts are about slices that are apart.
+// The calls for Rust and C: a slice passes as a pointer and a length. Answers are written over the start of the lent
+// slices, as far as these reach. Each call answers the refusal's number, 0 for none, and writes its place. What a call
+// writes must not overlap with anything else that is lent to it: the contracts are about slices that are apart.
 use answers::lay;
 use answers::lay_counters;
 use answers::step_ended;
@@ -20,7 +20,8 @@ pub extern "C" fn currantplane_translate(
     edges: &mut [u8],
     answer: &mut [usize],
 ) -> u8
-    ensures { λ r. ⌜ IsTranslated (now (input .entry)) (length (now (locations .entry))) (length (now (edges .entry))) (now (answer .entry)) r (now (answer .exit)) (now (locations .exit)) (now (edges .exit)) ⌝ }
+    ensures { λ r. ⌜ IsTranslated (now (input .entry)) (length (now (locations .entry))) (length (now (edges .entry)))
+        (now (answer .entry)) r (now (answer .exit)) (now (locations .exit)) (now (edges .exit)) ⌝ }
 {
     match automaton::translate(input, locations, edges) {
         Translated::Listed {
@@ -45,7 +46,8 @@ pub extern "C" fn currantplane_fold(
     counters: &mut [u32],
     place: &mut usize,
 ) -> u8
-    ensures { λ r. ⌜ IsFolded (foldImage (now (pointers .entry)) (now (cells .entry))) r (now (place .exit)) (now (shape .exit)) (now (shape .entry)) (now (counters .exit)) (now (counters .entry)) ⌝ }
+    ensures { λ r. ⌜ IsFolded (foldImage (now (pointers .entry)) (now (cells .entry))) r (now (place .exit))
+        (now (shape .exit)) (now (shape .entry)) (now (counters .exit)) (now (counters .entry)) ⌝ }
 {
     let folded = heap_operations::fold(pointers, cells);
     lay(&folded.shape, shape);
@@ -62,7 +64,9 @@ pub extern "C" fn currantplane_unfold(
     cells: &mut [u8],
     place: &mut usize,
 ) -> u8
-    ensures { λ r. ⌜ IsUnfolded (unfoldImage (now (shape .entry)) (now (counters .entry)) (now (pointers .entry)) (now (cells .entry))) r (now (place .exit)) (now (pointers .exit)) (now (cells .exit)) ⌝ }
+    ensures { λ r. ⌜ IsUnfolded
+        (unfoldImage (now (shape .entry)) (now (counters .entry)) (now (pointers .entry)) (now (cells .entry)))
+        r (now (place .exit)) (now (pointers .exit)) (now (cells .exit)) ⌝ }
 {
     let ended = heap_operations::unfold(shape, counters, pointers, cells);
     tell_ended(ended, place)
@@ -79,7 +83,9 @@ pub extern "C" fn currantplane_step(
     answer: &mut [u8],
     place: &mut usize,
 ) -> u8
-    ensures { λ r. ⌜ IsStepped (stepImage (now (statement .entry)) pick cell (now (pointers .entry)) (now (cells .entry))) r (now (place .exit)) (now (pointers .exit)) (now (cells .exit)) (now (answer .exit)) (now (answer .entry)) ⌝ }
+    ensures { λ r. ⌜ IsStepped
+        (stepImage (now (statement .entry)) pick cell (now (pointers .entry)) (now (cells .entry)))
+        r (now (place .exit)) (now (pointers .exit)) (now (cells .exit)) (now (answer .exit)) (now (answer .entry)) ⌝ }
 {
     let stepped = heap_operations::step(pointers, cells, statement, pick, cell);
     let numbers = step_numbers(stepped);

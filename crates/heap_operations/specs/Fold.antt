@@ -9,8 +9,8 @@ use Rattle.model.specs.Records.{filled, isAccepted, shapeRecord}
 use Rattle.model.specs.Image.{Folding, heapOf}
 use Rattle.visit.specs.Visit.{Held}
 
--- a heap of six pointers and at most 240 cells; the first n numbers of o are its cells in order of first visit, and h counts
--- their holders
+-- a heap of six pointers and at most 240 cells; the first n numbers of o are its cells in order of first visit, and h
+-- counts their holders
 pub record FoldReady (ps cs o : List ℕ) (n : ℕ) (h : List ℕ) : Type 0 where
   pub isHeap : IsHeap (heapOf ps cs)
   pub six : length ps ≡ 6

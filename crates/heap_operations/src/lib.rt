@@ -1,5 +1,5 @@
-// The three calls on heap images: folding, unfolding and the plain step. They take any bytes and lengths: each tests, and answers a
-// refusal, before it works. What they answer, and every byte afterwards, is the definition's.
+// The three calls on heap images: folding, unfolding and the plain step. They take any bytes and lengths: each tests,
+// and answers a refusal, before it works. What they answer, and every byte afterwards, is the definition's.
 use image_checks::check_image;
 use image_checks::step_refusal;
 use image_checks::unfold_refusal;
@@ -64,7 +64,8 @@ pub fn fold(pointers: &[u8], cells: &[u8]) -> Folded
 
 // Writes the heap image of a shape with counters; a refused unfolding leaves pointers and cells.
 pub fn unfold(rec: &[u8], counters: &[u32], pointers: &mut [u8], cells: &mut [u8]) -> Ended
-    ensures { λ r. ⌜ unfoldingOf r (now (pointers .exit)) (now (cells .exit)) ≡ unfoldImage (now (rec .entry)) (now (counters .entry)) (now (pointers .entry)) (now (cells .entry)) ⌝ }
+    ensures { λ r. ⌜ unfoldingOf r (now (pointers .exit)) (now (cells .exit))
+        ≡ unfoldImage (now (rec .entry)) (now (counters .entry)) (now (pointers .entry)) (now (cells .entry)) ⌝ }
 {
     let refusal = unfold_refusal(rec, counters, pointers.len(), cells.len());
     if refusal != 0 {
@@ -79,7 +80,8 @@ pub fn unfold(rec: &[u8], counters: &[u32], pointers: &mut [u8], cells: &mut [u8
 
 // One step of the plain machine; at a fault, a stop or a refusal pointers and cells stay.
 pub fn step(pointers: &mut [u8], cells: &mut [u8], rec: &[u8], pick: u8, cell: usize) -> Stepped
-    ensures { λ r. ⌜ steppingOf r (now (pointers .exit)) (now (cells .exit)) ≡ stepImage (now (rec .entry)) pick cell (now (pointers .entry)) (now (cells .entry)) ⌝ }
+    ensures { λ r. ⌜ steppingOf r (now (pointers .exit)) (now (cells .exit))
+        ≡ stepImage (now (rec .entry)) pick cell (now (pointers .entry)) (now (cells .entry)) ⌝ }
 {
     let refusal = step_refusal(rec, &pointers[..], &cells[..]);
     if refusal != 0 {

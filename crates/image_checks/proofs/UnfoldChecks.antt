@@ -30,59 +30,80 @@ module _ (r : List ℕ) (l : length r ≡ 32) (h : layoutH r ≡ true) where
       × (length (take (10 + byte r 3 - 10) (drop 10 r)) ≤ 12)
   canonical-ready =
       let f = layout-few r l h in
-      let e : length (take (10 + byte r 3 - 10) (drop 10 r)) ≡ byte r 3 =
-      sym (length-map (take (10 + byte r 3 - 10) (drop 10 r)) cellSlot) ∙ ap (λ g. length (g .slots)) (sym shape-part) ∙ layout-slots r l h in
+      let ss = take (10 + byte r 3 - 10) (drop 10 r) in
+      let e : length ss ≡ byte r 3 =
+      sym (length-map ss cellSlot) ∙ ap (λ g. length (g .slots)) (sym shape-part) ∙ layout-slots r l h in
       (ap closed (sym shape-part) ∙ layout-closed r l h, omega arith)
 
--- ---- the refusals
+-- ---- the refusals, and what is known behind each of them
 
-abbrev lengthsOf : ℕ → ℕ → Bool
-lengthsOf np nc = eqb np 6 && leb nc 240
+-- the lengths np of the pointers and nc of the cells
+pub record Sized (r vs : List ℕ) (np nc : ℕ) : Type 0 where
+  pub six : np ≡ 6
+  pub few : nc ≤ 240
 
-module _ (r vs : List ℕ) (np nc : ℕ) where
-  pub refuse-pointers : (np ≡ 6 → ⊥) → 13 ≡ refusalUnfold r vs np nc
-  refuse-pointers n = sym (given-failed (checksUnfold r vs np nc) 13 (inl (refl, rw (ne-eqb np 6 n))))
+-- the record's layout
+pub record Laid (r vs : List ℕ) (np nc : ℕ) : Type 0 where
+  pub sized : Sized r vs np nc
+  pub wide : length r ≡ 32
+  pub layout : layoutH r ≡ true
 
-  module _ (p : np ≡ 6) where
-    pub refuse-cells : 240 < nc → 13 ≡ refusalUnfold r vs np nc
-    refuse-cells n = sym (given-failed (checksUnfold r vs np nc) 13 (inl (refl, rw (eq-eqb np 6 p, lt-leb nc 240 n))))
+-- the numbers of its nodes
+pub record Numbered (r vs : List ℕ) (np nc : ℕ) : Type 0 where
+  pub laid : Laid r vs np nc
+  pub numbered : canonical (shapeOf r) ≡ true
 
-    module _ (q : nc ≤ 240) where
-      good-lengths : lengthsOf np nc ≡ true
-      good-lengths = rw (eq-eqb np 6 p, le-leb nc 240 q)
+pub refuse-pointers : (r vs : List ℕ) (np nc : ℕ) → (np ≡ 6 → ⊥) → 13 ≡ refusalUnfold r vs np nc
+refuse-pointers r vs np nc n = sym (given-failed (checksUnfold r vs np nc) 13 (inl (refl, rw (ne-eqb np 6 n))))
 
-      pub refuse-layout : (b : Bool) → b ≡ eqb (length r) 32 && layoutH r → b ≡ false → 8 ≡ refusalUnfold r vs np nc
-      refuse-layout b e f = sym (given-failed (checksUnfold r vs np nc) 8 (inr (good-lengths, inl (refl, sym e ∙ f))))
+pub refuse-cells : (r vs : List ℕ) (np nc : ℕ) → np ≡ 6 → 240 < nc → 13 ≡ refusalUnfold r vs np nc
+refuse-cells r vs np nc p n =
+    sym (given-failed (checksUnfold r vs np nc) 13 (inl (refl, rw (eq-eqb np 6 p, lt-leb nc 240 n))))
 
-      module _ {b : Bool} (e : b ≡ eqb (length r) 32 && layoutH r) (t : b ≡ true) (c : Bool)
-          (n : c ≡ canonical (heapOf (take 6 (drop 4 r)) (take (10 + byte r 3 - 10) (drop 10 r)))) where
-        numbering : c ≡ canonical (shapeOf r)
-        numbering =
-            let g = sym e ∙ t in
-            let l = eqb-true (length r) 32 (and-l (eqb (length r) 32) (layoutH r) g) in
-            n ∙ ap canonical (sym (shape-part r l (and-r (eqb (length r) 32) (layoutH r) g)))
+module _ {r vs : List ℕ} {np nc : ℕ} where
+  good-lengths : Sized r vs np nc → eqb np 6 && leb nc 240 ≡ true
+  good-lengths S = rw (eq-eqb np 6 (S .six), le-leb nc 240 (S .few))
 
-        pub refuse-numbering : c ≡ false → 9 ≡ refusalUnfold r vs np nc
-        refuse-numbering f =
-            sym (given-failed (checksUnfold r vs np nc) 9 (inr (good-lengths, inr (sym e ∙ t, inl (refl, sym numbering ∙ f)))))
+  module _ (S : Sized r vs np nc) {b : Bool} (e : b ≡ eqb (length r) 32 && layoutH r) where
+    pub refuse-layout : b ≡ false → 8 ≡ refusalUnfold r vs np nc
+    refuse-layout f = sym (given-failed (checksUnfold r vs np nc) 8 (inr (good-lengths S, inl (refl, sym e ∙ f))))
 
-        module _ (u : c ≡ true) (d : Bool) (m : d ≡ countersFit (byte r 3) vs nc) where
-          pub refuse-counters : d ≡ false → 15 ≡ refusalUnfold r vs np nc
-          refuse-counters f =
-              sym (given-failed (checksUnfold r vs np nc) 15
-              (inr (good-lengths, inr (sym e ∙ t, inr (sym numbering ∙ u, inl (refl, sym m ∙ f))))))
+    pub laid : b ≡ true → Laid r vs np nc
+    laid t = record {
+      sized = S;
+      wide = eqb-true (length r) 32 (and-l (eqb (length r) 32) (layoutH r) (sym e ∙ t));
+      layout = and-r (eqb (length r) 32) (layoutH r) (sym e ∙ t);
+    }
 
-          pub refuse-none : d ≡ true → 0 ≡ refusalUnfold r vs np nc
-          refuse-none f =
-              sym (pass-none (checksUnfold r vs np nc) (good-lengths, (sym e ∙ t, (sym numbering ∙ u, (sym m ∙ f, tt)))))
+  good-layout : Laid r vs np nc → eqb (length r) 32 && layoutH r ≡ true
+  good-layout L = rw (eq-eqb (length r) 32 (L .wide)) (L .layout)
 
--- a record that passed the test of its layout
-module _ (r : List ℕ) {b : Bool} (e : b ≡ eqb (length r) 32 && layoutH r) (t : b ≡ true) where
-  pub laid-wide : length r ≡ 32
-  laid-wide = eqb-true (length r) 32 (and-l (eqb (length r) 32) (layoutH r) (sym e ∙ t))
+  pub laid-few : Laid r vs np nc → byte r 3 ≤ 12
+  laid-few L = layout-few r (L .wide) (L .layout)
 
-  pub laid-layout : layoutH r ≡ true
-  laid-layout = and-r (eqb (length r) 32) (layoutH r) (sym e ∙ t)
+  module _ (L : Laid r vs np nc) {c : Bool}
+      (n : c ≡ canonical (heapOf (take 6 (drop 4 r)) (take (10 + byte r 3 - 10) (drop 10 r)))) where
+    numbering : c ≡ canonical (shapeOf r)
+    numbering = n ∙ ap canonical (sym (shape-part r (L .wide) (L .layout)))
 
-  pub laid-few : byte r 3 ≤ 12
-  laid-few = layout-few r laid-wide laid-layout
+    pub refuse-numbering : c ≡ false → 9 ≡ refusalUnfold r vs np nc
+    refuse-numbering f =
+        let good = good-lengths (L .sized) in
+        sym (given-failed (checksUnfold r vs np nc) 9 (inr (good, inr (good-layout L, inl (refl, sym numbering ∙ f)))))
+
+    pub numbered : c ≡ true → Numbered r vs np nc
+    numbered u = record { laid = L; numbered = sym numbering ∙ u }
+
+  module _ (N : Numbered r vs np nc) {d : Bool} (m : d ≡ countersFit (byte r 3) vs nc) where
+    pub refuse-counters : d ≡ false → 15 ≡ refusalUnfold r vs np nc
+    refuse-counters f =
+        let L = N .laid in
+        let good = good-lengths (L .sized) in
+        sym (given-failed (checksUnfold r vs np nc) 15
+        (inr (good, inr (good-layout L, inr (N .numbered, inl (refl, sym m ∙ f))))))
+
+    pub refuse-none : d ≡ true → 0 ≡ refusalUnfold r vs np nc
+    refuse-none f =
+        let L = N .laid in
+        let good = good-lengths (L .sized) in
+        sym (pass-none (checksUnfold r vs np nc) (good, (good-layout L, (N .numbered, (sym m ∙ f, tt)))))

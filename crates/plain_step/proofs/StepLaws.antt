@@ -22,6 +22,7 @@ use Rattle.model.proofs.records.Ops.{op-goes}
 use Rattle.effect.specs.Effect.{effectOf}
 use Rattle.effect.proofs.Laws.{image-bytes}
 use Rattle.machine.specs.Run.{IsRun, RunReady}
+use Rattle.image_checks.specs.Checked.{EntryChecked}
 use Rattle.image_checks.proofs.StepChecks.{checked-fields, checked-image}
 use Rattle.plain_step.specs.Step.{Finished, RunOn, StepReady, decoded, opIn, stmtIn}
 
@@ -115,9 +116,9 @@ unfolding stepImage
 image-answered r p c ps cs e = rw (e, stepImage)
 
 -- the checks of image and record refuse
-pub step-unchecked : (r : List ℕ) (p c : ℕ) (ps cs : List ℕ) (n : ℕ) → n ≡ firstFailed (checksStatement r ps cs)
+pub step-unchecked : (r : List ℕ) (p c : ℕ) (ps cs : List ℕ) {n : ℕ} → n ≡ firstFailed (checksStatement r ps cs)
     → (n ≡ 0 → ⊥) → stays (noStep (refusal n 0)) ps cs ≡ stepImage r p c ps cs
-step-unchecked r p c ps cs n e z = number-case n (λ q. absurd (z q))
+step-unchecked r p c ps cs {n} e z = number-case n (λ q. absurd (z q))
     (λ m q. ap (λ i. stays (noStep (refusal i 0)) ps cs) q
     ∙ image-refused r p c ps cs m
     (failed-before (checksStatement r ps cs) (entryCheck r p c ps cs ∷ []) m (sym e ∙ q)))
@@ -138,8 +139,7 @@ module _ {r : List ℕ} {p c : ℕ} {ps cs : List ℕ} {d : Decoded} (C : Checke
       subst (λ x. (x .op ≤ 11) × (x .u .0 < 6) × (x .w .0 < 6)) (sym (C .decodes)) (checked-fields r ps cs (C .passed))
 
   -- a is what the test of the entry gives, which reads the op and the cells only
-  module _ {a : Bool}
-      (e : (u w : ℕ) (qs : List ℕ) → a ≡ entryFits (kind (opOf (d .op) u w)) (entry p c) (heapOf qs cs)) where
+  module _ {a : Bool} (e : EntryChecked (d .op) p c cs a) where
     fits : a ≡ entryFits (kind (stmtOf r .op)) (entry p c) (heapOf ps cs)
     fits = e (d .u .0) (d .w .0) ps ∙ ap (λ x. entryFits (kind (opIn x)) (entry p c) (heapOf ps cs)) (C .decodes)
 

@@ -21,7 +21,8 @@ copy-requires c κs =
 returns : tie.Need-returns
 returns c =
     let a = c .before .before .before .before .before .before .before .before .args in
-    copied-over (a .from .now) (a .to .now) _ _ (c .before .before .before .before .before .shorter .ensures) (c .before .before .copy .ensures .1)
+    copied-over (a .from .now) (a .to .now) (c .before .before .before .before .before .shorter .ensures)
+    (c .before .before .copy .ensures .1)
 
 pub lay-spec : {M : Type 1} → statement M
 lay-spec = tie.close (tie.spec (λ c κs. search needs) slice-aggregate-copy copy-requires (λ c. search needs) returns)

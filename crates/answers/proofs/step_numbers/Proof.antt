@@ -13,10 +13,12 @@ returns c =
 
 returns-2 : tie.Need-returns-2
 returns-2 c =
-    let e : c .before .before .before .args .stepped ≡ stepped.Faulted (c .before .stepped2 .given .0 .0) = search needs in
+    let g = c .before .stepped2 .given .0 in
+    let e : c .before .before .before .args .stepped ≡ stepped.Faulted (g .0) = search needs in
     rw e
 
 pub step-numbers-spec : {M : Type 1} → statement M
 step-numbers-spec =
     tie.close
-    (tie.spec (λ c. search needs) (λ c. search needs) (λ c. search needs) (λ c. search needs) returns returns-2 (λ c. search needs) (λ c. search needs))
+    (tie.spec (λ c. search needs) (λ c. search needs) (λ c. search needs) (λ c. search needs) returns returns-2
+    (λ c. search needs) (λ c. search needs))

@@ -8,8 +8,12 @@ use Rattle.answers.specs.Numbers.{IsTold}
 use Rattle.answers.proofs.tell_ended.Statement.{statement}
 use Rattle.answers.proofs.tell_ended.Tie as tie
 
-told-as : {e x : Ended} → e ≡ x → IsTold (verdictOf e) (refusalOf (verdictOf x) .number) (refusalOf (verdictOf x) .place)
-told-as q = record { number = ap (λ y. refusalOf (verdictOf y) .number) (sym q); place = ap (λ y. refusalOf (verdictOf y) .place) (sym q) }
+told-as : {e x : Ended} → e ≡ x
+    → IsTold (verdictOf e) (refusalOf (verdictOf x) .number) (refusalOf (verdictOf x) .place)
+told-as q = record {
+  number = ap (λ y. refusalOf (verdictOf y) .number) (sym q);
+  place = ap (λ y. refusalOf (verdictOf y) .place) (sym q);
+}
 
 returns : tie.Need-returns
 returns c =

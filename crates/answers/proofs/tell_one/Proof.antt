@@ -11,4 +11,6 @@ returns-2 c =
     sym (set-out (a .answer .now) (a .i) (a .n) (c .if1 .left))
 
 pub tell-one-spec : {M : Type 1} → statement M
-tell-one-spec = tie.close (tie.spec (λ c. search needs) (λ c. search needs) (λ c. search needs) (λ c. search needs) returns-2)
+tell-one-spec =
+    tie.close
+    (tie.spec (λ c. search needs) (λ c. search needs) (λ c. search needs) (λ c. search needs) returns-2)

@@ -9,10 +9,11 @@ returns c =
     let e = c .before .before in
     let l = e .before .before .before in
     let n = l .before .before .before in
-    stepped-as (n .before .before .before .before .before .step .ensures) (e .step-ended .ensures) (c .tell-ended .ensures) (n .step-numbers .ensures) (l .lay .ensures)
+    stepped-as (n .before .before .before .before .before .step .ensures) (e .step-ended .ensures)
+    (c .tell-ended .ensures) (n .step-numbers .ensures) (l .lay .ensures)
 
 pub currantplane-step-spec : {M : Type 1} → statement M
 currantplane-step-spec =
     tie.close
-    (tie.spec (λ c κs. search needs) (λ c κs. search needs) (λ c. search needs) (λ c κs. search needs) (λ c κs. search needs) (λ c κs. search needs)
-    (λ c. search needs) (λ c. search needs) (λ c. search needs) returns)
+    (tie.spec (λ c κs. search needs) (λ c κs. search needs) (λ c. search needs) (λ c κs. search needs)
+    (λ c κs. search needs) (λ c κs. search needs) (λ c. search needs) (λ c. search needs) (λ c. search needs) returns)

@@ -8,4 +8,6 @@ returns : tie.Need-returns
 returns c = unfolded-as (c .before .before .before .before .before .before .«unfold» .ensures) (search needs)
 
 pub currantplane-unfold-spec : {M : Type 1} → statement M
-currantplane-unfold-spec = tie.close (tie.spec (λ c κs. search needs) (λ c κs. search needs) (λ c. search needs) (λ c. search needs) returns)
+currantplane-unfold-spec =
+    tie.close
+    (tie.spec (λ c κs. search needs) (λ c κs. search needs) (λ c. search needs) (λ c. search needs) returns)

@@ -20,7 +20,8 @@ returns-3 c =
 returns-4 : tie.Need-returns-4
 returns-4 c =
     let s = c .before .before in
-    entry-other (s .args .op) (s .args .pick) (s .args .cell) (s .args .cells .now) (s .pre) (c .before .if1 .left) (c .if2 .left)
+    let a = s .args in
+    entry-other (a .op) (a .pick) (a .cell) (a .cells .now) (s .pre) (c .before .if1 .left) (c .if2 .left)
 
 pub entry-ok-spec : {M : Type 1} → statement M
 entry-ok-spec = tie.close (tie.spec returns (λ c. search needs) returns-2 returns-3 returns-4)

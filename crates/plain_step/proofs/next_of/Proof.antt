@@ -13,6 +13,4 @@ returns-2 : tie.Need-returns-2
 returns-2 c = let a = c .before .before .args in second-target (stmtIn (a .d)) (a .branch) (c .before .if1 .left)
 
 pub next-of-spec : {M : Type 1} → statement M
-next-of-spec =
-    tie.close
-    (tie.spec returns returns-2)
+next-of-spec = tie.close (tie.spec returns returns-2)
