@@ -1,13 +1,15 @@
--- What the program writes, as the request's P1 fixes it: "prints each L, then each E, as 64 hex digits a line, or `refused`, number and
--- place in base 10 with one space between". Assumes nothing.
-use Prim.Native.Nat.{ℕ, zero, suc, _+_, _/_, _%_}
+-- The text of an outcome, as the request's P1 fixes it: "prints each L, then each E, as 64 hex digits a line, or
+-- `refused`, number and place in base 10 with one space between". Assumes nothing.
+use Prim.Native.Nat.{ℕ, zero, suc, _+_, _*_, _/_, _%_, _≤_}
 use mathlib.Core.Bool.{true, false}
 use mathlib.Core.List.{List, [], _∷_, _++_, map}
 use lib.Dec.{ltb}
-use lib.ListN.{take}
+use lib.ListN.{length}
 use Rattle.model.specs.Base.{joined}
 use Rattle.model.specs.Records.{Refusal, isAccepted, isRefused}
-use Rattle.model.specs.Translate.{Outcome, chunks, translate}
+use Rattle.model.specs.Answers.{outcomeOf}
+use Rattle.model.specs.Translate.{Outcome, chunks}
+use Rattle.model.specs.declared.Translated.{Translated}
 
 -- ---- records
 
@@ -58,10 +60,13 @@ refusalLine x = refusedWord ++ decimalOf (x .number) ++ 0x20 ∷ [] ++ decimalOf
 unfoldable pub textOf : Outcome → List ℕ
 textOf o =
     elim (o .verdict) [
-      | isAccepted ↦ linesOf (o .tables .locCount) (o .tables .locBytes) ++ linesOf (o .tables .edgeCount) (o .tables .edgeBytes)
+      | isAccepted ↦ let t = o .tables in linesOf (t .locCount) (t .locBytes) ++ linesOf (t .edgeCount) (t .edgeBytes)
       | isRefused x ↦ refusalLine x
     ]
 
--- what is written for input s: "reads at most 4,096 bytes"; the tables have 1,024 and 2,048 places
-abbrev pub printed : List ℕ → List ℕ
-printed s = textOf (translate (take 4096 s) 32768 65536)
+-- the records that are counted stand in the tables, and the text has room for them
+abbrev pub Stand : ℕ → List ℕ → ℕ → List ℕ → Type 0
+Stand i ls j es = (i ≤ 1024) × (j ≤ 2048) × (32 * i ≤ length ls) × (32 * j ≤ length es)
+
+abbrev pub Stands : Translated → List ℕ → List ℕ → Type 0
+Stands o ls es = Stand (outcomeOf o ls es .tables .locCount) ls (outcomeOf o ls es .tables .edgeCount) es

@@ -8,12 +8,13 @@ use lib.Seq.{set-split}
 use borrow.Author.Needs.{needs}
 use Rattle.model.specs.Base.{joined}
 use Rattle.model.proofs.lists.Slices.{joined-next, put-next}
-use Rattle.translate.specs.Text.{byteOf}
-use Rattle.translate.proofs.write_line.Statement.{statement}
-use Rattle.translate.proofs.write_line.Tie as tie
+use Rattle.text.specs.Text.{byteOf}
+use Rattle.text.proofs.write_line.Statement.{statement}
+use Rattle.text.proofs.write_line.Tie as tie
 
 abbrev Inv-loop : tie.InvT-loop
-Inv-loop rec line₀ i₀ line i = (i ≤ 32) × (length line ≡ length line₀) × (line ≡ joined (map byteOf (take i rec)) ++ drop (2 * i) line₀)
+Inv-loop rec line₀ i₀ line i =
+    (i ≤ 32) × (length line ≡ length line₀) × (line ≡ joined (map byteOf (take i rec)) ++ drop (2 * i) line₀)
 
 abbrev μ-loop : tie.MeasureT-loop
 μ-loop rec line₀ i₀ line i = 32 - i
@@ -32,7 +33,8 @@ loop-again c =
       omega arith,
       k .kept .1 .0 ∙ l .inv .1,
       k .ensures
-          ∙ put-next (a .line .now) (l .line) (joined (map byteOf (take (l .i) r))) (byteOf (getD r (l .i) 0)) (2 * l .i) 2 (l .inv .1) (omega arith) (l .inv .2)
+          ∙ put-next (a .line .now) (l .line) (joined (map byteOf (take (l .i) r))) (byteOf (getD r (l .i) 0))
+          (2 * l .i) 2 (l .inv .1) (omega arith) (l .inv .2)
           ∙ ap₂ (λ w m. w ++ drop m (a .line .now)) (sym (joined-next byteOf r (l .i) (omega arith))) e,
     )
 
@@ -49,15 +51,5 @@ returns c =
 pub write-line-spec : {M : Type 1} → statement M
 write-line-spec =
     tie.close
-    (tie.spec
-    Inv-loop
-    μ-loop
-    loop-holds
-    (λ c. search needs)
-    (λ c κs. search needs)
-    (λ c. search needs)
-    (λ c. search needs)
-    loop-again
-    (λ c. search needs)
-    (λ c. search needs)
-    returns)
+    (tie.spec Inv-loop μ-loop loop-holds (λ c. search needs) (λ c κs. search needs) (λ c. search needs)
+    (λ c. search needs) loop-again (λ c. search needs) (λ c. search needs) returns)

@@ -4,9 +4,9 @@ use mathlib.Core.List.{_++_}
 use native.Mathlib.Omega.{arith}
 use lib.ListN.{take}
 use borrow.Author.Needs.{needs}
-use Rattle.translate.proofs.Decimal.{decimal-is, decimal-short}
-use Rattle.translate.proofs.put_number.Statement.{statement}
-use Rattle.translate.proofs.put_number.Tie as tie
+use Rattle.text.proofs.Decimal.{decimal-is, decimal-short}
+use Rattle.text.proofs.put_number.Statement.{statement}
+use Rattle.text.proofs.put_number.Tie as tie
 
 put-requires : tie.Need-put-requires
 put-requires c κs =
@@ -18,17 +18,11 @@ returns : tie.Need-returns
 returns c =
     let a = c .before .before .before .before .before .before .before .before .args in
     let d = c .before .before .before .before .before .decimal in
-    let p = c .before .before .put in
     let h = decimal-short _ (d .result) (d .ensures .1 .0) (omega arith) in
-    (omega arith, p .ensures .1 ∙ ap (λ w. take (a .at) (a .text .now) ++ w) (d .ensures .1 .1 ∙ decimal-is (a .n) (d .result) (d .ensures .1 .0)))
+    let e = d .ensures .1 .1 ∙ decimal-is (a .n) (d .result) (d .ensures .1 .0) in
+    (omega arith, c .before .before .put .ensures .1 ∙ ap (λ w. take (a .at) (a .text .now) ++ w) e)
 
 pub put-number-spec : {M : Type 1} → statement M
 put-number-spec =
     tie.close
-    (tie.spec
-    (λ c κs. search needs)
-    (λ c. search needs)
-    (λ c. search needs)
-    put-requires
-    (λ c. search needs)
-    returns)
+    (tie.spec (λ c κs. search needs) (λ c. search needs) (λ c. search needs) put-requires (λ c. search needs) returns)

@@ -8,7 +8,7 @@ use lib.Dec.{leb}
 use borrow.Author.Tests.{le-ltb, leb-false, leb-true, lt-ltb}
 use Rattle.io.specs.Digits.{Fewest, digits, glyph}
 use Rattle.model.proofs.lists.Logic.{bool-case}
-use Rattle.translate.specs.Text.{decimalOf, digitsWithin}
+use Rattle.text.specs.Text.{decimalOf, digitsWithin}
 
 glyph-is : (n : ℕ) → glyph (n % 10) ≡ 48 + n % 10
 glyph-is n = rw (lt-ltb (n % 10) 10 (omega arith))
@@ -22,7 +22,8 @@ longer : (f n : ℕ) → 10 ≤ n → digitsWithin f (n / 10) ++ (48 + n % 10) �
 longer f n h = rw (le-ltb n 10 h, digitsWithin)
 
 -- the texts of 0, 9, 10 and 1024
-four-texts : map decimalOf (0 ∷ 9 ∷ 10 ∷ 1024 ∷ []) ≡ (48 ∷ []) ∷ (57 ∷ []) ∷ (49 ∷ 48 ∷ []) ∷ (49 ∷ 48 ∷ 50 ∷ 52 ∷ []) ∷ []
+four-texts : map decimalOf (0 ∷ 9 ∷ 10 ∷ 1024 ∷ [])
+    ≡ (48 ∷ []) ∷ (57 ∷ []) ∷ (49 ∷ 48 ∷ []) ∷ (49 ∷ 48 ∷ 50 ∷ 52 ∷ []) ∷ []
 unfolding decimalOf
 four-texts = refl
 
@@ -44,7 +45,8 @@ within-is (suc zero) (suc f) n h F = ap (λ x. x ∷ []) (glyph-is n) ∙ single
 within-is (suc (suc j)) zero n h F = absurd (omega arith)
 within-is (suc (suc j)) (suc f) n h F =
     let L = fewest-less n j F in
-    ap₂ (λ l x. l ++ x ∷ []) (within-is (suc j) f (n / 10) (omega (arith, L .0)) (L .1)) (glyph-is n) ∙ longer f n (L .0)
+    ap₂ (λ l x. l ++ x ∷ []) (within-is (suc j) f (n / 10) (omega (arith, L .0)) (L .1)) (glyph-is n)
+    ∙ longer f n (L .0)
 
 pub decimal-is : (n k : ℕ) → Fewest 10 1 n k → digits 10 k n ≡ decimalOf n
 unfolding decimalOf

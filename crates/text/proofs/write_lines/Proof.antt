@@ -6,14 +6,15 @@ use native.Mathlib.Omega.{arith}
 use lib.ListN.{length, take, drop}
 use borrow.Author.Needs.{needs}
 use borrow.Rule.Slice.PartMut.{putMid}
-use Rattle.model.proofs.lists.Slices.{part-from, put-back}
-use Rattle.translate.specs.Text.{lineOf, linesOf}
-use Rattle.translate.proofs.Lines.{lines-next, part-appends}
-use Rattle.translate.proofs.write_lines.Statement.{statement}
-use Rattle.translate.proofs.write_lines.Tie as tie
+use Rattle.model.proofs.lists.Slices.{part-from}
+use Rattle.text.specs.Text.{lineOf, linesOf}
+use Rattle.text.proofs.Lines.{lines-next, part-written}
+use Rattle.text.proofs.write_lines.Statement.{statement}
+use Rattle.text.proofs.write_lines.Tie as tie
 
 abbrev Inv-loop : tie.InvT-loop
-Inv-loop table n text₀ at i₀ text i = (i ≤ n) × (length text ≡ length text₀) × (take (at + 65 * i) text ≡ take at text₀ ++ linesOf i table)
+Inv-loop table n text₀ at i₀ text i =
+    (i ≤ n) × (length text ≡ length text₀) × (take (at + 65 * i) text ≡ take at text₀ ++ linesOf i table)
 
 abbrev μ-loop : tie.MeasureT-loop
 μ-loop table n text₀ at i₀ text i = n - i
@@ -34,13 +35,14 @@ loop-again c =
     let r = lineOf (take 32 (drop (32 * l .i) t)) in
     let e : to + 65 ≡ a .at + 65 * (l .i + 1) = omega arith in
     let k = c .before .before .write-line .ensures in
-    let u = putMid to (length (l .text) - to) (l .text) (c .before .before .write-line .last .1 .0) in
+    let ys = c .before .before .write-line .last .1 .0 in
+    let u = putMid to (length (l .text) - to) (l .text) ys in
     let h : length u ≡ length (l .text) = search needs in
     let front = take (a .at) (a .text .now) in (
       omega arith,
       h ∙ l .inv .1,
       ap (λ n. take n u) (sym e)
-          ∙ part-appends (l .text) u r to 65 h (omega arith) (put-back (l .text) r _ to 65 (rw (part-from t (32 * l .i)) at k))
+          ∙ part-written (l .text) r ys to 65 h (omega arith) (rw (part-from t (32 * l .i)) at k)
           ∙ ap (λ x. x ++ r) (l .inv .2)
           ∙ append-assoc front (linesOf (l .i) t) r
           ∙ ap (λ x. front ++ x) (sym (lines-next (l .i) t)),
@@ -56,24 +58,7 @@ returns c =
 pub write-lines-spec : {M : Type 1} → statement M
 write-lines-spec =
     tie.close
-    (tie.spec
-    Inv-loop
-    μ-loop
-    loop-holds
-    (λ c. search needs)
-    (λ c. search needs)
-    (λ c. search needs)
-    (λ c. search needs)
-    (λ c. search needs)
-    (λ c. search needs)
-    (λ c. search needs)
-    (λ c. search needs)
-    (λ c. search needs)
-    (λ c κs. search needs)
-    (λ c. search needs)
-    (λ c. search needs)
-    loop-again
-    (λ c. search needs)
-    (λ c. search needs)
-    (λ c. search needs)
-    returns)
+    (tie.spec Inv-loop μ-loop loop-holds (λ c. search needs) (λ c. search needs) (λ c. search needs) (λ c. search needs)
+    (λ c. search needs) (λ c. search needs) (λ c. search needs) (λ c. search needs) (λ c. search needs)
+    (λ c κs. search needs) (λ c. search needs) (λ c. search needs) loop-again (λ c. search needs) (λ c. search needs)
+    (λ c. search needs) returns)

@@ -7,9 +7,9 @@ use native.Mathlib.Omega.{arith}
 use lib.ListN.{set, take, drop, length-set}
 use lib.Seq.{sets-eq}
 use borrow.Author.Needs.{needs}
-use Rattle.translate.specs.Text.{byteOf, digitOf}
-use Rattle.translate.proofs.write_byte.Statement.{statement}
-use Rattle.translate.proofs.write_byte.Tie as tie
+use Rattle.text.specs.Text.{byteOf, digitOf}
+use Rattle.text.proofs.write_byte.Statement.{statement}
+use Rattle.text.proofs.write_byte.Tie as tie
 
 returns : tie.Need-returns
 returns c =
@@ -24,13 +24,5 @@ returns c =
 pub write-byte-spec : {M : Type 1} → statement M
 write-byte-spec =
     tie.close
-    (tie.spec
-    (λ c κs. search needs)
-    (λ c. search needs)
-    (λ c. search needs)
-    (λ c κs. search needs)
-    (λ c. search needs)
-    (λ c. search needs)
-    (λ c. simp length-set (omega arith))
-    (λ c. search needs)
-    returns)
+    (tie.spec (λ c κs. search needs) (λ c. search needs) (λ c. search needs) (λ c κs. search needs) (λ c. search needs)
+    (λ c. search needs) (λ c. simp length-set (omega arith)) (λ c. search needs) returns)
