@@ -1,5 +1,6 @@
 -- The answers of the translator, from the cleared tables and the check of the input.
 use Prim.Native.Nat.{ℕ, _<_, _≤_}
+use Rattle.model.specs.Base.{mostLocations}
 use Rattle.model.specs.Records.{isAccepted}
 use native.Mathlib.Omega.{arith}
 use mathlib.Core.Path.{_≡_, ap, sym, _∙_}
@@ -21,19 +22,23 @@ use Rattle.automaton.proofs.Outcomes.{outcome-automaton, outcome-bad, o
 -- the contract of the translator, of an answer and what the tables then hold
 abbrev pub Answered : List ℕ → ℕ → ℕ → Translated → List ℕ → List ℕ → Type 0
 Answered s a b o ls es =
-    (outcomeOf o ls es ≡ translate s a b) × (outcomeOf o ls es .verdict ≡ isAccepted → IsRoutineOf s (outcomeOf o ls es .tables))
+    (outcomeOf o ls es ≡ translate s a b)
+    × (outcomeOf o ls es .verdict ≡ isAccepted → IsRoutineOf s (outcomeOf o ls es .tables))
 
-pub answered : (s : List ℕ) (a b : ℕ) (o : Translated) (ls es : List ℕ) → outcomeOf o ls es ≡ translate s a b → Answered s a b o ls es
+pub answered : (s : List ℕ) (a b : ℕ) (o : Translated) (ls es : List ℕ) → outcomeOf o ls es ≡ translate s a b
+    → Answered s a b o ls es
 answered s a b o ls es e = (e, outcome-automaton s a b o ls es e)
 
 -- ks and fs are the tables ls and es cleared, and o is what the check said
-module _ (s ls es ks fs : List ℕ) (d : ks ≡ replicate (length ls) 0) (d′ : fs ≡ replicate (length es) 0) (p : length ks ≡ length ls) (p′ : length fs ≡ length es)
-    (o : Checked) (e : checkedOf o s ≡ check s) (g : GoodCounts o s) where
+module _ (s ls es ks fs : List ℕ) (d : ks ≡ replicate (length ls) 0) (d′ : fs ≡ replicate (length es) 0)
+    (p : length ks ≡ length ls) (p′ : length fs ≡ length es) (o : Checked) (e : checkedOf o s ≡ check s)
+    (g : GoodCounts o s) where
   pub answer-bad : (k x : ℕ) → o ≡ checked.Bad k x → Answered s (length ls) (length es) (translated.Refused k x) ks fs
   answer-bad k x q =
-      answered s (length ls) (length es) (translated.Refused k x) ks fs (outcome-bad s (length ls) (length es) k x ks fs (rw q at e) d d′)
+      answered s (length ls) (length es) (translated.Refused k x) ks fs
+      (outcome-bad s (length ls) (length es) k x ks fs (rw q at e) d d′)
 
-  module _ (n m most : ℕ) (q : o ≡ checked.Good n m) (r : most ≡ places 1024 (length ks)) where
+  module _ (n m most : ℕ) (q : o ≡ checked.Good n m) (r : most ≡ places mostLocations (length ks)) where
     is-good : check s ≡ good (routineOf n s)
     is-good = sym (rw q at e)
 
@@ -43,12 +48,18 @@ module _ (s ls es ks fs : List ℕ) (d : ks ≡ replicate (length ls) 0) (d′ :
     pub answer-few : most < m → Answered s (length ls) (length es) (translated.Refused 11 most) ks fs
     answer-few h =
         let l = starts-length s n m (is-accepted .whole) in
-        let z : most ≡ places 1024 (length ls) = r ∙ ap (places 1024) p in
+        let z : most ≡ places mostLocations (length ls) = r ∙ ap (places mostLocations) p in
         answered s (length ls) (length es) (translated.Refused 11 most) ks fs
-        (ap (λ x. outcomeOf (translated.Refused 11 x) ks fs) z ∙ outcome-few s (length ls) (length es) (routineOf n s) is-good ks fs (omega arith) d d′)
+        (ap (λ x. outcomeOf (translated.Refused 11 x) ks fs) z
+        ∙ outcome-few s (length ls) (length es) (routineOf n s) is-good ks fs (omega arith) d d′)
 
     pub ready-to-list : m ≤ most → ListReady s n m ks fs
     ready-to-list h = record {
-      starts = record { isGood = is-good; accepted = is-accepted; room = omega arith; blank = d ∙ ap (λ k. replicate k 0) (sym p) };
+      starts = record {
+        isGood = is-good;
+        accepted = is-accepted;
+        room = omega arith;
+        blank = d ∙ ap (λ k. replicate k 0) (sym p);
+      };
       blank = d′ ∙ ap (λ k. replicate k 0) (sym p′);
     }

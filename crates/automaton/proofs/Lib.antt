@@ -1,4 +1,4 @@
-pub mod Starts
 pub mod Outcomes
+pub mod Starts
 pub mod Listed
 pub mod Answers

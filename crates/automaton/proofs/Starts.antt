@@ -7,6 +7,7 @@ use mathlib.Core.Logic.{inl, inr}
 use mathlib.Core.List.{List, [], _∷_, _++_, map}
 use lib.ListN.{length, getD, take, replicate, length-map}
 use lib.Seq.{length-take-le, take-all, take-suc}
+use Rattle.model.specs.Base.{mostLocations}
 use Rattle.model.specs.Heap.{Heap}
 use Rattle.model.specs.Edges.{Loc, at}
 use Rattle.model.specs.Records.{locRecord, recordAt, shapeOf}
@@ -25,6 +26,12 @@ use Rattle.record.proofs.Placed.{placed-next}
 use Rattle.listing.specs.Grow.{Holds}
 use Rattle.explore.specs.Explore.{StatementsOk, LocsOk, LocOk, ExploreReady}
 use Rattle.automaton.specs.Starts.{startLocs}
+use Rattle.automaton.proofs.Outcomes.{startListing}
+use Rattle.model.specs.declared.Counts.{Counts}
+
+-- m locations and no edges
+abbrev pub startCounts : ℕ → Counts
+startCounts m = record { locations = m; edges = 0 }
 
 in-take : {A : Type 0} (x : A) (n : ℕ) (l : List A) → In x (take n l) → In x l
 in-take x zero l i = absurd i
@@ -63,31 +70,37 @@ module _ (s : List ℕ) (n m : ℕ) (g : check s ≡ good (routineOf n s)) (A : 
   start-is j h =
       let d : Heap = shapeOf [] in
       getD-map locRecord (startLocs n s) j (at 0 d) [] (omega (arith, count-is))
-      ∙ ap locRecord (getD-map (at 0) (routineOf n s .starts) j d (at 0 d) (omega (arith, starts-length s n m (A .whole))))
+      ∙ ap locRecord
+      (getD-map (at 0) (routineOf n s .starts) j d (at 0 d) (omega (arith, starts-length s n m (A .whole))))
       ∙ ap (λ x. locRecord (at 0 x)) (start-at s n m (A .whole) j d h) ∙ start-record s n m A j h
 
   -- one more
-  pub enter-turn : (a j : ℕ) (t : List ℕ) → j < m → m ≤ places 1024 a → t ≡ tableOf a (take j (map locRecord (startLocs n s)))
+  pub enter-turn : (a j : ℕ) (t : List ℕ) → j < m → m ≤ places mostLocations a
+      → t ≡ tableOf a (take j (map locRecord (startLocs n s)))
       → placed t j (locationBytes 0 0 (recordAt s (n + j))) ≡ tableOf a (take (j + 1) (map locRecord (startLocs n s)))
   enter-turn a j t h room e =
       let L : List (List ℕ) = map locRecord (startLocs n s) in
       let few : length (take j L) ≡ j = length-take-le j L (omega (arith, records-number)) in
-      let next : take (j + 1) L ≡ take j L ++ (locationBytes 0 0 (recordAt s (n + j)) ∷ []) =
-      ap (λ k. take k L) (add-one j) ∙ take-suc L j [] (omega (arith, records-number)) ∙ ap (λ x. take j L ++ (x ∷ [])) (start-is j h) in
-      ap (λ x. placed x j (locationBytes 0 0 (recordAt s (n + j)))) e
-      ∙ subst (λ k. placed (tableOf a (take j L)) k (locationBytes 0 0 (recordAt s (n + j))) ≡ tableOf a (take j L ++ (locationBytes 0 0 (recordAt s (n + j)) ∷ []))) few
-      (placed-next a (take j L) (locationBytes 0 0 (recordAt s (n + j))) (λ x i. start-wide x (in-take x j L i)) (omega arith))
+      let r = locationBytes 0 0 (recordAt s (n + j)) in
+      let next : take (j + 1) L ≡ take j L ++ (r ∷ []) =
+      ap (λ k. take k L) (add-one j) ∙ take-suc L j [] (omega (arith, records-number))
+      ∙ ap (λ x. take j L ++ (x ∷ [])) (start-is j h) in
+      ap (λ x. placed x j r) e
+      ∙ subst (λ k. placed (tableOf a (take j L)) k r ≡ tableOf a (take j L ++ (r ∷ []))) few
+      (placed-next a (take j L) r (λ x i. start-wide x (in-take x j L i)) (omega arith))
       ∙ ap (tableOf a) (sym next)
 
   pub enter-end : (j : ℕ) → m ≤ j → take j (map locRecord (startLocs n s)) ≡ map locRecord (startLocs n s)
   enter-end j h = take-all j (map locRecord (startLocs n s)) (omega (arith, records-number))
 
-  pub enter-none : (ls : List ℕ) → ls ≡ replicate (length ls) 0 → ls ≡ tableOf (length ls) (take 0 (map locRecord (startLocs n s)))
+  pub enter-none : (ls : List ℕ) → ls ≡ replicate (length ls) 0
+      → ls ≡ tableOf (length ls) (take 0 (map locRecord (startLocs n s)))
   enter-none ls e = e ∙ sym (table-empty (length ls))
 
   -- the listing of the starting shapes, before the first edge
-  pub starts-held : (ls es : List ℕ) → ls ≡ tableOf (length ls) (map locRecord (startLocs n s)) → es ≡ replicate (length es) 0 → m ≤ places 1024 (length ls)
-      → Holds (record { locs = startLocs n s; links = [] }) ls es m 0
+  pub starts-held : (ls es : List ℕ) → ls ≡ tableOf (length ls) (map locRecord (startLocs n s))
+      → es ≡ replicate (length es) 0 → m ≤ places mostLocations (length ls)
+      → Holds (startListing (routineOf n s)) ls es (startCounts m)
   starts-held ls es p q room = record {
     locs = p;
     edges = q ∙ sym (table-empty (length es));
@@ -99,7 +112,7 @@ module _ (s : List ℕ) (n m : ℕ) (g : check s ≡ good (routineOf n s)) (A : 
     goodLinks = λ k i. absurd i;
   }
 
-  pub starts-fine : LocsOk n (record { locs = startLocs n s; links = [] })
+  pub starts-fine : LocsOk n (startListing (routineOf n s))
   starts-fine = start-fine
 
   pub statements-ok : StatementsOk s n (routineOf n s .stmts)
@@ -115,12 +128,13 @@ module _ (s : List ℕ) (n m : ℕ) (g : check s ≡ good (routineOf n s)) (A : 
     read = stmt-at s n m (A .whole);
   }
 
-  pub explore-ready : (ls es : List ℕ) → ls ≡ tableOf (length ls) (map locRecord (startLocs n s)) → es ≡ replicate (length es) 0 → m ≤ places 1024 (length ls)
-      → ExploreReady s n ls es m 0
+  pub explore-ready : (ls es : List ℕ) → ls ≡ tableOf (length ls) (map locRecord (startLocs n s))
+      → es ≡ replicate (length es) 0 → m ≤ places mostLocations (length ls)
+      → ExploreReady s n ls es (startCounts m)
   explore-ready ls es p q room = record {
     statements = routineOf n s .stmts;
     readable = statements-ok;
-    list = record { locs = startLocs n s; links = [] };
+    list = startListing (routineOf n s);
     held = starts-held ls es p q room;
     fine = starts-fine;
   }

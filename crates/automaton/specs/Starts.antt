@@ -1,8 +1,10 @@
--- The starting shapes of an input as locations, and what entering and listing them asks of the input and the tables. Assumes nothing.
+-- The starting shapes of an input as locations, and what entering and listing them asks of the input and the tables.
+-- Assumes nothing.
 use Prim.Native.Nat.{ℕ, _≤_}
 use mathlib.Core.Path.{_≡_}
 use mathlib.Core.List.{List, map}
 use lib.ListN.{length, replicate}
+use Rattle.model.specs.Base.{mostLocations}
 use Rattle.model.specs.Edges.{Loc, at}
 use Rattle.model.specs.Translate.{check, good, places}
 use Rattle.input.specs.Input.{routineOf}
@@ -16,7 +18,7 @@ startLocs n s = map (at 0) (routineOf n s .starts)
 pub record StartsReady (s : List ℕ) (n m : ℕ) (ls : List ℕ) : Type 0 where
   pub isGood : check s ≡ good (routineOf n s)
   pub accepted : Accepted s n m
-  pub room : m ≤ places 1024 (length ls)
+  pub room : m ≤ places mostLocations (length ls)
   pub blank : ls ≡ replicate (length ls) 0
 
 -- the edge table is cleared too

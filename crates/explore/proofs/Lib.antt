@@ -1,7 +1,7 @@
-pub mod Ops
+pub mod Targets
 pub mod EdgesByWay
 pub mod Added
+pub mod WayByWay
 pub mod LocationBytes
-pub mod Ways
 pub mod Located
 pub mod Exploration

@@ -8,32 +8,23 @@ use model::Folded;
 use model::Statement;
 use model::Stepped;
 use plain_step::take_step;
-ghost use Prim.Native.Nat.{_-_};
 ghost use mathlib.Core.Path.{_≡_};
 ghost use Rattle.model.specs.Answers.{foldingOf, unfoldingOf, steppingOf};
 ghost use Rattle.model.specs.Image.{heapOf, foldImage, unfoldImage, stepImage};
-ghost use Rattle.heap_operations.specs.Fold.{FoldReady, foldedHeap};
+ghost use Rattle.segment.specs.Shape.{ShapeReady};
+ghost use Rattle.heap_operations.specs.Fold.{foldedHeap};
 
 // Folds a heap whose visit order and counts of holders are given. Sizes past the nodes stay zero.
-fn fold_heap(pointers: &[u8], cells: &[u8], order: &[u8], n: usize, held: &[u8]) -> Folded
-    requires { ⌜ FoldReady (now pointers) (now cells) (now order) n (now held) ⌝ }
+fn fold_heap(pointers: &[u8], cells: &[u8], order: &[u8], held: &[u8]) -> Folded
+    requires { ⌜ ShapeReady (now pointers) (now cells) (now order) (now held) ⌝ }
     ensures { λ r. ⌜ foldingOf r ≡ foldedHeap (heapOf (now (pointers .entry)) (now (cells .entry))) ⌝ }
 {
     let mut node = [0u8; 240];
     let mut last = [0u8; 12];
     let mut size = [0u32; 12];
     let mut shape = [0u8; 32];
-    let k = machine::shape_of(
-        pointers,
-        cells,
-        order,
-        n,
-        held,
-        &mut node,
-        &mut last,
-        &mut size,
-        &mut shape[4..],
-    );
+    let k = segment::cut(order, held, &mut node, &mut last, &mut size);
+    segment::fold_shape(pointers, cells, &last[..k], &node, &mut shape[4..]);
     record::write_head(&mut shape, 0x48, Statement(0), k);
     Folded {
         ended: Ended::Accepted,
@@ -59,7 +50,7 @@ pub fn fold(pointers: &[u8], cells: &[u8]) -> Folded
             counters: [0u32; 12],
         };
     }
-    fold_heap(pointers, cells, &order, checked.visited, &seen)
+    fold_heap(pointers, cells, &order[..checked.visited], &seen)
 }
 
 // Writes the heap image of a shape with counters; a refused unfolding leaves pointers and cells.
@@ -74,7 +65,7 @@ pub fn unfold(rec: &[u8], counters: &[u32], pointers: &mut [u8], cells: &mut [u8
             place: 0,
         };
     }
-    unfolding::spread(rec, counters, pointers, cells);
+    unfolding::unfold_shape(rec, counters, pointers, cells);
     Ended::Accepted
 }
 

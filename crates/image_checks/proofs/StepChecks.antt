@@ -1,18 +1,18 @@
 -- The checks of a plain step, of its record behind those of its image and of its entry, and what passed them.
 use Prim.Native.Nat.{ℕ, _≤_, _<_}
 use mathlib.Core.Path.{_≡_, refl, sym, ap, _∙_}
-use mathlib.Core.Bool.{Bool, true, false, _&&_, not, Bool·not-not}
+use mathlib.Core.Bool.{Bool, true, false, _&&_, not, Bool·not-not, cond}
 use mathlib.Core.List.{List, [], _∷_}
 use mathlib.Core.Logic.{inl}
 use lib.Dec.{eqb, leb}
 use lib.ListN.{length, getD, length-map}
 use borrow.Author.Tests.{eq-eqb, eqb-true, le-leb, lt-leb, ne-eqb}
-use Rattle.model.specs.Heap.{inUse, next}
-use Rattle.model.specs.Machine.{kind, entry}
-use Rattle.model.specs.Records.{byte, isS, opOf, refusalS, Row, checksS, firstFailed, unless}
+use Rattle.model.specs.Heap.{Heap, inUse, next}
+use Rattle.model.specs.Machine.{entry}
+use Rattle.model.specs.Records.{byte, isS, opOf, opCount, refusalS, Row, checksS, firstFailed, unless}
 use Rattle.model.specs.Image.{heapOf, refusalImage, cellSlot, checksImage, checksStatement, entryFits}
 use Rattle.model.proofs.images.Images.{image-accepted, number-case}
-use Rattle.model.proofs.lists.Logic.{and-l}
+use Rattle.model.proofs.lists.Logic.{and-l, and-true}
 use Rattle.model.proofs.records.Checks.{failed-after, failed-before, given-failed, none-failed, pass-after, pass-before, pass-none}
 use Rattle.model.proofs.records.Ops.{each-op}
 use Rattle.model.proofs.records.Statements.{statement-fields}
@@ -55,24 +55,35 @@ module _ (r : List ℕ) {ps cs o s : List ℕ} {m n : ℕ} (d : ImageChecked ps 
 
 -- ---- the entry
 
-module _ (op p c : ℕ) (cs : List ℕ) where
+-- what the entry is looked at for, by the op's number: the pick at choose, the cell at new
+abbrev fitsAt : ℕ → ℕ → Heap → ℕ → Bool
+fitsAt p c h n =
+    cond (eqb n 10) (leb p 1 && true) (cond (eqb n 6) (not (leb (length (h .slots)) c) && not (inUse (next h c))) true)
+
+module _ (op p c : ℕ) (cs : List ℕ) (lt : op < opCount) where
+  entry-is : (u w : ℕ) (ps : List ℕ) → entryFits (opOf op u w) (entry p c) (heapOf ps cs) ≡ fitsAt p c (heapOf ps cs) op
+  entry-is u w ps =
+      let h = heapOf ps cs in
+      each-op (λ o. entryFits o (entry p c) h) (fitsAt p c h) u w refl op lt
+
   pub entry-pick : op ≡ 10 → EntryChecked op p c cs (leb p 1)
-  entry-pick e u w ps = rw e
+  entry-pick e u w ps = sym (entry-is u w ps ∙ ap (fitsAt p c (heapOf ps cs)) e ∙ and-true (leb p 1))
 
   pub entry-cell : op ≡ 6 → c < length cs → EntryChecked op p c cs (eqb (getD cs c 0) 0xfd)
   entry-cell e l u w ps =
       let free = eqb (getD cs c 0) 0xfd in
       let s : inUse (next (heapOf ps cs) c) ≡ not free = ap inUse (slot-at cs c l) ∙ used-byte (getD cs c 0) in
-      rw (e, length-map cs cellSlot, lt-leb (length cs) c l, s) (sym (Bool·not-not free))
+      let n : fitsAt p c (heapOf ps cs) 6 ≡ free =
+      rw (length-map cs cellSlot, lt-leb (length cs) c l, s) (Bool·not-not free) in
+      sym (entry-is u w ps ∙ ap (fitsAt p c (heapOf ps cs)) e ∙ n)
 
   pub entry-past : op ≡ 6 → length cs ≤ c → EntryChecked op p c cs false
-  entry-past e l u w ps = rw (e, length-map cs cellSlot, le-leb (length cs) c l)
+  entry-past e l u w ps =
+      let n : fitsAt p c (heapOf ps cs) 6 ≡ false = rw (length-map cs cellSlot, le-leb (length cs) c l) in
+      sym (entry-is u w ps ∙ ap (fitsAt p c (heapOf ps cs)) e ∙ n)
 
-  pub entry-other : op ≤ 11 → (op ≡ 10 → ⊥) → (op ≡ 6 → ⊥) → EntryChecked op p c cs true
-  entry-other l a b u w ps =
-      each-op (λ k. op ≡ k → true ≡ entryFits (kind (opOf k u w)) (entry p c) (heapOf ps cs))
-      (λ q. refl) (λ q. refl) (λ q. refl) (λ q. refl) (λ q. refl) (λ q. refl) (λ q. absurd (b q)) (λ q. refl)
-      (λ q. refl) (λ q. refl) (λ q. absurd (a q)) (λ q. refl) op l refl
+  pub entry-other : (op ≡ 10 → ⊥) → (op ≡ 6 → ⊥) → EntryChecked op p c cs true
+  entry-other a b u w ps = sym (entry-is u w ps ∙ rw (ne-eqb op 10 a, ne-eqb op 6 b))
 
 -- ---- what passed
 
@@ -90,7 +101,7 @@ module _ (r ps cs : List ℕ) (z : firstFailed (checksStatement r ps cs) ≡ 0) 
   pub checked-wide : length r ≡ 32
   checked-wide = eqb-true (length r) 32 (and-l (eqb (length r) 32) (isS r) (checked .1))
 
-  pub checked-fields : (byte r 1 ≤ 11) × (byte r 2 < 6) × (byte r 3 < 6)
+  pub checked-fields : (byte r 1 < opCount) × (byte r 2 < 6) × (byte r 3 < 6)
   checked-fields = statement-fields 64 r (checked .2)
 
   pub checked-six : length ps ≡ 6

@@ -1,41 +1,18 @@
--- The checks of an unfolding: what each refusal says, and what a record and counters that pass them are.
-use Prim.Native.Nat.{ℕ, _+_, _-_, _≤_, _<_}
+-- The checks of an unfolding: what each refusal says, and what is known behind each of them.
+use Prim.Native.Nat.{ℕ, _-_, _≤_, _<_}
 use Rattle.model.proofs.records.Checks.{given-failed, pass-none}
-use native.Mathlib.Omega.{arith}
-use mathlib.Core.Path.{_≡_, sym, ap, _∙_, refl}
+use mathlib.Core.Path.{_≡_, sym, _∙_, refl}
 use mathlib.Core.Bool.{Bool, true, false, _&&_}
 use mathlib.Core.List.{List}
 use lib.Dec.{eqb, leb}
-use lib.ListN.{length, take, drop, length-map}
+use lib.ListN.{length}
 use borrow.Author.Tests.{eq-eqb, eqb-true, le-leb, lt-leb, ne-eqb}
-use Rattle.model.specs.Heap.{closed}
-use Rattle.model.specs.Image.{cellSlot, countersFit, heapOf, refusalUnfold, checksUnfold}
+use Rattle.model.specs.Image.{countersFit, refusalUnfold, checksUnfold}
 use Rattle.model.specs.Records.{byte, layoutH, shapeOf}
 use Rattle.model.specs.Shape.{canonical}
 use Rattle.model.proofs.lists.Logic.{and-l, and-r}
-use Rattle.model.proofs.records.ShapeBack.{layout-closed, layout-few, layout-slots, shape-image}
+use Rattle.model.proofs.records.ShapeBack.{layout-few}
 use mathlib.Core.Logic.{inl, inr}
-
--- ---- a record that keeps the layout, as an image
-
-module _ (r : List ℕ) (l : length r ≡ 32) (h : layoutH r ≡ true) where
-  -- the successors as the part of the record that ends with the last one
-  pub shape-part : shapeOf r ≡ heapOf (take 6 (drop 4 r)) (take (10 + byte r 3 - 10) (drop 10 r))
-  shape-part =
-      let n : byte r 3 ≡ 10 + byte r 3 - 10 = omega arith in
-      shape-image r l h ∙ ap (λ k. heapOf (take 6 (drop 4 r)) (take k (drop 10 r))) n
-
-  -- what the test for the numbering asks
-  pub canonical-ready : (closed (heapOf (take 6 (drop 4 r)) (take (10 + byte r 3 - 10) (drop 10 r))) ≡ true)
-      × (length (take (10 + byte r 3 - 10) (drop 10 r)) ≤ 12)
-  canonical-ready =
-      let f = layout-few r l h in
-      let ss = take (10 + byte r 3 - 10) (drop 10 r) in
-      let e : length ss ≡ byte r 3 =
-      sym (length-map ss cellSlot) ∙ ap (λ g. length (g .slots)) (sym shape-part) ∙ layout-slots r l h in
-      (ap closed (sym shape-part) ∙ layout-closed r l h, omega arith)
-
--- ---- the refusals, and what is known behind each of them
 
 -- the lengths np of the pointers and nc of the cells
 pub record Sized (r vs : List ℕ) (np nc : ℕ) : Type 0 where
@@ -81,18 +58,14 @@ module _ {r vs : List ℕ} {np nc : ℕ} where
   pub laid-few : Laid r vs np nc → byte r 3 ≤ 12
   laid-few L = layout-few r (L .wide) (L .layout)
 
-  module _ (L : Laid r vs np nc) {c : Bool}
-      (n : c ≡ canonical (heapOf (take 6 (drop 4 r)) (take (10 + byte r 3 - 10) (drop 10 r)))) where
-    numbering : c ≡ canonical (shapeOf r)
-    numbering = n ∙ ap canonical (sym (shape-part r (L .wide) (L .layout)))
-
+  module _ (L : Laid r vs np nc) {c : Bool} (n : c ≡ canonical (shapeOf r)) where
     pub refuse-numbering : c ≡ false → 9 ≡ refusalUnfold r vs np nc
     refuse-numbering f =
         let good = good-lengths (L .sized) in
-        sym (given-failed (checksUnfold r vs np nc) 9 (inr (good, inr (good-layout L, inl (refl, sym numbering ∙ f)))))
+        sym (given-failed (checksUnfold r vs np nc) 9 (inr (good, inr (good-layout L, inl (refl, sym n ∙ f)))))
 
     pub numbered : c ≡ true → Numbered r vs np nc
-    numbered u = record { laid = L; numbered = sym numbering ∙ u }
+    numbered u = record { laid = L; numbered = sym n ∙ u }
 
   module _ (N : Numbered r vs np nc) {d : Bool} (m : d ≡ countersFit (byte r 3) vs nc) where
     pub refuse-counters : d ≡ false → 15 ≡ refusalUnfold r vs np nc

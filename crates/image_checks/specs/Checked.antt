@@ -6,7 +6,7 @@ use mathlib.Core.List.{List}
 use lib.ListN.{length, take}
 use Rattle.model.specs.Heap.{order}
 use Rattle.model.specs.Image.{entryFits, heapOf, refusalImage}
-use Rattle.model.specs.Machine.{entry, kind}
+use Rattle.model.specs.Machine.{entry}
 use Rattle.model.specs.Records.{opOf}
 use Rattle.visit.specs.Visit.{Held}
 
@@ -21,4 +21,4 @@ pub record ImageChecked (ps cs o s : List ℕ) (r n : ℕ) : Type 0 where
 -- b is whether the pick p and the cell c may be entered at an op, whichever its pointers
 abbrev pub EntryChecked : ℕ → ℕ → ℕ → List ℕ → Bool → Type 0
 EntryChecked op p c cs b =
-    (u w : ℕ) (ps : List ℕ) → b ≡ entryFits (kind (opOf op u w)) (entry p c) (heapOf ps cs)
+    (u w : ℕ) (ps : List ℕ) → b ≡ entryFits (opOf op u w) (entry p c) (heapOf ps cs)

@@ -1,12 +1,12 @@
 // The checks of the calls on heap images: of an image, of an unfolding's record and counters, and of a step's record
 // and entry.
-ghost use Prim.Native.Nat.{_≤_};
+ghost use Prim.Native.Nat.{_<_};
 ghost use mathlib.Core.Bool.{_&&_};
 ghost use mathlib.Core.Path.{_≡_};
 ghost use lib.Dec.{eqb};
 ghost use lib.ListN.{length, replicate};
 ghost use Rattle.model.specs.Image.{lengths, refusalUnfold, checksStatement};
-ghost use Rattle.model.specs.Records.{firstFailed, layoutH};
+ghost use Rattle.model.specs.Records.{firstFailed, layoutH, opCount};
 ghost use Rattle.image_checks.specs.Checked.{EntryChecked, ImageChecked};
 
 // Whether there are six pointers and at most 240 cells.
@@ -16,7 +16,7 @@ fn lengths_ok(pointers: &[u8], cells: &[u8]) -> bool
     if pointers.len() != 6 {
         return false;
     }
-    cells.len() <= 240
+    cells.len() <= model::MOST_CELLS
 }
 
 // What checking an image gives: the refusal (0 for none) and, without one, how many cells were visited.
@@ -64,7 +64,7 @@ fn is_shape(rec: &[u8]) -> bool
     if rec.len() != 32 {
         return false;
     }
-    record::layout_ok(rec)
+    layout::layout_ok(rec)
 }
 
 // The refusal of an unfolding (0 for none): the lengths of pointers and cells, then the record, then the counters.
@@ -74,18 +74,17 @@ pub fn unfold_refusal(rec: &[u8], counters: &[u32], pointers: usize, cells: usiz
     if pointers != 6 {
         return 13;
     }
-    if 240 < cells {
+    if model::MOST_CELLS < cells {
         return 13;
     }
     if !is_shape(rec) {
         return 8;
     }
-    let k = rec[3] as usize;
-    let end = 10 + k;
-    if !visit::is_canonical(&rec[4..10], &rec[10..end]) {
+    if !layout::canonical_shape(rec) {
         return 9;
     }
-    if unfolding::counters_fit(k, counters, cells) {
+    let k = rec[3] as usize;
+    if counters::counters_fit(k, counters, cells) {
         0
     } else {
         15
@@ -109,12 +108,12 @@ pub fn step_refusal(rec: &[u8], pointers: &[u8], cells: &[u8]) -> u8
     if rec[0] != 0x53 {
         return 4;
     }
-    record::statement_refusal(rec, 64)
+    layout::statement_refusal(rec, model::MOST_STATEMENTS)
 }
 
 // Whether the pick at choose is 0 or 1, and the cell at new is one of the image that is not in use.
 pub fn entry_ok(op: u8, pick: u8, cell: usize, cells: &[u8]) -> bool
-    requires { ⌜ op ≤ 11 ⌝ }
+    requires { ⌜ op < opCount ⌝ }
     ensures { λ r. ⌜ EntryChecked op pick cell (now (cells .entry)) r ⌝ }
 {
     if op == 10 {

@@ -1,15 +1,18 @@
 -- The checks in their order: what decides, and what is left when one passes.
-use Prim.Native.Nat.{ℕ, _%_}
+use Prim.Native.Nat.{ℕ, _*_, _/_, _%_}
 use mathlib.Core.Path.{_≡_}
-use mathlib.Core.Bool.{true, false}
+use native.Mathlib.Omega.{arith}
+use mathlib.Core.Bool.{Bool, true, false, not, _||_}
 use mathlib.Core.Option.{none, some}
 use mathlib.Core.List.{List, [], map}
 use lib.Dec.{eqb}
 use lib.ListN.{length, take, drop}
+use borrow.Author.Tests.{eqb-true, not-false}
 use Rattle.model.specs.Base.{count}
 use Rattle.model.specs.Records.{Refusal, isH, isS, refusal, shapeOf, stmtOf}
 use Rattle.model.specs.Translate.{bad, good, badKind, badRecord, between, check, checkCounts, checkKinds, checkRecords}
 use Rattle.model.specs.Listings.{recordsOf}
+use Rattle.model.proofs.lists.Logic.{or-false-r}
 
 module _ (n : ℕ) (rs : List (List ℕ)) where
   pub records-bad : (x : Refusal) → badRecord n 0 [] rs ≡ some x → bad x ≡ checkRecords n rs
@@ -34,15 +37,20 @@ module _ (rs : List (List ℕ)) where
   pub kinds-rest : badKind false 0 rs ≡ none → checkCounts rs ≡ checkKinds rs
   kinds-rest e = rw (e, checkKinds)
 
+-- the test of the length
+abbrev pub badLength : ℕ → Bool
+badLength n = eqb n 0 || not (eqb (n % 32) 0)
+
+pub length-even : (n : ℕ) → badLength n ≡ false → 32 * (n / 32) ≡ n
+length-even n h =
+    let m = eqb-true (n % 32) 0 (not-false _ (or-false-r (eqb n 0) (not (eqb (n % 32) 0)) h)) in
+    omega arith
+
 module _ (s : List ℕ) where
-  pub check-empty : eqb (length s) 0 ≡ true → bad (refusal 1 0) ≡ check s
+  pub check-length : badLength (length s) ≡ true → bad (refusal 1 0) ≡ check s
   unfolding check
-  check-empty e = rw (e, check)
+  check-length e = rw (e, check)
 
-  pub check-uneven : eqb (length s) 0 ≡ false → eqb (length s % 32) 0 ≡ false → bad (refusal 1 0) ≡ check s
+  pub check-rest : badLength (length s) ≡ false → checkKinds (recordsOf s) ≡ check s
   unfolding check
-  check-uneven e h = rw (e, h, check)
-
-  pub check-rest : eqb (length s) 0 ≡ false → eqb (length s % 32) 0 ≡ true → checkKinds (recordsOf s) ≡ check s
-  unfolding check
-  check-rest e h = rw (e, h, check)
+  check-rest e = rw (e, check)

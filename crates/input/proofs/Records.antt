@@ -1,21 +1,24 @@
 -- The records of an input by place, and the checks of them taken one record at a time.
-use Prim.Native.Nat.{ℕ, zero, suc, _+_, _-_, _*_, _/_, _<_, _≤_}
+use Prim.Native.Nat.{ℕ, zero, suc, _+_, _*_, _/_, _<_, _≤_}
 use native.Mathlib.Nat.{add-zero}
 use native.Mathlib.Numerals.{add-one}
 use native.Mathlib.Omega.{arith}
-use mathlib.Core.Path.{_≡_, refl, sym, ap, _∙_}
+use mathlib.Core.Path.{_≡_, refl, sym, ap, ap₂, _∙_}
 use mathlib.Core.Bool.{Bool, true, false, cond, _||_}
 use mathlib.Core.Option.{none, some}
-use mathlib.Core.List.{List, [], _∷_}
-use lib.Dec.{eqb}
+use mathlib.Core.List.{List, [], _∷_, _++_}
+use lib.Dec.{eqb, ltb}
 use lib.ListN.{length, getD, take, drop, drop-of-length-le, length-drop}
 use lib.Seq.{drop-cons, drop-drop, getD-drop, getD-take, length-take-le}
-use Rattle.model.specs.Base.{any, count}
+use Rattle.model.specs.Base.{any, count, numbers, sameList}
 use Rattle.model.specs.Records.{byte, isH, isS, recordAt, refusal, refusalH, refusalS}
 use Rattle.model.specs.Translate.{badKind, badRecord, chunks}
 use Rattle.model.proofs.lists.Sorted.{kinds-sorted}
 use Rattle.model.specs.Listings.{recordsOf}
-use Rattle.model.proofs.lists.Logic.{bool-case, clash, or-l}
+use Rattle.model.proofs.lists.Logic.{bool-case, bool-ext, clash, or-l}
+use Rattle.model.proofs.lists.Numbers.{length-numbers, numbers-snoc}
+use Rattle.model.proofs.shapes.Same.{bytes-same, place-test, same-bytes-refl}
+use Rattle.search.specs.Search.{foundAt}
 use Rattle.input.specs.RecordChecks.{kindFits, earlier, recordRefusal}
 
 chunks-length : (n : ℕ) (s : List ℕ) → length (chunks n s) ≡ n
@@ -53,10 +56,33 @@ refusal-fail : (n i k : ℕ) (e : List (List ℕ)) (r : List ℕ) (rs : List (Li
 refusal-fail n i zero e r rs h z = absurd (z refl)
 refusal-fail n i (suc k) e r rs h z = rw (h, badRecord)
 
--- the last of the first j records, and those before it
-pub earlier-step : (p : List ℕ → Bool) (s : List ℕ) (j : ℕ) → 0 < j → any p (earlier s j) ≡ p (recordAt s (j - 1)) || any p (earlier s (j - 1))
-earlier-step p s zero h = absurd (omega arith)
-earlier-step p s (suc j) h = let e : suc j - 1 ≡ j = omega arith in rw e
+-- the first i records, by their numbers and as a list
+or-swap : (a b c : Bool) → a || (b || c) ≡ b || (a || c)
+or-swap true true c = refl
+or-swap true false c = refl
+or-swap false b c = refl
+
+any-snoc : {A : Type 0} (p : A → Bool) (l : List A) (x : A) → any p (l ++ x ∷ []) ≡ p x || any p l
+any-snoc p [] x = refl
+any-snoc p (y ∷ l) x = ap (λ b. p y || b) (any-snoc p l x) ∙ or-swap (p y) (p x) (any p l)
+
+any-earlier : (p : ℕ → Bool) (q : List ℕ → Bool) (s : List ℕ) → ((j : ℕ) → p j ≡ q (recordAt s j))
+    → (i : ℕ) → any p (numbers 0 i) ≡ any q (earlier s i)
+any-earlier p q s h zero = refl
+any-earlier p q s h (suc i) =
+    let z : 0 + i ≡ i = omega arith in
+    ap (any p) (numbers-snoc 0 i) ∙ any-snoc p (numbers 0 i) (0 + i) ∙ ap₂ _||_ (ap p z ∙ h i) (any-earlier p q s h i)
+
+bytes-sym : (a b : List ℕ) → sameList eqb a b ≡ sameList eqb b a
+bytes-sym a b = bool-ext (sameList eqb a b) (sameList eqb b a)
+    (λ e. ap (sameList eqb b) (bytes-same a b e) ∙ same-bytes-refl b)
+    (λ e. ap (sameList eqb a) (bytes-same b a e) ∙ same-bytes-refl a)
+
+-- a record that is found among the first i is one of them
+pub found-earlier : (s r : List ℕ) (i : ℕ) → ltb (foundAt s r i) i ≡ any (sameList eqb r) (earlier s i)
+found-earlier s r i =
+    ap (ltb (foundAt s r i)) (sym (length-numbers 0 i)) ∙ place-test (λ j. sameList eqb (recordAt s j) r) (numbers 0 i)
+    ∙ any-earlier (λ j. sameList eqb (recordAt s j) r) (sameList eqb r) s (λ j. bytes-sym (recordAt s j) r) i
 
 module _ (s : List ℕ) (n : ℕ) (w : 32 * n ≡ length s) where
   pub records-length : length (recordsOf s) ≡ n

@@ -1,25 +1,17 @@
--- The shape of an H record that keeps the layout, as the heap image of its pointer and successor bytes; the refusals' numbers.
+-- The refusals of H records, and of any record by its kind.
 use Prim.Native.Nat.{ℕ, _≤_}
 use Rattle.model.proofs.records.Checks.{given-failed, pass-none}
 use native.Mathlib.Omega.{arith}
-use mathlib.Core.Path.{_≡_, sym, ap, _∙_, refl}
+use mathlib.Core.Path.{_≡_, sym, ap, refl}
 use mathlib.Core.Bool.{true, false, cond, not}
 use mathlib.Core.List.{List, [], _∷_}
 use lib.Dec.{eqb, leb}
-use lib.ListN.{length, take, drop}
 use Rattle.model.specs.Base.{any, sameList, all}
-use Rattle.model.specs.Heap.{closed}
-use Rattle.model.specs.Image.{heapOf}
-use Rattle.model.specs.Records.{byte, isS, layoutH, refusalH, refusalS, shapeOf, Row, checksS, checksH, firstFailed}
+use Rattle.model.specs.Records.{isS, layoutH, refusalH, refusalS, shapeOf, Row, checksS, checksH, firstFailed}
 use Rattle.model.specs.Shape.{canonical}
 use Rattle.model.proofs.lists.Logic.{bool-case, and-l, and-r}
-use Rattle.model.proofs.records.ShapeBack.{layout-closed, shape-image}
 use mathlib.Core.Logic.{inl, inr}
 use borrow.Author.Tests.{leb-true}
-
-module _ (r : List ℕ) (l : length r ≡ 32) (h : layoutH r ≡ true) where
-  pub image-closed : closed (heapOf (take 6 (drop 4 r)) (take (byte r 3) (drop 10 r))) ≡ true
-  image-closed = ap closed (sym (shape-image r l h)) ∙ layout-closed r l h
 
 -- ---- the refusals of an H record after the records e, in the order of its tests
 

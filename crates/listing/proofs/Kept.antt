@@ -16,7 +16,8 @@ pub place-within : (most size n : ℕ) → n < places most size → 32 * n + 32 
 place-within most size n h = omega arith
 
 -- the table tab of size bytes holds the list l, by the records f, in n records; each element is good
-pub record Kept {A : Type 0} (f : A → List ℕ) (G : A → Type 0) (most size : ℕ) (l : List A) (tab : List ℕ) (n : ℕ) : Type 0 where
+pub record Kept {A : Type 0} (f : A → List ℕ) (G : A → Type 0) (most size : ℕ) (l : List A) (tab : List ℕ) (n : ℕ)
+    : Type 0 where
   pub same : length tab ≡ size
   pub held : tab ≡ tableOf size (map f l)
   pub number : n ≡ length l
@@ -28,11 +29,13 @@ module _ {A : Type 0} (f : A → List ℕ) (G : A → Type 0) (wide : (x : A) �
   wide-map l h = records-wide f l (λ x i. wide x (h x i))
 
   -- one element more, as the next record
-  pub kept-next : (most size : ℕ) (l : List A) (tab rec : List ℕ) (n : ℕ) (x : A) → Kept f G most size l tab n → G x → rec ≡ f x → n < places most size
+  pub kept-next : (most size : ℕ) (l : List A) (tab rec : List ℕ) (n : ℕ) (x : A) → Kept f G most size l tab n
+      → G x → rec ≡ f x → n < places most size
       → Kept f G most size (l ++ x ∷ []) (placed tab n rec) (n + 1)
   kept-next most size l tab rec n x K g e h =
       let m : List A = l ++ x ∷ [] in
-      let good : (y : A) → In y m → G y = λ y i. in-append-cases y l (x ∷ []) i (K .good y) (λ k. subst G (sym (in-single y x k)) g) in
+      let good : (y : A) → In y m → G y =
+      λ y i. in-append-cases y l (x ∷ []) i (K .good y) (λ k. subst G (sym (in-single y x k)) g) in
       let len : length m ≡ n + 1 = length-append l (x ∷ []) ∙ omega (arith, K .number) in
       let num : n ≡ length (map f l) = K .number ∙ sym (length-map l f) in
       let room : 32 * length (map f l) + 32 ≤ size = omega (arith, place-within most size n h) in

@@ -1,5 +1,7 @@
 // A listing in two lent tables grows by one edge: its target is looked for, and takes the next place where it is new.
-use model::Node;
+use model::Counts;
+use model::EdgeFields;
+use model::EdgeMade;
 use model::Statement;
 ghost use mathlib.Core.Path.{_≡_};
 ghost use Prim.Native.Nat.{_+_, _*_, _≤_};
@@ -8,11 +10,11 @@ ghost use Rattle.model.specs.Records.{byte};
 ghost use Rattle.model.specs.Translate.{places};
 ghost use Rattle.record.specs.Written.{placed};
 ghost use Rattle.listing.specs.Grow.{GrowReady, Grows};
-ghost use Rattle.listing.specs.Target.{targetKept, countKept};
+ghost use Rattle.listing.specs.Target.{targetKept, countKept, fieldsTo};
 
 // The counts after an edge more, or the refusal (11 no place for a new location, 12 no place for the edge).
 pub enum Grown {
-    Added { locations: usize, edges: usize },
+    Added { counts: Counts },
     Full { number: u8 },
 }
 
@@ -36,7 +38,8 @@ fn put_location(table: &mut [u8], n: usize, rec: &[u8])
 // A target with number j, the next one where it is new: it is written there, and the count of locations is answered.
 fn keep_target(locations: &mut [u8], nl: usize, j: usize, target: &[u8]) -> usize
     requires { ⌜ (32 * j + 32 ≤ length (now locations)) × (length (now target) ≡ 32) × (byte (now target) 0 ≡ 0x4c) ⌝ }
-    ensures { λ r. ⌜ (r ≡ countKept nl j) × (now (locations .exit) ≡ targetKept (now (locations .entry)) nl j (now (target .entry))) ⌝ }
+    ensures { λ r. ⌜ (r ≡ countKept nl j)
+        × (now (locations .exit) ≡ targetKept (now (locations .entry)) nl j (now (target .entry))) ⌝ }
 {
     if j < nl {
         return nl;
@@ -45,36 +48,51 @@ fn keep_target(locations: &mut [u8], nl: usize, j: usize, target: &[u8]) -> usiz
     nl + 1
 }
 
+// The fields of an edge from a location to another.
+fn fields_to(made: EdgeMade, from: usize, to: usize) -> EdgeFields
+    ensures { λ r. ⌜ r ≡ fieldsTo made from to ⌝ }
+{
+    let guards = made.guards;
+    EdgeFields {
+        branch: made.branch,
+        from,
+        to,
+        guards,
+        nodes: made.nodes,
+    }
+}
+
 // Adds an edge of location `from`. Nothing is written where there is no place for all of it.
 pub fn add_edge(
     locations: &mut [u8],
     edges: &mut [u8],
-    nl: usize,
-    ne: usize,
+    counts: Counts,
     from: usize,
+    made: EdgeMade,
     target: &[u8],
     updates: &[u16],
-    branch: u8,
-    guard: u8,
-    node: Node,
-    k: usize,
 ) -> Grown
-    requires { ⌜ GrowReady (now locations) (now edges) nl ne from (now target) (now updates) branch guard (node .0) k ⌝ }
-    ensures { λ r. ⌜ Grows (now (locations .entry)) (now (edges .entry)) nl ne from (now (target .entry)) (now (updates .entry)) branch guard (node .0) k (now (locations .exit)) (now (edges .exit)) r ⌝ }
+    requires { ⌜ GrowReady (now locations) (now edges) counts from made (now target) (now updates) ⌝ }
+    ensures { λ r. ⌜ Grows (now (locations .entry)) (now (edges .entry)) counts from made
+        (now (target .entry)) (now (updates .entry))
+        (now (locations .exit)) (now (edges .exit)) r ⌝ }
 {
+    let nl = counts.locations;
+    let ne = counts.edges;
     let j = search::find(&locations[..], nl, target);
-    let cl = places(1024, locations.len());
+    let cl = places(model::MOST_LOCATIONS, locations.len());
     if cl <= j {
         return Grown::Full { number: 11 };
     }
-    let ce = places(2048, edges.len());
+    let ce = places(model::MOST_EDGES, edges.len());
     if ce <= ne {
         return Grown::Full { number: 12 };
     }
     let count = keep_target(locations, nl, j, target);
-    record::put_edge(edges, ne, branch, from, j, guard, node, updates, k);
-    Grown::Added {
+    record::put_edge(edges, ne, fields_to(made, from, j), updates);
+    let counts = Counts {
         locations: count,
         edges: ne + 1,
-    }
+    };
+    Grown::Added { counts }
 }

@@ -13,16 +13,19 @@ keep-fault (suc (suc zero)) g n = refl
 keep-fault (suc (suc (suc r))) g n = refl
 
 -- a fault of the effect is that of the run
-pub run-fault : (op : Op) (n r : ℕ) (h g : Heap) → effectOf r g ≡ effect op n h → (r ≡ 0 → ⊥) → effectOf r g ≡ carryOut op n h
+pub run-fault : (op : Op) (n r : ℕ) (h g : Heap) → effectOf r g ≡ effect op n h → (r ≡ 0 → ⊥)
+    → effectOf r g ≡ carryOut op n h
 run-fault op n r h g e z = sym (keep-fault r g z) ∙ ap keep e
 
 -- a finished effect that keeps its cells, and one that loses a cell
-pub run-kept : (op : Op) (n r : ℕ) (h g : Heap) → effectOf r g ≡ effect op n h → r ≡ 0 → kept g ≡ true → effectOf 0 g ≡ carryOut op n h
+pub run-kept : (op : Op) (n r : ℕ) (h g : Heap) → effectOf r g ≡ effect op n h → r ≡ 0 → kept g ≡ true
+    → effectOf 0 g ≡ carryOut op n h
 run-kept op n r h g e z k =
     let d : done g ≡ effect op n h = ap (λ x. effectOf x g) (sym z) ∙ e in
     sym (ap (λ b. cond b (done g) (fault leak)) k) ∙ ap keep d
 
-pub run-lost : (op : Op) (n r : ℕ) (h g : Heap) → effectOf r g ≡ effect op n h → r ≡ 0 → kept g ≡ false → effectOf 3 g ≡ carryOut op n h
+pub run-lost : (op : Op) (n r : ℕ) (h g : Heap) → effectOf r g ≡ effect op n h → r ≡ 0 → kept g ≡ false
+    → effectOf 3 g ≡ carryOut op n h
 run-lost op n r h g e z k =
     let d : done g ≡ effect op n h = ap (λ x. effectOf x g) (sym z) ∙ e in
     sym (ap (λ b. cond b (done g) (fault leak)) k) ∙ ap keep d

@@ -8,4 +8,7 @@ pub mod Writes
 pub mod Facts
 pub mod Changes
 pub mod Effects
+pub mod Kinds
 pub mod Step
+pub mod Splits
+pub mod Unheld

@@ -3,5 +3,6 @@ pub mod Logic
 pub mod Lists
 pub mod Numbers
 pub mod Slices
+pub mod Loops
 pub mod Digits
 pub mod Sorted

@@ -3,3 +3,4 @@ pub mod Promises
 pub mod PromisesShapes
 pub mod PromisesListings
 pub mod PromisesRuns
+pub mod Shelf

@@ -7,8 +7,8 @@ use mathlib.Core.Bool.{Bool, _&&_, _||_, cond, false, not, true}
 use mathlib.Core.List.{List, [], _++_, _∷_, map}
 use lib.Dec.{eqb}
 use lib.ListN.{drop, getD, length, replicate, take}
-use Rattle.model.specs.Base.{any, count, joined, numbers, placeOf}
-use Rattle.model.specs.Edges.{Edge, Loc, always, at, edgesOf, failed, sameLoc}
+use Rattle.model.specs.Base.{any, count, joined, numbers, placeOf, mostNodes, mostShapes, mostStatements, pointerCount, recordSize}
+use Rattle.model.specs.Edges.{Edge, Loc, at, edgesOf, failed, sameLoc}
 use Rattle.model.specs.Heap.{Heap, Slot, Val, cell, holds, null, order, undef, unused}
 use Rattle.model.specs.Machine.{Op, Stmt, choose, clear, copy, free, isNull, leak, load, new, same, setNull, skip, stop, store}
 use Rattle.model.specs.Records.{Refusal, isH, isS, refusal, refusalH, refusalS, shapeOf, stmtOf, usesFirst, usesSecond}
@@ -50,7 +50,7 @@ linkTarget l = l .edge .to
 
 -- edge n of a listing; past the end one that leads nowhere
 abbrev pub noLink : Link
-noLink = record { from = 0; dest = 0; edge = record { branchNo = 0; guard = always; to = failed 0 leak; updates = [] } }
+noLink = record { from = 0; dest = 0; edge = record { branchNo = 0; guards = []; to = failed 0 leak; updates = [] } }
 
 abbrev pub linkAt : Listing → ℕ → Link
 linkAt t n = getD (t .links) n noLink
@@ -115,11 +115,11 @@ pub record Refused (sts : List Stmt) (hs : List Heap) (cl ce : ℕ) (x : Refusal
 
 -- the records of an input
 abbrev pub recordsOf : List ℕ → List (List ℕ)
-recordsOf s = chunks (length s / 32) s
+recordsOf s = chunks (length s / recordSize) s
 
 -- 1: "empty, or not a multiple of 32 bytes"
 abbrev pub noRecords : List ℕ → Bool
-noRecords s = eqb (length s) 0 || not (eqb (length s % 32) 0)
+noRecords s = eqb (length s) 0 || not (eqb (length s % recordSize) 0)
 
 -- 4: record i is neither S nor H, or is an S after an H
 abbrev pub wrongKind : List (List ℕ) → ℕ → Bool
@@ -138,10 +138,10 @@ RightRecords s i = (j : ℕ) → j < i → recordRefusal (recordsOf s) j ≡ 0
 
 -- there are 1 to 64 S and 1 to 16 H
 abbrev pub rightS : List ℕ → Bool
-rightS s = between 1 64 (count isS (recordsOf s))
+rightS s = between 1 mostStatements (count isS (recordsOf s))
 
 abbrev pub rightH : List ℕ → Bool
-rightH s = between 1 16 (count isH (recordsOf s))
+rightH s = between 1 mostShapes (count isH (recordsOf s))
 
 -- What is wrong with an input, in the order of the checks, each where all before it pass: "whole input, in this order"; "Records are checked in
 -- input order, the lowest number first."
@@ -180,8 +180,8 @@ SmallSlot k (holds v) = SmallVal k v
 
 -- six pointers, at most twelve slots, all in use, and every value a cell below their number, null or undefined
 pub record Writable (h : Heap) : Type 0 where
-  pub six : length (h .ptrs) ≡ 6
-  pub few : length (h .slots) ≤ 12
+  pub six : length (h .ptrs) ≡ pointerCount
+  pub few : length (h .slots) ≤ mostNodes
   pub pointers : (v : Val) → In v (h .ptrs) → SmallVal (length (h .slots)) v
   pub nexts : (s : Slot) → In s (h .slots) → SmallSlot (length (h .slots)) s
 
@@ -192,51 +192,31 @@ WritableLoc (failed s f) = Unit {0}
 
 -- a location that is good: a shape with six pointers, or a fault
 abbrev pub GoodLoc : Loc → Type 0
-GoodLoc (at s h) = Canon h × (length (h .ptrs) ≡ 6)
+GoodLoc (at s h) = Canon h × (length (h .ptrs) ≡ pointerCount)
 GoodLoc (failed s f) = Unit {0}
 
 -- the number of an op in 01's table, and its pointers u and w, 0 where it has none
-abbrev pub opNumber : Op → ℕ
-opNumber stop = 0
-opNumber (setNull u) = 1
-opNumber (copy u w) = 2
-opNumber (load u w) = 3
-opNumber (clear u) = 4
-opNumber (store u w) = 5
-opNumber (new u) = 6
-opNumber (free u) = 7
-opNumber (isNull u) = 8
-opNumber (same u w) = 9
-opNumber choose = 10
-opNumber skip = 11
+pub record OpFields : Type 0 where
+  pub number : ℕ
+  pub u : ℕ
+  pub w : ℕ
 
-abbrev pub pointerU : Op → ℕ
-pointerU stop = 0
-pointerU (setNull u) = u
-pointerU (copy u w) = u
-pointerU (load u w) = u
-pointerU (clear u) = u
-pointerU (store u w) = u
-pointerU (new u) = u
-pointerU (free u) = u
-pointerU (isNull u) = u
-pointerU (same u w) = u
-pointerU choose = 0
-pointerU skip = 0
+abbrev pub fieldsOf : ℕ → ℕ → ℕ → OpFields
+fieldsOf n u w = record { number = n; u = u; w = w }
 
-abbrev pub pointerW : Op → ℕ
-pointerW stop = 0
-pointerW (setNull u) = 0
-pointerW (copy u w) = w
-pointerW (load u w) = w
-pointerW (clear u) = 0
-pointerW (store u w) = w
-pointerW (new u) = 0
-pointerW (free u) = 0
-pointerW (isNull u) = 0
-pointerW (same u w) = w
-pointerW choose = 0
-pointerW skip = 0
+abbrev pub opFields : Op → OpFields
+opFields stop = fieldsOf 0 0 0
+opFields (setNull u) = fieldsOf 1 u 0
+opFields (copy u w) = fieldsOf 2 u w
+opFields (load u w) = fieldsOf 3 u w
+opFields (clear u) = fieldsOf 4 u 0
+opFields (store u w) = fieldsOf 5 u w
+opFields (new u) = fieldsOf 6 u 0
+opFields (free u) = fieldsOf 7 u 0
+opFields (isNull u) = fieldsOf 8 u 0
+opFields (same u w) = fieldsOf 9 u w
+opFields choose = fieldsOf 10 0 0
+opFields skip = fieldsOf 11 0 0
 
 -- how a statement is written: "A field that the op doesn't use is zero."
 abbrev pub field : Bool → ℕ → ℕ
@@ -244,10 +224,11 @@ field used b = cond used b 0
 
 abbrev pub stmtRecord : Stmt → List ℕ
 stmtRecord st =
-    let n = opNumber (st .op) in
-    0x53 ∷ n ∷ pointerU (st .op) ∷ pointerW (st .op) ∷ field (usesFirst n) (st .firstTarget) ∷ field (usesSecond n) (st .secondTarget) ∷ replicate 26 0
+    let o = opFields (st .op) in
+    let n = o .number in
+    0x53 ∷ n ∷ o .u ∷ o .w ∷ field (usesFirst n) (st .firstTarget) ∷ field (usesSecond n) (st .secondTarget) ∷ replicate 26 0
 
 -- the targets that the op does not use are zero
 pub record UnusedZero (st : Stmt) : Type 0 where
-  pub first : usesFirst (opNumber (st .op)) ≡ false → st .firstTarget ≡ 0
-  pub second : usesSecond (opNumber (st .op)) ≡ false → st .secondTarget ≡ 0
+  pub first : usesFirst (opFields (st .op) .number) ≡ false → st .firstTarget ≡ 0
+  pub second : usesSecond (opFields (st .op) .number) ≡ false → st .secondTarget ≡ 0

@@ -8,10 +8,10 @@ use mathlib.Core.Bool.{Bool, cond, false, true}
 use mathlib.Core.List.{List, [], _++_, _∷_, map}
 use lib.Dec.{eqb, leb}
 use lib.ListN.{getD, length}
-use Rattle.model.specs.Base.{mem, sum, numbers}
-use Rattle.model.specs.Edges.{Edge, Guard, Loc, Update, always, at, failed, isMore, isOne}
+use Rattle.model.specs.Base.{mem, sum, numbers, all}
+use Rattle.model.specs.Edges.{Edge, Guard, Loc, Test, Update, View, at, failed, isMore, isOne, noNode, oneNode}
 use Rattle.model.specs.Heap.{Heap, IsHeap, Slot, Val, cell, closed, holds, next, null, order, undef, unused}
-use Rattle.model.specs.Machine.{Effect, Fault, Kind, allocates, done, fault, other, picks, putSlot, stops}
+use Rattle.model.specs.Machine.{Action, Effect, Fault, done, fault, follow, link, make, point, putSlot, release, stay}
 use Rattle.model.specs.Records.{Row, Verdict, isAccepted, isRefused, refusal}
 use Rattle.model.specs.Shape.{Seg, cells, core, segments, size}
 
@@ -205,18 +205,27 @@ pub record Expansion (W : Heap) (sg : ℕ → Seg) (H : Heap) : Type 0 where
 -- ---- an effect on a heap and on its expansion
 
 -- the cell for new is not in use
-abbrev pub Room : Kind → Heap → ℕ → Type 0
-Room stops h c = Unit {0}
-Room picks h c = Unit {0}
-Room allocates h c = next h c ≡ unused
-Room other h c = Unit {0}
+abbrev pub Room : Action → Heap → ℕ → Type 0
+Room stay h c = Unit {0}
+Room (point u s) h c = Unit {0}
+Room (follow u w) h c = Unit {0}
+Room (link u s) h c = Unit {0}
+Room (make u) h c = next h c ≡ unused
+Room (release u) h c = Unit {0}
 
 -- the chains after the effect: at new, cell k of the small heap is cell c of the large one
-abbrev pub sg-after : Kind → ℕ → ℕ → (ℕ → Seg) → ℕ → Seg
-sg-after stops k c sg = sg
-sg-after picks k c sg = sg
-sg-after allocates k c sg = upd sg k (seg c [])
-sg-after other k c sg = sg
+abbrev pub sg-after : Action → ℕ → ℕ → (ℕ → Seg) → ℕ → Seg
+sg-after stay k c sg = sg
+sg-after (point u s) k c sg = sg
+sg-after (follow u w) k c sg = sg
+sg-after (link u s) k c sg = sg
+sg-after (make u) k c sg = upd sg k (seg c [])
+sg-after (release u) k c sg = sg
+
+-- each node that a statement goes through is one cell of the expansion
+abbrev pub Alone : View → (ℕ → Seg) → Type 0
+Alone noNode sg = Unit {0}
+Alone (oneNode n) sg = sg n .rest ≡ []
 
 -- both fault alike, or both finish and the one heap is the expansion of the other
 pub data Alike (sg : ℕ → Seg) : Effect → Effect → Type 0 where
@@ -230,15 +239,20 @@ abbrev pub nodesOf : Loc → ℕ
 nodesOf (at s h) = length (h .slots)
 nodesOf (failed s f) = 0
 
--- a guard on given counters
-abbrev pub guardOn : Guard → List ℕ → Bool
-guardOn always cs = true
-guardOn (isOne n) cs = eqb (getD cs n 0) 1
-guardOn (isMore n) cs = leb 2 (getD cs n 0)
+-- a guard on given counters; all guards of a list
+abbrev pub testOn : Test → ℕ → Bool
+testOn isOne c = eqb c 1
+testOn isMore c = leb 2 c
+
+abbrev pub guardOn : List ℕ → Guard → Bool
+guardOn cs g = testOn (g .test) (getD cs (g .node) 0)
+
+abbrev pub guardsOn : List Guard → List ℕ → Bool
+guardsOn gs cs = all (guardOn cs) gs
 
 -- two edges of one branch are never enabled together
 abbrev pub Exclude : Edge → Edge → Type 0
-Exclude a b = a .branchNo ≡ b .branchNo → (cs : List ℕ) → guardOn (a .guard) cs ≡ true → guardOn (b .guard) cs ≡ true → ⊥
+Exclude a b = a .branchNo ≡ b .branchNo → (cs : List ℕ) → guardsOn (a .guards) cs ≡ true → guardsOn (b .guards) cs ≡ true → ⊥
 
 -- no old counter is added by both updates
 abbrev pub AddApart : Update → Update → Type 0
@@ -259,6 +273,7 @@ SmallUpdates k us = (u : Update) → In u us → (u .plus ≤ 2) × (length (u .
 
 pub record SmallEdge (k : ℕ) (E : Edge) : Type 0 where
   pub number : length (E .updates) ≡ nodesOf (E .to)
+  pub guarded : length (E .guards) ≤ 1
   pub small : SmallUpdates k (E .updates)
 
 -- ---- the checks of a call, in their order

@@ -7,10 +7,10 @@ use mathlib.Core.Option.{Option, none, some}
 use mathlib.Core.List.{List, [], _∷_, map}
 use lib.Dec.{eqb, leb, ltb}
 use lib.ListN.{length, getD, getElem?}
-use Rattle.model.specs.Base.{any, numbers}
+use Rattle.model.specs.Base.{any, all, numbers}
 use Rattle.model.specs.Heap.{Heap, IsHeap, next, inUse}
 use Rattle.model.specs.Shape.{shape, counters}
-use Rattle.model.specs.Machine.{Stmt, Fault, faultNumber, Kind, stops, picks, allocates, other, kind, Entry, Answer, refused, stopped, faulted, went, step}
+use Rattle.model.specs.Machine.{Stmt, Fault, faultNumber, isStop, kind, Entry, Answer, refused, stopped, faulted, went, step}
 use Rattle.model.specs.Edges.{stmtAt}
 use Rattle.model.specs.Records.{isAccepted, byte, word, recordAt, shapeOf}
 use Rattle.model.specs.Translate.{good, check, Routine, Tables, translate}
@@ -56,12 +56,6 @@ abbrev pub stepOf : List Stmt → State → Entry → Option (Advance State)
 stepOf sts q e = stepIn (q .status) sts q e
 
 -- "at a stop or past a fault"
-abbrev pub isStop : Kind → Bool
-isStop stops = true
-isStop picks = false
-isStop allocates = false
-isStop other = false
-
 abbrev pub endedIn : Status → Stmt → Bool
 endedIn running st = isStop (kind (st .op))
 endedIn (past f) st = true
@@ -85,9 +79,19 @@ added m (c ∷ cs) = m % 2 * c + added (m / 2) cs
 abbrev pub applied : List ℕ → ℕ → ℕ
 applied cs u = (added (u % 4096) cs + u / 4096 % 4) - 1
 
--- byte 6 of an edge: 0 none, 1 for = 1, 2 for ≥ 2
+-- the guards that an edge's record holds, in numbers: byte 6 is 0 for none, 1 for = 1, 2 for ≥ 2, and byte 7 its node
+pub record GuardRead : Type 0 where
+  pub test : ℕ
+  pub node : ℕ
+
+abbrev pub guardsOf : List ℕ → List GuardRead
+guardsOf r = record { test = byte r 6; node = byte r 7 } ∷ []
+
 abbrev pub guardHolds : ℕ → ℕ → Bool
 guardHolds g c = cond (eqb g 0) true (cond (eqb g 1) (eqb c 1) (eqb g 2 && leb 2 c))
+
+abbrev pub guardsHold : List ℕ → List GuardRead → Bool
+guardsHold cs = all (λ (g : GuardRead). guardHolds (g .test) (getD cs (g .node) 0))
 
 -- the node count of a location, and the updates of an edge for so many new nodes
 abbrev pub nodesAt : Tables → ℕ → ℕ
@@ -100,7 +104,8 @@ updatesOf k r = map (λ i. word r (8 + 2 * i)) (numbers 0 k)
 abbrev pub enabled : Tables → Config → ℕ → Bool
 enabled t c n =
     let r = recordAt (t .edgeBytes) n in
-    ltb n (t .edgeCount) && eqb (word r 2) (c .loc) && guardHolds (byte r 6) (getD (c .values) (byte r 7) 0)
+    ltb n (t .edgeCount) && eqb (word r 2) (c .loc)
+    && guardsHold (c .values) (guardsOf r)
 
 abbrev pub taken : Tables → Config → List ℕ → Advance Config
 taken t c r = record {

@@ -2,29 +2,31 @@
 use Prim.Native.Nat.{ℕ, zero, suc, _<_, _≤_}
 use native.Mathlib.Omega.{arith}
 use mathlib.Core.Path.{_≡_, refl, sym, ap, ap₂, subst, _∙_}
-use mathlib.Core.Bool.{Bool, true, false, _&&_, cond, not}
+use mathlib.Core.Bool.{Bool, true, false, cond, not}
 use mathlib.Core.List.{List, [], _∷_, _++_}
 use mathlib.Core.Logic.{inl}
-use lib.Dec.{eqb, leb}
+use lib.Dec.{eqb}
 use lib.ListN.{drop, length, replicate, take, getD-replicate, length-map}
 use lib.Seq.{take-at, take-length}
-use borrow.Author.Tests.{leb-false, ne-eqb, not-true}
-use Rattle.model.specs.Heap.{Heap, inUse, next}
-use Rattle.model.specs.Machine.{Answer, done, Stmt, accepts, answerOf, branch, kind, carryOut, target, unlessStop, step, entry}
-use Rattle.model.specs.Records.{stmtOf, opOf, Row, firstFailed, refusal, unless}
+use borrow.Author.Tests.{ne-eqb, not-true, eq-eqb}
+use Rattle.model.specs.Heap.{Heap}
+use Rattle.model.specs.Machine.{Answer, done, Stmt, accepts, answerOf, branch, kind, carryOut, target, step, entry, isStop, action, stopped}
+use Rattle.model.specs.Records.{stmtOf, Row, firstFailed, refusal, unless, opCount}
 use Rattle.model.specs.Image.{Stepping, answered, cellSlot, heapOf, pastEnd, stays, stepImage, checksStatement, checksStep, entryFits, noStep, toFault, toNext, toStop}
 use Rattle.model.specs.declared.Decoded.{Decoded}
-use Rattle.model.proofs.expansion.Step.{unless-go}
 use Rattle.model.proofs.images.Images.{image-accepted, number-case}
 use Rattle.model.proofs.lists.Logic.{and-l, and-r}
 use Rattle.model.proofs.records.Checks.{failed-after, failed-before, given-failed, pass-none}
-use Rattle.model.proofs.records.Ops.{op-goes}
+use Rattle.model.proofs.records.Ops.{op-goes, op-stops}
 use Rattle.effect.specs.Effect.{effectOf}
 use Rattle.effect.proofs.Laws.{image-bytes}
-use Rattle.machine.specs.Run.{IsRun, RunReady}
+use Rattle.machine.specs.Run.{IsRun, RunReady, bytes}
 use Rattle.image_checks.specs.Checked.{EntryChecked}
 use Rattle.image_checks.proofs.StepChecks.{checked-fields, checked-image}
-use Rattle.plain_step.specs.Step.{Finished, RunOn, StepReady, decoded, opIn, stmtIn}
+use Rattle.plain_step.specs.Step.{Finished, RunOn, StepReady}
+use Rattle.model.specs.Structs.{decoded, opIn, stmtIn}
+use Rattle.machine.specs.declared.Ran.{Ran}
+use Rattle.model.proofs.ways.Picks.{room-accept}
 
 -- ---- the run
 
@@ -44,7 +46,7 @@ fault-any (suc (suc f)) g h = refl
 module _ {d : Decoded} {x : ℕ} {ps cs : List ℕ} where
   -- the room for the visit, which begins with zeros
   pub run-ready : StepReady d x ps cs
-      → RunReady (d .op) (d .u .0) (d .w .0) x ps cs (replicate 240 0) (replicate 240 0)
+      → RunReady d x (bytes ps cs) (replicate 240 0) (replicate 240 0)
   run-ready s =
       let f = s .ready .few in
       record {
@@ -55,8 +57,8 @@ module _ {d : Decoded} {x : ℕ} {ps cs : List ℕ} where
         clear = λ c l. getD-replicate 240 c 0 0 (omega arith);
       }
 
-  pub ran-on : {qs ds o s : List ℕ} {f n : ℕ} → IsRun (d .op) (d .u .0) (d .w .0) x ps cs qs ds o s f n
-      → RunOn d x ps cs f qs ds
+  pub ran-on : {qs ds o s : List ℕ} {r : Ran} → IsRun d x (bytes ps cs) (bytes qs ds) o s r
+      → RunOn d x ps cs (r .fault) qs ds
   ran-on r = record { outcome = r .outcome; low = r .known }
 
   -- the image vs, ws, kept aside, is put back at a fault
@@ -72,10 +74,6 @@ module _ {d : Decoded} {x : ℕ} {ps cs : List ℕ} where
   }
 
 -- ---- the answer
-
-pub second-target : (st : Stmt) (b : ℕ) → (b ≡ 0 → ⊥) → st .secondTarget ≡ target st b
-second-target st zero n = absurd (n refl)
-second-target st (suc b) n = refl
 
 fault-answer : (st : Stmt) (b f : ℕ) (g : Heap) (ps cs : List ℕ) → (f ≡ 0 → ⊥) → f ≤ 3
     → stays (toFault f) ps cs ≡ answered (answerOf st b (effectOf f g)) ps cs
@@ -99,10 +97,10 @@ ranAnswer st p c ps cs = answerOf st (branch (st .op) p (heapOf ps cs)) (carryOu
 
 -- what a statement answers
 abbrev stmtAnswer : Stmt → ℕ → ℕ → List ℕ → List ℕ → Stepping
-stmtAnswer st p c ps cs = answered (unlessStop (kind (st .op)) (ranAnswer st p c ps cs)) ps cs
+stmtAnswer st p c ps cs = answered (cond (isStop (kind (st .op))) stopped (ranAnswer st p c ps cs)) ps cs
 
 abbrev entryCheck : List ℕ → ℕ → ℕ → List ℕ → List ℕ → Row
-entryCheck r p c ps cs = unless 16 (entryFits (kind (stmtOf r .op)) (entry p c) (heapOf ps cs))
+entryCheck r p c ps cs = unless 16 (entryFits (stmtOf r .op) (entry p c) (heapOf ps cs))
 
 -- a refusal of the checks, and the image with the machine's answer where there is none
 image-refused : (r : List ℕ) (p c : ℕ) (ps cs : List ℕ) (n : ℕ) → firstFailed (checksStep r (entry p c) ps cs) ≡ suc n
@@ -123,25 +121,21 @@ step-unchecked r p c ps cs {n} e z = number-case n (λ q. absurd (z q))
     ∙ image-refused r p c ps cs m
     (failed-before (checksStatement r ps cs) (entryCheck r p c ps cs ∷ []) m (sym e ∙ q)))
 
-new-room : (n c : ℕ) (used : Bool) → not (leb n c) && not used ≡ true → (c < n) × (used ≡ false)
-new-room n c used e =
-    let free = and-r (not (leb n c)) (not used) e in
-    (leb-false n c (not-true (leb n c) (and-l (not (leb n c)) (not used) e)), not-true used free)
-
 -- a step of record r, which d is decoded from, with pick p and cell c on the image ps, cs: these checks are passed
 pub record Checked (r : List ℕ) (p c : ℕ) (ps cs : List ℕ) (d : Decoded) : Type 0 where
   pub passed : firstFailed (checksStatement r ps cs) ≡ 0
   pub decodes : d ≡ decoded r
 
 module _ {r : List ℕ} {p c : ℕ} {ps cs : List ℕ} {d : Decoded} (C : Checked r p c ps cs d) where
-  pub decoded-fields : (d .op ≤ 11) × (d .u .0 < 6) × (d .w .0 < 6)
+  pub decoded-fields : (d .op < opCount) × (d .u .0 < 6) × (d .w .0 < 6)
   decoded-fields =
-      subst (λ x. (x .op ≤ 11) × (x .u .0 < 6) × (x .w .0 < 6)) (sym (C .decodes)) (checked-fields r ps cs (C .passed))
+      subst (λ x. (x .op < opCount) × (x .u .0 < 6) × (x .w .0 < 6)) (sym (C .decodes))
+      (checked-fields r ps cs (C .passed))
 
   -- a is what the test of the entry gives, which reads the op and the cells only
   module _ {a : Bool} (e : EntryChecked (d .op) p c cs a) where
-    fits : a ≡ entryFits (kind (stmtOf r .op)) (entry p c) (heapOf ps cs)
-    fits = e (d .u .0) (d .w .0) ps ∙ ap (λ x. entryFits (kind (opIn x)) (entry p c) (heapOf ps cs)) (C .decodes)
+    fits : a ≡ entryFits (stmtOf r .op) (entry p c) (heapOf ps cs)
+    fits = e (d .u .0) (d .w .0) ps ∙ ap (λ x. entryFits (opIn x) (entry p c) (heapOf ps cs)) (C .decodes)
 
     after : firstFailed (checksStep r (entry p c) ps cs) ≡ firstFailed (entryCheck r p c ps cs ∷ [])
     after = failed-after (checksStatement r ps cs) (entryCheck r p c ps cs ∷ []) refl (C .passed)
@@ -157,11 +151,9 @@ module _ {r : List ℕ} {p c : ℕ} {ps cs : List ℕ} {d : Decoded} (C : Checke
       step-ready =
           let f = decoded-fields in
           let i = image-accepted ps cs .0 (checked-image r ps cs (C .passed)) in
-          let used = inUse (next (heapOf ps cs) c) in
-          let x : d .op ≡ 6 → (c < length (heapOf ps cs .slots)) × (used ≡ false) = λ s.
-          new-room (length (heapOf ps cs .slots)) c used
-          (subst (λ k. entryFits (kind (opOf k (d .u .0) (d .w .0))) (entry p c) (heapOf ps cs) ≡ true) s
-          (sym (e (d .u .0) (d .w .0) ps) ∙ t)) in
+          let h = heapOf ps cs in
+          let x : Bool = pastEnd (action (opIn d)) c (length (h .slots)) in
+          let g : entryFits (opIn d) (entry p c) h ≡ true = sym (e (d .u .0) (d .w .0) ps) ∙ t in
           record {
             ready = record {
               known = f .0;
@@ -170,27 +162,27 @@ module _ {r : List ℕ} {p c : ℕ} {ps cs : List ℕ} {d : Decoded} (C : Checke
               six = i .0;
               few = i .1;
               isClosed = i .2 .isClosed;
-              room = λ s. rw (length-map cs cellSlot) at (x s .0);
+              room = rw (length-map cs cellSlot) at (not-true x (and-l (not x) (accepts (opIn d) (entry p c) h) g));
             };
-            fresh = λ s. x s .1;
+            fresh = room-accept (opIn d) (entry p c) h (and-r (not x) (accepts (opIn d) (entry p c) h) g);
           }
 
       taken : (x : Stepping) → x ≡ stmtAnswer (stmtIn d) p c ps cs → x ≡ stepImage r p c ps cs
       taken x w =
           let st = stmtOf r in
-          let k = kind (st .op) in
           let h = heapOf ps cs in
-          let g : accepts k (entry p c) h ≡ true =
-          and-r (not (pastEnd k c (length (h .slots)))) (accepts k (entry p c) h) (sym fits ∙ t) in
-          let v : step st (entry p c) h ≡ unlessStop k (ranAnswer st p c ps cs) = rw g in
+          let x : Bool = pastEnd (action (st .op)) c (length (h .slots)) in
+          let g : accepts (st .op) (entry p c) h ≡ true =
+          and-r (not x) (accepts (st .op) (entry p c) h) (sym fits ∙ t) in
+          let v : step st (entry p c) h ≡ cond (isStop (kind (st .op))) stopped (ranAnswer st p c ps cs) = rw g in
           w ∙ ap (λ z. stmtAnswer (stmtIn z) p c ps cs) (C .decodes) ∙ ap (λ z. answered z ps cs) (sym v)
           ∙ image-answered r p c ps cs (after ∙ pass-none (entryCheck r p c ps cs ∷ []) (sym fits ∙ t, tt))
 
       pub step-stopped : d .op ≡ 0 → stays toStop ps cs ≡ stepImage r p c ps cs
       step-stopped z =
-          let other = ranAnswer (stmtIn d) p c ps cs in
           taken (stays toStop ps cs)
-          (ap (λ o. answered (unlessStop (kind (opOf o (d .u .0) (d .w .0))) other) ps cs) (sym z))
+          (ap (λ b. answered (cond b stopped (ranAnswer (stmtIn d) p c ps cs)) ps cs)
+          (sym (op-stops (d .op) (d .u .0) (d .w .0) (decoded-fields .0) ∙ eq-eqb (d .op) 0 z)))
 
       -- the run of another statement answers f, and leaves the image qs, ds
       module _ (n : d .op ≡ 0 → ⊥) {f : ℕ} {qs ds : List ℕ} (R : Finished d c ps cs f qs ds) where
@@ -202,7 +194,7 @@ module _ {r : List ℕ} {p c : ℕ} {ps cs : List ℕ} {d : Decoded} (C : Checke
             let goes = op-goes (d .op) (d .u .0) (d .w .0) (decoded-fields .0) n in
             taken x
             (w ∙ ap (λ g. answered (answerOf st (branch (opIn d) p (heapOf ps cs)) g) ps cs) (R .ran .outcome)
-            ∙ ap (λ z. answered z ps cs) (sym (unless-go (kind (opIn d)) (ranAnswer st p c ps cs) goes)))
+            ∙ ap (λ b. answered (cond b stopped (ranAnswer st p c ps cs)) ps cs) (sym goes))
 
         pub step-faulted : (f ≡ 0 → ⊥) → stays (toFault f) qs ds ≡ stepImage r p c ps cs
         step-faulted z =

@@ -1,8 +1,6 @@
 // The plain step on an image that passed the checks. The image is kept aside, and put back where the run has a fault.
 use image_checks::entry_ok;
 use model::Decoded;
-use model::Pointer;
-use model::Statement;
 use model::Stepped;
 ghost use mathlib.Core.Bool.{cond};
 ghost use mathlib.Core.Path.{_≡_};
@@ -10,9 +8,8 @@ ghost use lib.Dec.{eqb};
 ghost use lib.ListN.{length};
 ghost use Rattle.model.specs.Answers.{steppingOf};
 ghost use Rattle.model.specs.Image.{checksStatement, stepImage};
-ghost use Rattle.model.specs.Machine.{target};
 ghost use Rattle.model.specs.Records.{firstFailed};
-ghost use Rattle.plain_step.specs.Step.{decoded, stmtIn, StepReady, RunOn, Finished};
+ghost use Rattle.plain_step.specs.Step.{StepReady, RunOn, Finished};
 
 // Runs a statement on the image, and answers the fault (0 for none).
 fn run_on(d: Decoded, x: usize, pointers: &mut [u8], cells: &mut [u8]) -> u8
@@ -22,7 +19,7 @@ fn run_on(d: Decoded, x: usize, pointers: &mut [u8], cells: &mut [u8]) -> u8
 {
     let mut order = [0u8; 240];
     let mut seen = [0u8; 240];
-    let ran = machine::run(d.op, d.u, d.w, x, pointers, cells, &mut order, &mut seen);
+    let ran = machine::run(d, x, pointers, cells, &mut order, &mut seen);
     ran.fault
 }
 
@@ -71,30 +68,6 @@ fn run_statement(d: Decoded, x: usize, pointers: &mut [u8], cells: &mut [u8]) ->
     run_saved(d, x, pointers, cells, &ps, &cs[..n])
 }
 
-// The fields of a record of 32 bytes.
-fn decode(rec: &[u8]) -> Decoded
-    requires { ⌜ length (now rec) ≡ 32 ⌝ }
-    ensures { λ r. ⌜ r ≡ decoded (now (rec .entry)) ⌝ }
-{
-    Decoded {
-        op: rec[1],
-        u: Pointer(rec[2]),
-        w: Pointer(rec[3]),
-        first: Statement(rec[4]),
-        second: Statement(rec[5]),
-    }
-}
-
-// The next statement: the first target for branch 0, else the second.
-fn next_of(d: Decoded, branch: u8) -> Statement
-    ensures { λ r. ⌜ r .0 ≡ target (stmtIn d) branch ⌝ }
-{
-    if branch == 0 {
-        return d.first;
-    }
-    d.second
-}
-
 // Takes a step whose image and record passed the checks.
 pub fn take_step(
     pointers: &mut [u8],
@@ -107,7 +80,7 @@ pub fn take_step(
     ensures { λ r. ⌜ steppingOf r (now (pointers .exit)) (now (cells .exit))
         ≡ stepImage (now (rec .entry)) pick cell (now (pointers .entry)) (now (cells .entry)) ⌝ }
 {
-    let d = decode(rec);
+    let d = statement::decode(rec);
     if !entry_ok(d.op, pick, cell, &cells[..]) {
         return Stepped::Refused {
             number: 16,
@@ -117,13 +90,13 @@ pub fn take_step(
     if d.op == 0 {
         return Stepped::Stopped;
     }
-    let branch = effect::branch_of(d.op, d.u, d.w, pick, &pointers[..]);
+    let branch = effect::branch_of(d, pick, &pointers[..]);
     let failed = run_statement(d, cell, pointers, cells);
     if failed != 0 {
         return Stepped::Faulted { fault: failed };
     }
     Stepped::Went {
         branch: branch,
-        next: next_of(d, branch),
+        next: statement::next_of(d, branch),
     }
 }

@@ -12,7 +12,9 @@ use Rattle.model.specs.Edges.{Edge}
 use Rattle.model.specs.Records.{edgeRecord, filled, guardBytes, shapeBytes, slotByte, twoBytes, updateCode, valByte}
 use Rattle.model.specs.Shape.{segments, shape}
 use Rattle.model.proofs.lists.Slices.{joined-next, put-back, put-next}
+use Rattle.model.specs.declared.EdgeFields.{EdgeFields}
 use Rattle.record.specs.Written.{edgeBytes, updateBytes}
+use Rattle.model.specs.Structs.{guardsBytes}
 use Rattle.record.proofs.ListLaws.{drop-zeros}
 
 -- ---- shapes
@@ -66,22 +68,29 @@ updates-turn p us j h k =
     ∙ append-assoc (take n x) (twoBytes u) (drop (n + 2) x) ∙ put-next p x pre (twoBytes u) n 2 lw (omega arith) refl
     ∙ ap (λ m. (pre ++ twoBytes u) ++ drop m p) next ∙ rw more (simp append-assoc)
 
+-- the first eight bytes of an edge's record
+abbrev pub edgeHead : EdgeFields → List ℕ
+edgeHead e = 0x45 ∷ e .branch ∷ (twoBytes (e .from) ++ (twoBytes (e .to) ++ guardsBytes (e .guards)))
+
 -- the record of an edge, its first eight bytes and then its updates in a record of zeros
-pub edge-is : (a b c d e f g h : ℕ) (us z : List ℕ) (k : ℕ) → k ≤ 12 → k ≤ length us
-    → withUpdates (a ∷ b ∷ c ∷ d ∷ e ∷ f ∷ g ∷ h ∷ (replicate 24 0 ++ z)) us k
-    ≡ (a ∷ b ∷ c ∷ d ∷ e ∷ f ∷ g ∷ h ∷ filled 24 (updateBytes us k)) ++ z
-edge-is a b c d e f g h us z k p q =
+pub edge-is : (e : EdgeFields) (us z : List ℕ) → e .nodes ≤ 12 → e .nodes ≤ length us
+    → withUpdates (edgeHead e ++ (replicate 24 0 ++ z)) us (e .nodes) ≡ edgeBytes e us ++ z
+edge-is e us z p q =
+    let k = e .nodes in
     let n : 8 + 2 * k ≡ suc (suc (suc (suc (suc (suc (suc (suc (2 * k)))))))) = omega arith in
     let m : 24 - length (updateBytes us k) ≡ 24 - 2 * k = ap (λ x. 24 - x) (updates-length us k q) in
-    let x : List ℕ = a ∷ b ∷ c ∷ d ∷ e ∷ f ∷ g ∷ h ∷ [] in
+    let x = edgeHead e in
     let w = updateBytes us k in
-    ap (λ i. x ++ (w ++ drop i (x ++ (replicate 24 0 ++ z)))) n ∙ ap (λ l. x ++ (w ++ l)) (drop-zeros (2 * k) 24 z (omega arith))
-    ∙ ap (λ l. x ++ l) (sym (append-assoc w (replicate (24 - 2 * k) 0) z)) ∙ ap (λ i. (x ++ (w ++ replicate i 0)) ++ z) (sym m)
+    ap (λ i. x ++ (w ++ drop i (x ++ (replicate 24 0 ++ z)))) n
+    ∙ ap (λ l. x ++ (w ++ l)) (drop-zeros (2 * k) 24 z (omega arith))
+    ∙ ap (λ l. x ++ l) (sym (append-assoc w (replicate (24 - 2 * k) 0) z))
+    ∙ ap (λ i. (x ++ (w ++ replicate i 0)) ++ z) (sym m)
 
 -- what is written for an edge of the model
-pub edge-record : (from to g n k : ℕ) (us : List ℕ) (e : Edge) → guardBytes (e .guard) ≡ g ∷ n ∷ [] → take k us ≡ map updateCode (e .updates)
-    → edgeBytes (e .branchNo) «from» to g n us k ≡ edgeRecord «from» to e
-edge-record from to g n k us e p q =
-    let u : updateBytes us k ≡ joined (map (λ x. twoBytes (updateCode x)) (e .updates)) =
+pub edge-record : (f : EdgeFields) (us : List ℕ) (e : Edge) → f .branch ≡ e .branchNo
+    → guardBytes (e .guards) ≡ guardsBytes (f .guards) → take (f .nodes) us ≡ map updateCode (e .updates)
+    → edgeBytes f us ≡ edgeRecord (f .from) (f .to) e
+edge-record f us e b p q =
+    let u : updateBytes us (f .nodes) ≡ joined (map (λ x. twoBytes (updateCode x)) (e .updates)) =
     ap (λ l. joined (map twoBytes l)) q ∙ ap joined (map-map twoBytes updateCode (e .updates)) in
-    λ i. 0x45 ∷ e .branchNo ∷ (twoBytes «from» ++ twoBytes to ++ sym p i ++ filled 24 (u i))
+    λ i. 0x45 ∷ b i ∷ (twoBytes (f .from) ++ twoBytes (f .to) ++ sym p i ++ filled 24 (u i))

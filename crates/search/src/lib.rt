@@ -53,9 +53,8 @@ fn same_at(table: &[u8], at: usize, rec: &[u8]) -> bool
     requires { ⌜ (at + 32 ≤ length (now table)) × (length (now rec) ≡ 32) ⌝ }
     ensures { λ r. ⌜ r ≡ sameList eqb (take 32 (drop at (now (table .entry)))) (now (rec .entry)) ⌝ }
 {
-    same_eight(table, at, rec, 0)
-        && (same_eight(table, at + 8, rec, 8)
-            && (same_eight(table, at + 16, rec, 16) && same_eight(table, at + 24, rec, 24)))
+    (same_eight(table, at, rec, 0) & same_eight(table, at + 8, rec, 8))
+        & (same_eight(table, at + 16, rec, 16) & same_eight(table, at + 24, rec, 24))
 }
 
 // The same, with the keys compared first.

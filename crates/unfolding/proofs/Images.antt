@@ -21,7 +21,7 @@ use Rattle.model.specs.Notions.{In}
 use Rattle.model.proofs.records.ShapeBack.{layout-few, layout-slots, layout-writable}
 use Rattle.model.proofs.lists.Slices.{sum-take}
 use Rattle.unfolding.specs.Bytes.{FirstCells, imageBytes, placedByte, strandBytes, strandsBytes}
-use Rattle.unfolding.specs.Spread.{SpreadReady}
+use Rattle.unfolding.specs.Ready.{UnfoldReady}
 
 -- the nodes below k have the same first cells without the counters from k on
 first-take : (vs : List ℕ) (k n : ℕ) → n < k → firstCell (take k vs) n ≡ firstCell vs n
@@ -70,7 +70,7 @@ module _ (vs fs : List ℕ) (k : ℕ) (first : FirstCells vs fs) (same : length 
       ∙ sym (map-append slotByte (strand b c last) rest)
 
 -- a ready shape: its counters fit the cells
-module _ (r vs ps cs : List ℕ) (ready : SpreadReady r vs ps cs) where
+module _ (r vs ps cs : List ℕ) (ready : UnfoldReady r vs ps cs) where
   pub ready-few : byte r 3 ≤ 12
   ready-few = layout-few r (ready .wide) (ready .isLayout)
 

@@ -2,19 +2,20 @@
 use Prim.Native.Nat.{ℕ, zero, suc, _+_, _-_, _≤_, _<_}
 use mathlib.Core.Path.{_≡_, sym, ap, ap₂, _∙_}
 use mathlib.Core.Bool.{true}
-use mathlib.Core.List.{List, [], _∷_, _++_, append-assoc}
+use mathlib.Core.List.{List, [], _∷_, _++_, append-assoc, append-nil}
 use native.Mathlib.Nat.{add-assoc, suc-add}
 use native.Mathlib.Omega.{arith}
 use lib.Dec.{leb}
-use lib.ListN.{length, drop, getD, replicate, take, drop-of-length-le}
+use lib.ListN.{length, drop, getD, replicate, take, drop-of-length-le, length-drop}
 use lib.Seq.{length-take-le}
 use borrow.Author.Tests.{leb-true}
+use borrow.Rule.Slice.PartMut.{midOf, putMid}
 use Rattle.model.specs.Base.{all, sum}
 use Rattle.model.specs.Image.{firstCell}
 use Rattle.model.proofs.lists.Lists.{all-at}
-use Rattle.model.proofs.lists.Slices.{drop-step}
+use Rattle.model.proofs.lists.Slices.{drop-step, part-from}
 use Rattle.unfolding.specs.Bytes.{imageBytes, placedByte, strandBytes, strandsBytes}
-use Rattle.unfolding.proofs.ListLaws.{sum-step}
+use Rattle.model.proofs.lists.Loops.{sum-step}
 
 pub first-next : (vs : List ℕ) (n : ℕ) → n < length vs → firstCell vs (n + 1) ≡ firstCell vs n + getD vs n 0
 first-next [] n h = absurd (omega arith)
@@ -65,8 +66,13 @@ strands-push fs ss cs l k b n h e w =
     let x = strandBytes b (getD cs n 0) (placedByte fs (getD ss n 0)) in
     ap (λ t. t ++ rest) w ∙ append-assoc (take b l) x rest ∙ ap (λ t. take b l ++ t) (sym (strands-step fs ss cs b n h e))
 
--- cells c, of which the first t hold l, with the others marked
-pub image-done : (c l : List ℕ) (t n : ℕ) → length c ≡ n → t ≤ n → take t c ≡ l → take t c ++ replicate (length c - t) 0xfd ≡ imageBytes n l
-image-done c l t n e h w =
-    let s : length c - t ≡ n - length l = omega (arith, length-take-le t c (omega arith), ap length w) in
-    ap₂ (λ x m. x ++ replicate m 0xfd) w s
+-- cells c, of which the first t hold l, with the part behind them filled
+pub image-done : (c l ys : List ℕ) (t n : ℕ) → length c ≡ n → t ≤ n → take t c ≡ l
+    → ys ≡ replicate (length (midOf t (length c - t) c)) 0xfd
+    → putMid t (length c - t) c ys ≡ imageBytes n l
+image-done c l ys t n e h w f =
+    let k : length (drop t c) ≤ length c - t = omega (arith, length-drop t c) in
+    let p : drop (length c - t) (drop t c) ≡ [] = drop-of-length-le (drop t c) k in
+    let s : length (midOf t (length c - t) c) ≡ n - length l =
+    omega (arith, ap length (part-from c t), length-drop t c, length-take-le t c (omega arith), ap length w) in
+    ap₂ _++_ w (ap (λ z. ys ++ z) p ∙ append-nil ys ∙ f ∙ ap (λ m. replicate m 0xfd) s)

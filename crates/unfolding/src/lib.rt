@@ -3,80 +3,14 @@ use model::Node;
 ghost use mathlib.Core.Path.{_≡_};
 ghost use mathlib.Core.Bool.{true};
 ghost use mathlib.Core.List.{_++_, map};
-ghost use Prim.Native.Nat.{_+_, _-_, _<_, _≤_};
+ghost use Prim.Native.Nat.{_+_, _<_, _≤_};
 ghost use lib.Dec.{leb};
-ghost use lib.ListN.{length, getD, take, replicate};
+ghost use lib.ListN.{length, getD, take};
 ghost use Rattle.model.specs.Base.{all, sum};
-ghost use Rattle.model.specs.Image.{countersFit, countsFit, unfoldHeap, cellBytesOf};
-ghost use Rattle.model.specs.Records.{byte, isZero, shapeOf, valByte};
+ghost use Rattle.model.specs.Image.{unfoldHeap, cellBytesOf};
+ghost use Rattle.model.specs.Records.{byte, shapeOf, valByte};
 ghost use Rattle.unfolding.specs.Bytes.{FirstCells, imageBytes, placedByte, strandBytes, strandsBytes};
-ghost use Rattle.unfolding.specs.Spread.{SpreadReady};
-
-// Whether each counter is at least 1.
-fn all_positive(counters: &[u32]) -> bool
-    ensures { λ r. ⌜ r ≡ all (leb 1) (now (counters .entry)) ⌝ }
-{
-    let mut i = 0;
-    while i < counters.len() {
-        if counters[i] == 0 {
-            return false;
-        }
-        i += 1;
-    }
-    true
-}
-
-// Whether each counter is 0.
-fn all_zero(counters: &[u32]) -> bool
-    ensures { λ r. ⌜ r ≡ all isZero (now (counters .entry)) ⌝ }
-{
-    let mut i = 0;
-    while i < counters.len() {
-        if counters[i] != 0 {
-            return false;
-        }
-        i += 1;
-    }
-    true
-}
-
-// The number of cells that twelve counters ask for: it fits, since each has 32 bits.
-fn total(counters: &[u32]) -> u64
-    requires { ⌜ length (now counters) ≡ 12 ⌝ }
-    ensures { λ r. ⌜ r ≡ sum (λ v. v) (now (counters .entry)) ⌝ }
-{
-    let mut t: u64 = 0;
-    let mut i = 0;
-    while i < counters.len() {
-        t += counters[i] as u64;
-        i += 1;
-    }
-    t
-}
-
-// Whether twelve counters fit k nodes and n cells.
-fn counts_fit(k: usize, counters: &[u32], n: usize) -> bool
-    requires { ⌜ (length (now counters) ≡ 12) × (k ≤ 12) ⌝ }
-    ensures { λ r. ⌜ r ≡ countsFit k (now (counters .entry)) n ⌝ }
-{
-    if all_positive(&counters[..k]) {
-        if all_zero(&counters[k..]) {
-            return total(counters) <= n as u64;
-        }
-    }
-    false
-}
-
-// Whether the counters are twelve, and fit k nodes and n cells.
-pub fn counters_fit(k: usize, counters: &[u32], n: usize) -> bool
-    requires { ⌜ k ≤ 12 ⌝ }
-    ensures { λ r. ⌜ r ≡ countersFit k (now (counters .entry)) n ⌝ }
-{
-    if counters.len() != 12 {
-        return false;
-    }
-    counts_fit(k, counters, n)
-}
+ghost use Rattle.unfolding.specs.Ready.{UnfoldReady};
 
 // Enters the first cell of each node into the table.
 fn first_cells(counters: &[u32], firsts: &mut [u8])
@@ -157,18 +91,6 @@ fn write_strands(firsts: &[u8], successors: &[u8], counters: &[u32], cells: &mut
     at
 }
 
-// Marks the cells from at on as not in use.
-fn clear_rest(cells: &mut [u8], at: usize)
-    requires { ⌜ at ≤ length (now cells) ⌝ }
-    ensures { λ _. ⌜ now (cells .exit) ≡ take at (now (cells .entry)) ++ replicate (length (now (cells .entry)) - at) 0xfd ⌝ }
-{
-    let mut i = at;
-    while i < cells.len() {
-        cells[i] = 0xfd;
-        i += 1;
-    }
-}
-
 // Writes every cell: the strands from cell 0 on, the rest not in use.
 fn write_cells(firsts: &[u8], successors: &[u8], counters: &[u32], cells: &mut [u8])
     requires { ⌜ (length (now successors) ≡ length (now counters)) × (all (leb 1) (now counters) ≡ true) ⌝ }
@@ -176,12 +98,12 @@ fn write_cells(firsts: &[u8], successors: &[u8], counters: &[u32], cells: &mut [
     ensures { λ _. ⌜ now (cells .exit) ≡ imageBytes (length (now (cells .entry))) (strandsBytes (now (firsts .entry)) 0 (now (successors .entry)) (now (counters .entry))) ⌝ }
 {
     let count = write_strands(firsts, successors, counters, cells);
-    clear_rest(cells, count);
+    fill::fill(&mut cells[count..], 0xfd);
 }
 
 // Writes the image of the shape in rec, unfolded by the counters.
-pub fn spread(rec: &[u8], counters: &[u32], pointers: &mut [u8], cells: &mut [u8])
-    requires { ⌜ SpreadReady (now rec) (now counters) (now pointers) (now cells) ⌝ }
+pub fn unfold_shape(rec: &[u8], counters: &[u32], pointers: &mut [u8], cells: &mut [u8])
+    requires { ⌜ UnfoldReady (now rec) (now counters) (now pointers) (now cells) ⌝ }
     ensures pointers { λ _. ⌜ now (pointers .exit) ≡ map valByte (unfoldHeap (shapeOf (now (rec .entry))) (take (byte (now (rec .entry)) 3) (now (counters .entry))) .ptrs) ⌝ }
     ensures cells { λ _. ⌜ now (cells .exit) ≡ cellBytesOf (length (now (cells .entry))) (unfoldHeap (shapeOf (now (rec .entry))) (take (byte (now (rec .entry)) 3) (now (counters .entry)))) ⌝ }
 {

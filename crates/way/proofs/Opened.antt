@@ -11,11 +11,12 @@ use borrow.Author.Tests.{eqb-true, ltb-true, ne-eqb}
 use Rattle.model.specs.Base.{all}
 use Rattle.model.specs.Heap.{Heap, Slot, unused, holds, cell, undef}
 use Rattle.model.specs.Image.{cellSlot, heapOf}
-use Rattle.model.specs.Machine.{done, setPtr, new, effect, carryOut, keep, put}
+use Rattle.model.specs.Machine.{done, setPtr, new, effect, carryOut, keep, put, Op, action, Action, perform, point, follow, link, make, release, stay}
 use Rattle.model.specs.Records.{byte, shapeOf, valOf, valueByte}
 use Rattle.model.proofs.lists.Lists.{getD-map, map-set}
-use Rattle.model.proofs.lists.Logic.{and-l, and-r, bool-case, or-cases}
-use Rattle.way.specs.Way.{OpenReady, openedBytes, openedCount, openedHeap, withUnused}
+use Rattle.model.proofs.lists.Logic.{and-l, and-r, bool-case, or-cases, clash}
+use Rattle.way.proofs.Through.{makes}
+use Rattle.way.specs.Way.{OpenReady, openedBytes, openedCount, openedHeap, withUnused, makesAt}
 use Rattle.way.proofs.ListLaws.{take-push}
 
 put-end : (l : List Slot) (s : Slot) → put l (length l) s ≡ l ++ s ∷ []
@@ -88,20 +89,20 @@ module _ (ss : List ℕ) (few : length ss ≤ 12) (values : all (valueByte (leng
     ptrs = map valOf ps;
     slots = (split-slots n (h refl) ∙ ap (λ m. put (put (map (λ b. holds (valOf b)) ss) m (getD (map (λ b. holds (valOf b)) ss) n unused)) n (holds (cell m))) (sym same-length)) i;
   }
-  opened-heap ps false op n h = bool-case (eqb op 6)
+  opened-heap ps false op n h = bool-case (makesAt op)
       (λ e. rw e (λ i. record { ptrs = map valOf ps; slots = (map-append cellSlot ss (0xfd ∷ []) ∙ ap (λ l. l ++ unused ∷ []) same-slots) i }))
       (λ e. rw e (λ i. record { ptrs = map valOf ps; slots = same-slots i }))
 
 pub count-most : (sp : Bool) (op k : ℕ) → openedCount sp op k ≤ k + 1
 count-most true op k = omega arith
-count-most false op k = bool-case (eqb op 6) (λ e. rw e (omega arith)) (λ e. rw e (omega arith))
+count-most false op k = bool-case (makesAt op) (λ e. rw e (omega arith)) (λ e. rw e (omega arith))
 
 all-after : (q : ℕ → Bool) (l m : List ℕ) → all q (l ++ m) ≡ true → all q m ≡ true
 all-after q [] m h = h
 all-after q (x ∷ l) m h = all-after q l m (and-r (q x) (all q (l ++ m)) h)
 
 -- a ready record: what stands after the copies, and the opened heap
-module _ (r p c : List ℕ) (op n : ℕ) (sp : Bool) (R : OpenReady r p c op n sp) where
+module _ (r p c : List ℕ) (op n : ℕ) (sp : Bool) (R : OpenReady r p c n sp) where
   pub ready-pointers : take 6 (drop 4 r) ++ drop (length (take 6 (drop 4 r))) p ≡ take 6 (drop 4 r)
   ready-pointers =
       let len : length (take 6 (drop 4 r)) ≡ 6 = length-take-le 6 (drop 4 r) (omega (arith, R .wide, length-drop 4 r)) in
@@ -130,10 +131,16 @@ module _ (r p c : List ℕ) (op n : ℕ) (sp : Bool) (R : OpenReady r p c op n s
 
 -- ---- new on the opened heap
 
-pub effect-opened : (u : ℕ) (h : Heap) → effect (new u) (length (h .slots)) (withUnused h) ≡ effect (new u) (length (h .slots)) h
-effect-opened u h =
-    let e = put-after (h .slots) (holds undef) ∙ sym (put-end (h .slots) (holds undef)) in
-    λ i. done (setPtr u (cell (length (h .slots))) (record { ptrs = h .ptrs; slots = e i }))
-
-pub run-opened : (u : ℕ) (h : Heap) → carryOut (new u) (length (h .slots)) (withUnused h) ≡ carryOut (new u) (length (h .slots)) h
-run-opened u h = ap keep (effect-opened u h)
+pub run-makes : (op : Op) (h : Heap) → makes (action op) ≡ true
+    → carryOut op (length (h .slots)) (withUnused h) ≡ carryOut op (length (h .slots)) h
+run-makes op h e = ap keep (by-action (action op) e)
+  where
+    by-action : (a : Action) → makes a ≡ true → perform a (length (h .slots)) (withUnused h) ≡ perform a (length (h .slots)) h
+    by-action stay q = clash q refl
+    by-action (point u s) q = clash q refl
+    by-action (follow u w) q = clash q refl
+    by-action (link u s) q = clash q refl
+    by-action (make u) q =
+        let e = put-after (h .slots) (holds undef) ∙ sym (put-end (h .slots) (holds undef)) in
+        λ i. done (setPtr u (cell (length (h .slots))) (record { ptrs = h .ptrs; slots = e i }))
+    by-action (release u) q = clash q refl

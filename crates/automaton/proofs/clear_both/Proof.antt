@@ -7,4 +7,11 @@ returns : tie.Need-returns
 returns c = (c .before .before .before .before .before .before .clear .ensures, c .before .before .clear2 .ensures)
 
 pub clear-both-spec : {M : Type 1} → statement M
-clear-both-spec = tie.close (tie.spec (λ c κs. search needs) (λ c κs. search needs) (λ c. search needs) (λ c. search needs) returns)
+clear-both-spec =
+    tie.close
+    (tie.spec
+    (λ c κs. search needs)
+    (λ c κs. search needs)
+    (λ c. search needs)
+    (λ c. search needs)
+    returns)

@@ -14,7 +14,8 @@ use Rattle.automaton.proofs.enter_starts.Tie as tie
 
 abbrev Inv-loop : tie.InvT-loop
 Inv-loop input n m locations₀ j₀ locations j =
-    (j ≤ m) × (length locations ≡ length locations₀) × (locations ≡ tableOf (length locations₀) (take j (map locRecord (startLocs n input))))
+    (j ≤ m) × (length locations ≡ length locations₀)
+    × (locations ≡ tableOf (length locations₀) (take j (map locRecord (startLocs n input))))
 
 abbrev μ-loop : tie.MeasureT-loop
 μ-loop input n m locations₀ j₀ locations j = m - j
@@ -23,7 +24,7 @@ loop-holds : tie.Need-loop-holds Inv-loop μ-loop
 loop-holds c =
     let a = c .before .before .args in
     let p = c .before .before .pre in
-    (omega arith, refl, enter-none (a .input .now) (a .n) (a .m) (p .isGood) (p .accepted) (a .locations .now) (p .blank))
+    (omega arith, refl, enter-none _ (a .n) (a .m) (p .isGood) (p .accepted) (a .locations .now) (p .blank))
 
 loop-again : tie.Need-loop-again Inv-loop μ-loop
 loop-again c =
@@ -35,7 +36,8 @@ loop-again c =
       omega arith,
       k .kept .1 .1 .0 ∙ l .inv .1,
       k .ensures
-          ∙ enter-turn (a .input .now) (a .n) (a .m) (p .isGood) (p .accepted) (length (a .locations .now)) (l .j) (l .locations) (omega arith) (p .room) (l .inv .2),
+          ∙ enter-turn _ (a .n) (a .m) (p .isGood) (p .accepted) (length (a .locations .now)) (l .j) (l .locations)
+          (omega arith) (p .room) (l .inv .2),
     )
 
 returns : tie.Need-returns Inv-loop μ-loop
@@ -44,7 +46,9 @@ returns c =
     let a = b .args in
     let p = b .pre in
     let l = c .before .loop in
-    l .inv .2 ∙ ap (tableOf (length (a .locations .now))) (enter-end (a .input .now) (a .n) (a .m) (p .isGood) (p .accepted) (l .j) (omega arith))
+    l .inv .2
+    ∙ ap (tableOf (length (a .locations .now)))
+    (enter-end _ (a .n) (a .m) (p .isGood) (p .accepted) (l .j) (omega arith))
 
 pub enter-starts-spec : {M : Type 1} → statement M
 enter-starts-spec =

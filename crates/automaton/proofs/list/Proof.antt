@@ -1,5 +1,4 @@
 -- `list` meets its contract: the starting shapes are entered, and the exploration ends or finds no place.
-use mathlib.Core.Path.{_≡_}
 use borrow.Author.Needs.{needs}
 use Rattle.explore.specs.declared.Explored.the-variants as explored
 use Rattle.automaton.proofs.Listed.{all-listed, none-left, ready-to-explore}
@@ -11,33 +10,32 @@ explore-all-requires c κs =
     let b = c .before .before .before .before .before .before .before .before .before in
     let a = b .args in
     let k = c .before .before .before .before .enter-starts in
-    ready-to-explore (a .input .now) (a .n) (a .m) (a .locations .now) (a .edges .now) _ (b .pre) (k .ensures) (k .kept .1 .1 .1 .0)
+    ready-to-explore _ (a .n) (a .m) (a .locations .now) _ _ (b .pre) (k .ensures) (k .kept .1 .1 .1 .0)
 
 returns : tie.Need-returns
 returns c =
-    let b = c .before .before .before .before .before .before .before .before .before .before .before .before .before .before .before .before .before in
+    let d = c .before .before .before .before .before .before .before in
+    let x = d .explore-all in
+    let k = d .before .before .before .before .before .enter-starts in
+    let b = d .before .before .before .before .before .before .before .before .before .before in
     let a = b .args in
-    let k = c .before .before .before .before .before .before .before .before .before .before .before .before .enter-starts in
-    let x = c .before .before .before .before .before .before .before .explore-all in
-    let i = c .before .a .given .0 .0 in
-    let j = c .before .a .given .0 .1 .0 in
-    let e : x .result ≡ explored.Listed i j = search needs in
-    all-listed (a .input .now) (a .n) (a .m) (a .locations .now) (a .edges .now) _ (b .pre) (k .ensures) (k .kept .1 .1 .1 .0)
-    _ _ _ i j e (x .ensures) (x .kept .1 .1 .0) (x .kept .1 .1 .1 .0)
+    let g = c .before .counts .given in
+    all-listed _ (a .n) (a .m) (a .locations .now) _ _ (b .pre) (k .ensures) (k .kept .1 .1 .1 .0)
+    _ _ (x .result) (x .ensures) (x .kept .1 .1 .0) (x .kept .1 .1 .1 .0) (g .0 .0) (g .1)
 
 returns-2 : tie.Need-returns-2
 returns-2 c =
-    let b = c .before .before .before .before .before .before .before .before .before .before .before .before .before .before .before .before .before .before .before .before .before .before .before .before in
+    let d = c .before .before .before .before .before .before .before .before in
+    let g = d .number .given in
+    let e = d .before .before .before .before .before .before in
+    let x = e .explore-all in
+    let k = e .before .before .before .before .before .enter-starts in
+    let b = e .before .before .before .before .before .before .before .before .before .before in
     let a = b .args in
-    let k = c .before .before .before .before .before .before .before .before .before .before .before .before .before .before .before .before .before .before .before .enter-starts in
-    let x = c .before .before .before .before .before .before .before .before .before .before .before .before .before .before .explore-all in
-    let n = c .before .before .before .before .before .before .before .before .number in
-    let i = n .given .0 .0 in
-    let j = n .given .0 .1 .0 in
-    let e : x .result ≡ explored.Full i j = search needs in
     let z = c .before .before .before .before .clear-both .ensures in
-    none-left (a .input .now) (a .n) (a .m) (a .locations .now) (a .edges .now) _ (b .pre) (k .ensures) (k .kept .1 .1 .1 .0)
-    _ _ _ _ _ i j e (x .ensures) (x .kept .1 .1 .0) (x .kept .1 .1 .1 .0) (z .0) (z .1)
+    none-left _ (a .n) (a .m) (a .locations .now) _ _ (b .pre) (k .ensures) (k .kept .1 .1 .1 .0)
+    _ _ (x .result) (x .ensures) (x .kept .1 .1 .0) (x .kept .1 .1 .1 .0) _ _ (g .0 .0) (g .0 .1 .0) (g .1)
+    (z .0) (z .1)
 
 pub list-spec : {M : Type 1} → statement M
 list-spec =

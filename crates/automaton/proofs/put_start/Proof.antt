@@ -13,7 +13,8 @@ returns : tie.Need-returns
 returns c =
     let a = c .before .before .before .before .before .before .before .args in
     let e : (32 * a .i + 32) - 32 * a .i ≡ 32 = omega arith in
-    put-back (a .locations .now) (locationBytes 0 0 (recordAt (a .input .now) (a .i))) _ (32 * a .j) 32 (rw e at (c .before .before .write-location .ensures))
+    put-back (a .locations .now) (locationBytes 0 0 (recordAt (a .input .now) (a .i))) _ (32 * a .j) 32
+    (rw e at (c .before .before .write-location .ensures))
 
 pub put-start-spec : {M : Type 1} → statement M
 put-start-spec =

@@ -16,7 +16,8 @@ returns c =
     let o = b .check in
     let g = c .before .before .before .n .given .0 in
     let e : o .result ≡ checked.Good (g .0) (g .1 .0) = search needs in
-    answer-few (a .input .now) (a .locations .now) (a .edges .now) _ _ (k .ensures .0) (k .ensures .1) (k .kept .0) (k .kept .1 .0) (o .result) (o .ensures .0) (o .ensures .1)
+    answer-few (a .input .now) (a .locations .now) (a .edges .now) _ _ (k .ensures .0) (k .ensures .1) (k .kept .0)
+    (k .kept .1 .0) (o .result) (o .ensures .0) (o .ensures .1)
     (g .0) (g .1 .0) _ e (c .before .places .ensures) (c .if1 .taken)
 
 list-requires : tie.Need-list-requires
@@ -27,7 +28,8 @@ list-requires c κs =
     let o = b .check in
     let g = c .before .before .before .before .before .n .given .0 in
     let e : o .result ≡ checked.Good (g .0) (g .1 .0) = search needs in
-    ready-to-list (a .input .now) (a .locations .now) (a .edges .now) _ _ (k .ensures .0) (k .ensures .1) (k .kept .0) (k .kept .1 .0) (o .result) (o .ensures .0) (o .ensures .1)
+    ready-to-list (a .input .now) (a .locations .now) (a .edges .now) _ _ (k .ensures .0) (k .ensures .1) (k .kept .0)
+    (k .kept .1 .0) (o .result) (o .ensures .0) (o .ensures .1)
     (g .0) (g .1 .0) _ e (c .before .before .before .places .ensures) (c .before .before .if1 .left)
 
 returns-2 : tie.Need-returns-2
@@ -38,14 +40,16 @@ returns-2 c =
     let o = b .check in
     let g = c .before .number .given .0 in
     let e : o .result ≡ checked.Bad (g .0) (g .1 .0) = search needs in
-    answer-bad (a .input .now) (a .locations .now) (a .edges .now) _ _ (k .ensures .0) (k .ensures .1) (k .kept .0) (k .kept .1 .0) (o .result) (o .ensures .0) (o .ensures .1)
+    answer-bad (a .input .now) (a .locations .now) (a .edges .now) _ _ (k .ensures .0) (k .ensures .1) (k .kept .0)
+    (k .kept .1 .0) (o .result) (o .ensures .0) (o .ensures .1)
     (g .0) (g .1 .0) e
 
 returns-3 : tie.Need-returns-3
 returns-3 c =
-    let b = c .before .before .before .before .before .before .before .before .before .before .before .before .before .before .before .before .before in
+    let d = c .before .before .before .before in
+    let l = d .list in
+    let b = d .before .before .before .before .before .before .before .before .before .before .before .before .before in
     let a = b .before .before .before .before .before .before .args in
-    let l = c .before .before .before .before .list in
     answered (a .input .now) (length (a .locations .now)) (length (a .edges .now)) (l .result) _ _
     (l .ensures ∙ ap₂ (translate (a .input .now)) (b .clear-both .kept .0) (b .clear-both .kept .1 .0))
 

@@ -1,6 +1,6 @@
--- `unfold` meets its contract: a refusal leaves all, and without one the image is spread.
+-- `unfold` meets its contract: a refusal leaves all, and without one the shape is unfolded.
 use borrow.Author.Needs.{needs}
-use Rattle.heap_operations.proofs.UnfoldLaws.{spread-ready, unfold-done, unfold-refused}
+use Rattle.heap_operations.proofs.UnfoldLaws.{unfold-ready, unfold-done, unfold-refused}
 use Rattle.heap_operations.proofs.unfold.Statement.{statement}
 use Rattle.heap_operations.proofs.unfold.Tie as tie
 
@@ -11,12 +11,12 @@ returns c =
     unfold-refused (a .rec .now) (a .counters .now) (a .pointers .now) (a .cells .now) (u .unfold-refusal .ensures)
     (c .if1 .taken)
 
-spread-requires : tie.Need-spread-requires
-spread-requires c κs =
+unfold-shape-requires : tie.Need-unfold-shape-requires
+unfold-shape-requires c κs =
     let t = c .before .before in
     let u = t .before in
     let a = u .before .before .before .before .before .args in
-    spread-ready (a .rec .now) (a .counters .now) (a .pointers .now) (a .cells .now) (u .unfold-refusal .ensures)
+    unfold-ready (a .rec .now) (a .counters .now) (a .pointers .now) (a .cells .now) (u .unfold-refusal .ensures)
     (t .if1 .left)
 
 returns-2 : tie.Need-returns-2
@@ -26,9 +26,9 @@ returns-2 c =
     let u = t .before in
     let a = u .before .before .before .before .before .args in
     unfold-done (a .rec .now) (a .counters .now) (a .pointers .now) (a .cells .now) (u .unfold-refusal .ensures)
-    (t .if1 .left) (s .spread .ensures)
+    (t .if1 .left) (s .unfold-shape .ensures)
 
 pub unfold-spec : {M : Type 1} → statement M
 unfold-spec =
     tie.close
-    (tie.spec (λ c κs. search needs) returns spread-requires (λ c. search needs) (λ c. search needs) returns-2)
+    (tie.spec (λ c κs. search needs) returns unfold-shape-requires (λ c. search needs) (λ c. search needs) returns-2)

@@ -5,17 +5,23 @@ use Rattle.image_checks.proofs.entry_ok.Statement.{statement}
 use Rattle.image_checks.proofs.entry_ok.Tie as tie
 
 returns : tie.Need-returns
-returns c = let a = c .before .args in entry-pick (a .op) (a .pick) (a .cell) (a .cells .now) (c .if1 .taken)
+returns c =
+    let s = c .before in
+    let a = s .args in
+    entry-pick (a .op) (a .pick) (a .cell) (a .cells .now) (s .pre) (c .if1 .taken)
 
 returns-2 : tie.Need-returns-2
 returns-2 c =
-    let a = c .before .before .before .before .args in
-    entry-cell (a .op) (a .pick) (a .cell) (a .cells .now) (c .before .before .if2 .taken) (c .before .if3 .taken)
+    let s = c .before .before .before .before in
+    let a = s .args in
+    entry-cell (a .op) (a .pick) (a .cell) (a .cells .now) (s .pre) (c .before .before .if2 .taken)
+    (c .before .if3 .taken)
 
 returns-3 : tie.Need-returns-3
 returns-3 c =
-    let a = c .before .before .before .args in
-    entry-past (a .op) (a .pick) (a .cell) (a .cells .now) (c .before .if2 .taken) (c .if3 .left)
+    let s = c .before .before .before in
+    let a = s .args in
+    entry-past (a .op) (a .pick) (a .cell) (a .cells .now) (s .pre) (c .before .if2 .taken) (c .if3 .left)
 
 returns-4 : tie.Need-returns-4
 returns-4 c =

@@ -27,52 +27,38 @@ laid : (c : tie.Else3) → let a = c .before .before .before .before .before .be
     by.Laid (a .rec .now) (a .counters .now) (a .pointers) (a .cells)
 laid c = by.laid (sized (c .before .before)) (c .before .is-shape .ensures) (not-false _ (c .if3 .left))
 
-shared-slice-read-k : tie.Need-shared-slice-read-k
-shared-slice-read-k c = omega (arith, laid (c .before) .wide)
-
-cast-k : tie.Need-cast-k
-cast-k c = omega (arith, by.laid-few (laid (c .before)))
-
-add-end : tie.Need-add-end
-add-end c = omega (arith, by.laid-few (laid (c .before)))
-
-part-is-canonical-end : tie.Need-part-is-canonical-end
-part-is-canonical-end c = omega (arith, laid (c .before) .wide)
-
-part-is-canonical-end-2 : tie.Need-part-is-canonical-end-2
-part-is-canonical-end-2 c = let L = laid (c .before .before) in omega (arith, L .wide, by.laid-few L)
-
-is-canonical-requires : tie.Need-is-canonical-requires
-is-canonical-requires c κs =
-    let t = c .before .before .before in
-    let L = laid t in
-    by.canonical-ready (t .before .before .before .before .before .before .args .rec .now) (L .wide) (L .layout)
+canonical-shape-requires : tie.Need-canonical-shape-requires
+canonical-shape-requires c κs = let L = laid c in (L .wide, L .layout)
 
 returns-4 : tie.Need-returns-4
 returns-4 c =
     let n = c .before in
-    by.refuse-numbering (laid (n .before .before .before .before)) (n .is-canonical .ensures)
-    (not-true _ (c .if4 .taken))
+    by.refuse-numbering (laid (n .before)) (n .canonical-shape .ensures) (not-true _ (c .if4 .taken))
 
-numbered : (c : tie.Else4) → let t = c .before .before .before .before .before in
-    let a = t .before .before .before .before .before .before .args in
+numbered : (c : tie.Else4) → let a = c .before .before .before .before .before .before .before .before .args in
     by.Numbered (a .rec .now) (a .counters .now) (a .pointers) (a .cells)
 numbered c =
     let n = c .before in
-    by.numbered (laid (n .before .before .before .before)) (n .is-canonical .ensures) (not-false _ (c .if4 .left))
+    by.numbered (laid (n .before)) (n .canonical-shape .ensures) (not-false _ (c .if4 .left))
+
+shared-slice-read-k : tie.Need-shared-slice-read-k
+shared-slice-read-k c = omega (arith, laid (c .before .before .before) .wide)
+
+cast-k : tie.Need-cast-k
+cast-k c = omega (arith, by.laid-few (laid (c .before .before .before)))
 
 counters-fit-requires : tie.Need-counters-fit-requires
-counters-fit-requires c κs = by.laid-few (laid (c .before .before .before .before .before))
+counters-fit-requires c κs = by.laid-few (laid (c .before .before .before))
 
 returns-5 : tie.Need-returns-5
-returns-5 c = by.refuse-none (numbered (c .before .before)) (c .before .counters-fit .ensures) (c .if5 .taken)
+returns-5 c = by.refuse-none (numbered (c .before .before .before)) (c .before .counters-fit .ensures) (c .if5 .taken)
 
 returns-6 : tie.Need-returns-6
-returns-6 c = by.refuse-counters (numbered (c .before .before)) (c .before .counters-fit .ensures) (c .if5 .left)
+returns-6 c =
+    by.refuse-counters (numbered (c .before .before .before)) (c .before .counters-fit .ensures) (c .if5 .left)
 
 pub unfold-refusal-spec : {M : Type 1} → statement M
 unfold-refusal-spec =
     tie.close
-    (tie.spec returns returns-2 (λ c κs. search needs) returns-3 shared-slice-read-k cast-k add-end (λ c. search needs)
-    (λ c. search needs) part-is-canonical-end (λ c. search needs) (λ c. search needs) part-is-canonical-end-2
-    is-canonical-requires returns-4 counters-fit-requires returns-5 returns-6)
+    (tie.spec returns returns-2 (λ c κs. search needs) returns-3 canonical-shape-requires returns-4 shared-slice-read-k
+    cast-k counters-fit-requires returns-5 returns-6)

@@ -9,7 +9,8 @@ returns : tie.Need-returns
 returns c = simp (lt-ltb _ _ (c .if1 .taken)) (refl, refl)
 
 returns-2 : tie.Need-returns-2
-returns-2 c = simp (le-ltb _ _ (c .before .before .before .before .if1 .left)) (refl, c .before .before .put-location .ensures)
+returns-2 c =
+    simp (le-ltb _ _ (c .before .before .before .before .if1 .left)) (refl, c .before .before .put-location .ensures)
 
 pub keep-target-spec : {M : Type 1} → statement M
 keep-target-spec =

@@ -5,17 +5,17 @@ use mathlib.Core.Bool.{cond}
 use mathlib.Core.List.{List, [], _∷_, map, map-map}
 use lib.Dec.{eqb, eqb·suc-suc, eqb·suc-zero, eqb·zero-suc}
 use lib.ListN.{List·getD-map, getD, set}
-use Rattle.model.specs.Edges.{access, splitHeap}
 use Rattle.model.specs.Heap.{Heap, Slot, Val, cell, holds, next, null, ptr, undef, unused}
-use Rattle.model.specs.Machine.{Op, choose, clear, copy, effect, free, freeCell, freeVal, held, isNull, kind, load, new, put, putSlot, same, setNull, setPtr, skip, stop, store, through, wipe, wipeSlot}
 use Rattle.model.specs.Shape.{Seg, lastFrom}
 use Rattle.model.proofs.expansion.Changes.{expands-free, expands-split, f-closed, f-img, freed, s-closed, s-img}
 use Rattle.model.proofs.expansion.Cores.{chain-last}
 use Rattle.model.proofs.lists.Lists.{map-set}
 use Rattle.model.proofs.lists.Logic.{eqb-same}
-use Rattle.model.specs.Notions.{Alike, Expands, Expansion, Room, both-bad, both-ok, img, sg-after, upd, AllClosed, Closed, Used, seg}
+use Rattle.model.specs.Notions.{Alike, Expands, Expansion, Room, both-bad, both-ok, img, sg-after, upd, AllClosed, Closed, Used, seg, Alone}
 use Rattle.model.proofs.visits.Walks.{closed-map, closed-up, map-closed}
 use Rattle.model.proofs.expansion.Writes.{expands-new, expands-write, n-closed, n-img, upd-at, w-closed}
+use Rattle.model.specs.Machine.{put, putSlot, freeCell, setPtr, Source, Action, wipeSlot, wipe, valueOf, through, freeVal, perform, held, from, point, follow, link, make, release, nil, stay}
+use Rattle.model.specs.Edges.{splitHeap, viewVal, view}
 
 getD-put : (l : List Slot) (c : ℕ) (s : Slot) (i : ℕ) → getD (put l c s) i unused ≡ cond (eqb i c) s (getD l i unused)
 getD-put [] zero s zero = refl
@@ -106,43 +106,50 @@ module _ (W : Heap) (sg : ℕ → Seg) (H : Heap) (X : Expansion W sg H) where
   one-cell : (n : ℕ) → sg n .rest ≡ [] → sg n ≡ seg (sg n .first) []
   one-cell n e = λ i. record { first = sg n .first; rest = e i }
 
-  clear-alike : (v w : Val) → w ≡ img sg v → Closed (next W) v → ((n : ℕ) → v ≡ cell n → sg n .rest ≡ []) → (x : Val) → Closed (next W) x
-      → Alike sg (through v (λ d. putSlot d (holds x) W)) (through w (λ d. putSlot d (holds (img sg x)) H))
-  clear-alike null w e k o x q = rw e both-bad
-  clear-alike undef w e k o x q = rw e both-bad
-  clear-alike (cell n) w e k o x q = rw e (both-ok (exp-write W sg H X n (sg n .first) x (one-cell n (o n refl)) k q))
+  value-img : (s : Source) → valueOf s H ≡ img sg (valueOf s W)
+  value-img nil = refl
+  value-img (from w) = ptr-img W sg H X w
 
-  load-alike : (u : ℕ) (v w : Val) → w ≡ img sg v → Closed (next W) v → ((n : ℕ) → v ≡ cell n → sg n .rest ≡ [])
+  value-closed : (s : Source) → Closed (next W) (valueOf s W)
+  value-closed nil = tt
+  value-closed (from w) = ptr-closed W sg H X w
+
+  link-alike : (v w : Val) → w ≡ img sg v → Closed (next W) v → Alone (viewVal v) sg → (x : Val) → Closed (next W) x
+      → Alike sg (through v (λ d. putSlot d (holds x) W)) (through w (λ d. putSlot d (holds (img sg x)) H))
+  link-alike null w e k o x q = rw e both-bad
+  link-alike undef w e k o x q = rw e both-bad
+  link-alike (cell n) w e k o x q = rw e (both-ok (exp-write W sg H X n (sg n .first) x (one-cell n o) k q))
+
+  follow-alike : (u : ℕ) (v w : Val) → w ≡ img sg v → Closed (next W) v → Alone (viewVal v) sg
       → Alike sg (through v (λ d. setPtr u (held (next W d)) W)) (through w (λ d. setPtr u (held (next H d)) H))
-  load-alike u null w e k o = rw e both-bad
-  load-alike u undef w e k o = rw e both-bad
-  load-alike u (cell n) w e k o =
-      let p : next H (sg n .first) ≡ holds (img sg (k .0)) = subst (λ l. next H (lastFrom (sg n .first) l) ≡ holds (img sg (k .0))) (o n refl)
+  follow-alike u null w e k o = rw e both-bad
+  follow-alike u undef w e k o = rw e both-bad
+  follow-alike u (cell n) w e k o =
+      let p : next H (sg n .first) ≡ holds (img sg (k .0)) =
+      subst (λ l. next H (lastFrom (sg n .first) l) ≡ holds (img sg (k .0))) o
       (chain-last (next H) (sg n .first) (sg n .rest) (img sg (k .0)) (X .body .chain n (k .0) (k .1))) in
       rw (e, k .1, p) (both-ok (exp-ptr W sg H X u (k .0) (X .body .closed n (k .0) (k .1))))
 
-  free-alike : (v w : Val) → w ≡ img sg v → Closed (next W) v → ((n : ℕ) → v ≡ cell n → sg n .rest ≡ []) → Alike sg (freeVal v W) (freeVal w H)
-  free-alike null w e k o = rw e (both-ok X)
-  free-alike undef w e k o = rw e both-bad
-  free-alike (cell n) w e k o = rw e (both-ok (exp-free W sg H X n (sg n .first) (one-cell n (o n refl)) k))
+  release-alike : (v w : Val) → w ≡ img sg v → Closed (next W) v → Alone (viewVal v) sg → Alike sg (freeVal v W) (freeVal w H)
+  release-alike null w e k o = rw e (both-ok X)
+  release-alike undef w e k o = rw e both-bad
+  release-alike (cell n) w e k o = rw e (both-ok (exp-free W sg H X n (sg n .first) (one-cell n o) k))
 
-  pub effect-alike : (op : Op) (k c : ℕ) → ((n : ℕ) → access op W ≡ cell n → sg n .rest ≡ []) → Room (kind op) W k → Room (kind op) H c
-      → Alike (sg-after (kind op) k c sg) (effect op k W) (effect op c H)
-  effect-alike stop k c o fw fh = both-ok X
-  effect-alike choose k c o fw fh = both-ok X
-  effect-alike skip k c o fw fh = both-ok X
-  effect-alike (setNull u) k c o fw fh = both-ok (exp-ptr W sg H X u null tt)
-  effect-alike (new u) k c o fw fh =
+  -- each kind of action does the same to a heap and to its expansion
+  pub effect-alike : (a : Action) (k c : ℕ) → Alone (view a W) sg → Room a W k → Room a H c
+      → Alike (sg-after a k c sg) (perform a k W) (perform a c H)
+  effect-alike stay k c o fw fh = both-ok X
+  effect-alike (point u s) k c o fw fh = rw (value-img s) (both-ok (exp-ptr W sg H X u (valueOf s W) (value-closed s)))
+  effect-alike (follow u w) k c o fw fh = follow-alike u (ptr W w) (ptr H w) (ptr-img W sg H X w) (ptr-closed W sg H X w) o
+  effect-alike (link u s) k c o fw fh =
+      rw (value-img s)
+      (link-alike (ptr W u) (ptr H u) (ptr-img W sg H X u) (ptr-closed W sg H X u) o (valueOf s W) (value-closed s))
+  effect-alike (make u) k c o fw fh =
       let N = exp-new W sg H X k c fw fh in
-      both-ok (subst (λ v. Expansion (setPtr u (cell k) (putSlot k (holds undef) W)) (upd sg k (seg c [])) (setPtr u v (putSlot c (holds undef) H)))
+      let W′ = putSlot k (holds undef) W in
+      let H′ = putSlot c (holds undef) H in
+      let sg′ = upd sg k (seg c []) in
+      both-ok (subst (λ v. Expansion (setPtr u (cell k) W′) sg′ (setPtr u v H′))
       (ap (λ (s : Seg). cell (s .first)) (upd-at sg k (seg c []) k refl))
-      (exp-ptr (putSlot k (holds undef) W) (upd sg k (seg c [])) (putSlot c (holds undef) H) N u (cell k)
-      (undef, getD-put (W .slots) k (holds undef) k ∙ rw (eqb-same k))))
-  effect-alike (free u) k c o fw fh = free-alike (ptr W u) (ptr H u) (ptr-img W sg H X u) (ptr-closed W sg H X u) o
-  effect-alike (clear u) k c o fw fh = clear-alike (ptr W u) (ptr H u) (ptr-img W sg H X u) (ptr-closed W sg H X u) o null tt
-  effect-alike (isNull u) k c o fw fh = both-ok X
-  effect-alike (copy u w) k c o fw fh = rw (ptr-img W sg H X w) (both-ok (exp-ptr W sg H X u (ptr W w) (ptr-closed W sg H X w)))
-  effect-alike (load u w) k c o fw fh = load-alike u (ptr W w) (ptr H w) (ptr-img W sg H X w) (ptr-closed W sg H X w) o
-  effect-alike (store u w) k c o fw fh =
-      rw (ptr-img W sg H X w) (clear-alike (ptr W u) (ptr H u) (ptr-img W sg H X u) (ptr-closed W sg H X u) o (ptr W w) (ptr-closed W sg H X w))
-  effect-alike (same u w) k c o fw fh = both-ok X
+      (exp-ptr W′ sg′ H′ N u (cell k) (undef, getD-put (W .slots) k (holds undef) k ∙ rw (eqb-same k))))
+  effect-alike (release u) k c o fw fh = release-alike (ptr W u) (ptr H u) (ptr-img W sg H X u) (ptr-closed W sg H X u) o

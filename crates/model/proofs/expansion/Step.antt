@@ -2,19 +2,17 @@
 use Prim.Native.Nat.{ℕ}
 use mathlib.Core.Path.{_∙_, _≡_, ap, refl}
 use mathlib.Core.Bool.{false, true}
-use mathlib.Core.List.{[]}
 use lib.Dec.{eqb}
 use borrow.Author.Tests.{eq-eqb, eqb-true}
-use Rattle.model.specs.Edges.{access}
 use Rattle.model.specs.Heap.{Heap, Slot, Val, cell, kept, next, null, ptr, sameVal, undef}
-use Rattle.model.specs.Machine.{Answer, Effect, Entry, Fault, Kind, Op, Stmt, accepts, allocates, answerOf, branch, choose, clear, copy, done, effect, fault, faulted, free, isNull, keep, kind, load, new, other, picks, carryOut, same, setNull, skip, step, stop, stops, store, test, unlessStop, went}
-use Rattle.model.specs.Runs.{isStop}
+use Rattle.model.specs.Machine.{isStop, Effect, Kind, Answer, Stmt, Fault, keep, branchBy, answerOf, Entry, fault, faulted, kind, done, went, accepts, step, branch, ifNull, carryOut, action, test, ifSame, perform, acts, halts, picks}
 use Rattle.model.specs.Shape.{Seg}
 use Rattle.model.proofs.expansion.Cores.{first-inj}
 use Rattle.model.proofs.expansion.Effects.{effect-alike, ptr-closed, ptr-img}
 use Rattle.model.proofs.expansion.Facts.{kept-same, test-kept}
-use Rattle.model.specs.Notions.{Kept, Alike, Expands, Expansion, Room, both-bad, both-ok, img, sg-after, Closed}
-use Rattle.model.proofs.lists.Logic.{bool-case, bool-ext, clash}
+use Rattle.model.specs.Notions.{Kept, Alike, Expands, Expansion, Room, both-bad, both-ok, img, sg-after, Closed, Alone}
+use Rattle.model.proofs.lists.Logic.{bool-case, bool-ext}
+use Rattle.model.specs.Edges.{view}
 
 -- what is left after the test for lost cells
 pub data After (sg : ℕ → Seg) : Effect → Effect → Type 0 where
@@ -48,20 +46,14 @@ module _ (W : Heap) (sg : ℕ → Seg) (H : Heap) (X : Expansion W sg H) where
   test-same : (v w x y : Val) → x ≡ img sg v → y ≡ img sg w → Closed (next W) v → Closed (next W) w → sameVal x y ≡ sameVal v w
   test-same v w x y p q k l = rw (p, q) (same-img (next W) sg (next H) (X .body) v w k l)
 
-  pub branch-same : (op : Op) (p : ℕ) → branch op p H ≡ branch op p W
-  branch-same stop p = refl
-  branch-same (setNull u) p = refl
-  branch-same (copy u w) p = refl
-  branch-same (load u w) p = refl
-  branch-same (clear u) p = refl
-  branch-same (store u w) p = refl
-  branch-same (new u) p = refl
-  branch-same (free u) p = refl
-  branch-same (isNull u) p = ap test (test-same (ptr W u) null (ptr H u) null (ptr-img W sg H X u) refl (ptr-closed W sg H X u) tt)
-  branch-same (same u w) p =
-      ap test (test-same (ptr W u) (ptr W w) (ptr H u) (ptr H w) (ptr-img W sg H X u) (ptr-img W sg H X w) (ptr-closed W sg H X u) (ptr-closed W sg H X w))
-  branch-same choose p = refl
-  branch-same skip p = refl
+  pub branch-same : (c : Kind) (p : ℕ) → branchBy c p H ≡ branchBy c p W
+  branch-same halts p = refl
+  branch-same (acts x) p = refl
+  branch-same (ifNull u) p = ap test (test-same (ptr W u) null (ptr H u) null (ptr-img W sg H X u) refl (ptr-closed W sg H X u) tt)
+  branch-same (ifSame u w) p =
+      ap test (test-same (ptr W u) (ptr W w) (ptr H u) (ptr H w) (ptr-img W sg H X u) (ptr-img W sg H X w)
+      (ptr-closed W sg H X u) (ptr-closed W sg H X w))
+  branch-same picks p = refl
 
 -- the answers of two steps
 pub data Agree (sg : ℕ → Seg) : Answer → Answer → Type 0 where
@@ -72,26 +64,21 @@ answer-agree : (sg : ℕ → Seg) (st : Stmt) (b : ℕ) (x y : Effect) → After
 answer-agree sg st b x y fault-both = fault-alike
 answer-agree sg st b x y (done-both X k) = went-alike X k
 
-pub unless-go : (k : Kind) (a : Answer) → isStop k ≡ false → unlessStop k a ≡ a
-unless-go stops a h = clash refl h
-unless-go picks a h = refl
-unless-go allocates a h = refl
-unless-go other a h = refl
-
-pub step-go : (st : Stmt) (e : Entry) (h : Heap) → isStop (kind (st .op)) ≡ false → accepts (kind (st .op)) e h ≡ true
+pub step-go : (st : Stmt) (e : Entry) (h : Heap) → isStop (kind (st .op)) ≡ false → accepts (st .op) e h ≡ true
     → step st e h ≡ answerOf st (branch (st .op) (e .pick) h) (carryOut (st .op) (e .cellNo) h)
-step-go st e h g a = rw a (unless-go (kind (st .op)) (answerOf st (branch (st .op) (e .pick) h) (carryOut (st .op) (e .cellNo) h)) g)
+step-go st e h g a = rw (a, g)
 
 -- the step of an entry d on W and that of an entry e on its expansion H
 pub step-agree : (st : Stmt) (d e : Entry) (W : Heap) (sg : ℕ → Seg) (H : Heap) → Expansion W sg H → isStop (kind (st .op)) ≡ false
-    → accepts (kind (st .op)) d W ≡ true → accepts (kind (st .op)) e H ≡ true
-    → ((n : ℕ) → access (st .op) W ≡ cell n → sg n .rest ≡ [])
-    → Room (kind (st .op)) W (d .cellNo) → Room (kind (st .op)) H (e .cellNo)
+    → accepts (st .op) d W ≡ true → accepts (st .op) e H ≡ true
+    → Alone (view (action (st .op)) W) sg
+    → Room (action (st .op)) W (d .cellNo) → Room (action (st .op)) H (e .cellNo)
     → branch (st .op) (e .pick) H ≡ branch (st .op) (d .pick) W
-    → Agree (sg-after (kind (st .op)) (d .cellNo) (e .cellNo) sg) (step st d W) (step st e H)
+    → Agree (sg-after (action (st .op)) (d .cellNo) (e .cellNo) sg) (step st d W) (step st e H)
 step-agree st d e W sg H X g aw ah o rw′ rh b =
+    let a = action (st .op) in
+    let sg′ = sg-after a (d .cellNo) (e .cellNo) sg in
     rw (step-go st d W g aw, step-go st e H g ah, b)
-    (answer-agree (sg-after (kind (st .op)) (d .cellNo) (e .cellNo) sg) st (branch (st .op) (d .pick) W) (carryOut (st .op) (d .cellNo) W)
-    (carryOut (st .op) (e .cellNo) H)
-    (keep-alike (sg-after (kind (st .op)) (d .cellNo) (e .cellNo) sg) (effect (st .op) (d .cellNo) W) (effect (st .op) (e .cellNo) H)
-    (effect-alike W sg H X (st .op) (d .cellNo) (e .cellNo) o rw′ rh)))
+    (answer-agree sg′ st (branch (st .op) (d .pick) W) (carryOut (st .op) (d .cellNo) W) (carryOut (st .op) (e .cellNo) H)
+    (keep-alike sg′ (perform a (d .cellNo) W) (perform a (e .cellNo) H)
+    (effect-alike W sg H X a (d .cellNo) (e .cellNo) o rw′ rh)))

@@ -8,7 +8,7 @@ use lib.ListN.{getD, length, length-map, replicate}
 use Rattle.model.specs.Base.{mem, sum}
 use Rattle.model.specs.Edges.{Edge, Loc, Way, at, edgeBy, edgesOf, failed, stepBy, stmtAt, ways}
 use Rattle.model.specs.Heap.{Heap, Slot, Val, cell, holds, null, undef, unused}
-use Rattle.model.specs.Machine.{Answer, Effect, Entry, Fault, Kind, Stmt, accepts, allocates, answerOf, atNull, atUndef, branch, done, fault, faultNumber, faulted, kind, leak, other, picks, refused, carryOut, step, stop, stopped, stops, target, unlessStop, went}
+use Rattle.model.specs.Machine.{Answer, Effect, Entry, Fault, Stmt, accepts, answerOf, atNull, atUndef, branch, done, fault, faultNumber, faulted, leak, refused, carryOut, step, stop, stopped, target, went, kind, isStop}
 use Rattle.model.specs.Records.{locRecord, slotByte, valByte}
 use Rattle.model.specs.Translate.{Listing, Routine, check, good}
 use Rattle.model.proofs.records.Checked.{GoodStarts, check-good}
@@ -141,17 +141,12 @@ answer-below : (c : ℕ) (st : Stmt) (b : ℕ) (x : Effect) → st .firstTarget 
 answer-below c st b (fault f) h = tt
 answer-below c st b (done g) h = target-below c st b h
 
-unless-below : (c : ℕ) (k : Kind) (a : Answer) → GoesBelow c a → GoesBelow c (unlessStop k a)
-unless-below c stops a h = tt
-unless-below c picks a h = h
-unless-below c allocates a h = h
-unless-below c other a h = h
-
 step-below : (c : ℕ) (st : Stmt) (e : Entry) (h : Heap) → st .firstTarget + st .secondTarget < c → GoesBelow c (step st e h)
 step-below c st e h q =
-    let a = answerOf st (branch (st .op) (e .pick) h) (carryOut (st .op) (e .cellNo) h) in
-    let p = unless-below c (kind (st .op)) a (answer-below c st (branch (st .op) (e .pick) h) (carryOut (st .op) (e .cellNo) h) q) in
-    bool-case (accepts (kind (st .op)) e h) (λ z. rw z p) (λ z. rw z tt)
+    bool-case (accepts (st .op) e h)
+    (λ a. bool-case (isStop (kind (st .op))) (λ z. rw (a, z) tt)
+    (λ z. rw (a, z) (answer-below c st (branch (st .op) (e .pick) h) (carryOut (st .op) (e .cellNo) h) q)))
+    (λ a. rw a tt)
 
 way-below : (c s k : ℕ) (y : Way) (a : Answer) → s < c → GoesBelow c a → (E : Edge) → In E (edgeBy s k y a) → stmtNo (E .to) < c
 way-below c s k y refused h g E i = absurd i

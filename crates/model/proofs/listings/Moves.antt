@@ -1,25 +1,25 @@
 -- The automaton read from the bytes of the tables: its moves are the listing's edges, and its locations read as they were written.
 use Prim.Native.Nat.{_<_, _≤_, ℕ}
-use mathlib.Core.Path.{_∙_, _≡_, ap, ap₂, refl, sym}
+use mathlib.Core.Path.{_∙_, _≡_, ap, refl, sym}
 use mathlib.Core.Option.{some}
 use mathlib.Core.Bool.{_&&_, true}
 use mathlib.Core.List.{List, [], map, map-map}
 use native.Mathlib.Omega.{arith}
 use lib.Dec.{eqb, ltb}
-use lib.ListN.{getD, length, length-map}
+use lib.ListN.{length, length-map}
 use borrow.Author.Tests.{eq-eqb, eqb-true, lt-ltb, ltb-true}
 use Rattle.model.specs.Base.{numbers}
-use Rattle.model.specs.Edges.{Guard, Loc, always, at, failed, isMore, isOne}
+use Rattle.model.specs.Edges.{Loc, at, failed}
 use Rattle.model.specs.Machine.{leak}
-use Rattle.model.specs.Records.{byte, edgeRecord, guardBytes, locRecord, recordAt, updateCode, word}
-use Rattle.model.specs.Runs.{Config, Advance, applied, enabled, guardHolds, leaves, moveOf, nodesAt, taken, updatesOf}
+use Rattle.model.specs.Records.{byte, edgeRecord, locRecord, recordAt, updateCode, word}
+use Rattle.model.specs.Runs.{Config, Advance, applied, enabled, leaves, moveOf, nodesAt, taken, updatesOf, guardsHold, guardsOf}
 use Rattle.model.specs.Translate.{Link, Listing, Routine, Tables, linkRecord, tablesOf}
 use Rattle.model.proofs.records.Bytes.{applied-code, records-wide, table-record}
 use Rattle.model.proofs.records.Checked.{GoodStarts}
-use Rattle.model.proofs.records.EdgeBack.{edge-branch, edge-from, edge-guard, edge-length, edge-node, edge-to, edge-updates}
+use Rattle.model.proofs.records.EdgeBack.{edge-branch, edge-from, edge-length, edge-to, edge-updates, edge-guards}
 use Rattle.model.proofs.listings.Exact.{LinkGood, link-good}
 use Rattle.model.specs.Listings.{Exact, WritableLoc, linkAt, locAt, noLink, GoodLoc}
-use Rattle.model.specs.Notions.{In, SmallEdge, guardOn, nodesOf, worth}
+use Rattle.model.specs.Notions.{In, SmallEdge, nodesOf, worth, guardsOn}
 use Rattle.model.proofs.lists.Lists.{any-find, any-in, getD-in, getD-map, map-same, some-inj, some-none}
 use Rattle.model.proofs.lists.Logic.{and-both, and-l, and-r, bool-case}
 use Rattle.model.proofs.lists.Numbers.{in-numbers, numbers-in}
@@ -41,11 +41,6 @@ nodes-few (failed s f) g = omega arith
 record-nodes : (l : Loc) → byte (locRecord l) 3 ≡ nodesOf l
 record-nodes (at s h) = refl
 record-nodes (failed s f) = refl
-
-guard-read : (g : Guard) (cs : List ℕ) → guardHolds (getD (guardBytes g) 0 0) (getD cs (getD (guardBytes g) 1 0) 0) ≡ guardOn g cs
-guard-read always cs = refl
-guard-read (isOne n) cs = refl
-guard-read (isMore n) cs = refl
 
 module _ (r : Routine) (t : Listing) (X : Exact r t) (G : GoodStarts r) (a b : ℕ) where
   abbrev T : Tables
@@ -81,12 +76,11 @@ module _ (r : Routine) (t : Listing) (X : Exact r t) (G : GoodStarts r) (a b : �
   edge-word n h = let k = linkAt t n in ap (λ x. word x 2) (edge-record n h) ∙ edge-from (k .from) (k .dest) (k .edge)
 
   edge-on : (n : ℕ) (cs : List ℕ) → n < length (t .links)
-      → guardHolds (byte (recordAt (T .edgeBytes) n) 6) (getD cs (byte (recordAt (T .edgeBytes) n) 7) 0) ≡ guardOn (linkAt t n .edge .guard) cs
+      → guardsHold cs (guardsOf (recordAt (T .edgeBytes) n)) ≡ guardsOn (linkAt t n .edge .guards) cs
   edge-on n cs h =
       let k = linkAt t n in
-      ap (λ x. guardHolds (byte x 6) (getD cs (byte x 7) 0)) (edge-record n h)
-      ∙ ap₂ (λ g d. guardHolds g (getD cs d 0)) (edge-guard (k .from) (k .dest) (k .edge)) (edge-node (k .from) (k .dest) (k .edge))
-      ∙ guard-read (k .edge .guard) cs
+      ap (λ x. guardsHold cs (guardsOf x)) (edge-record n h)
+      ∙ edge-guards (k .from) (k .dest) (k .edge) cs (link-small k (link-facts n h) .0 .guarded)
 
   -- taking an edge
   taken-along : (n : ℕ) (c : Config) → n < length (t .links) → taken T c (recordAt (T .edgeBytes) n) ≡ by-link c (linkAt t n)
@@ -112,7 +106,7 @@ module _ (r : Routine) (t : Listing) (X : Exact r t) (G : GoodStarts r) (a b : �
         after = record { loc = edge-to (k .from) (k .dest) (k .edge) i; values = vals i };
       })
 
-  pub move-of : (n : ℕ) (c : Config) → n < length (t .links) → linkAt t n .from ≡ c .loc → guardOn (linkAt t n .edge .guard) (c .values) ≡ true
+  pub move-of : (n : ℕ) (c : Config) → n < length (t .links) → linkAt t n .from ≡ c .loc → guardsOn (linkAt t n .edge .guards) (c .values) ≡ true
       → moveOf T c n ≡ some (by-link c (linkAt t n))
   move-of n c h f g =
       let e : enabled T c n ≡ true = and-both (ltb n (length (t .links)) && eqb (word (recordAt (T .edgeBytes) n) 2) (c .loc)) _
@@ -122,12 +116,12 @@ module _ (r : Routine) (t : Listing) (X : Exact r t) (G : GoodStarts r) (a b : �
       rw e (ap some (taken-along n c h))
 
   pub move-some : (n : ℕ) (c : Config) (y : Advance Config) → moveOf T c n ≡ some y
-      → (n < length (t .links)) × (linkAt t n .from ≡ c .loc) × (guardOn (linkAt t n .edge .guard) (c .values) ≡ true) × (y ≡ by-link c (linkAt t n))
+      → (n < length (t .links)) × (linkAt t n .from ≡ c .loc) × (guardsOn (linkAt t n .edge .guards) (c .values) ≡ true) × (y ≡ by-link c (linkAt t n))
   move-some n c y m = bool-case (enabled T c n)
       (λ e.
       let p = ltb n (length (t .links)) in
       let q = eqb (word (recordAt (T .edgeBytes) n) 2) (c .loc) in
-      let g = guardHolds (byte (recordAt (T .edgeBytes) n) 6) (getD (c .values) (byte (recordAt (T .edgeBytes) n) 7) 0) in
+      let g = guardsHold (c .values) (guardsOf (recordAt (T .edgeBytes) n)) in
       let pq = and-l (p && q) g e in
       let h = ltb-true n (length (t .links)) (and-l p q pq) in (
         h,

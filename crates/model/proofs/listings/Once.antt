@@ -8,17 +8,17 @@ use native.Mathlib.Nat.{zero-add}
 use native.Mathlib.Omega.{arith}
 use lib.ListN.{getD, length}
 use Rattle.model.specs.Base.{any, mem}
-use Rattle.model.specs.Edges.{Edge, Loc, Way, Weight, access, addsCounter, always, at, edgeBy, edgesAt, edgesOf, failed, picksOf, stepBy, stmtAt, updateOf, ways, waysAt, whole}
-use Rattle.model.specs.Heap.{Heap, Val, cell, next, null, order, undef}
-use Rattle.model.specs.Machine.{Answer, Op, Stmt, faulted, kind, refused, stopped, went}
+use Rattle.model.specs.Edges.{Edge, Loc, Way, Weight, addsCounter, at, edgeBy, edgesAt, edgesOf, failed, picksOf, stepBy, stmtAt, updateOf, ways, whole, View, view, waysOf, oneNode, noNode}
+use Rattle.model.specs.Heap.{Heap, next, order}
+use Rattle.model.specs.Machine.{Answer, Stmt, faulted, refused, stopped, went, Kind, kind, action}
 use Rattle.model.specs.Shape.{Seg, cells, core, segments}
 use Rattle.model.proofs.expansion.Cuts.{flat-cut, mem-flat-in, nodup-apart, nodup-r}
-use Rattle.model.specs.Notions.{In, Pairs, NoDup, AddApart, flat, Closed, ClosedHeap}
+use Rattle.model.specs.Notions.{In, Pairs, NoDup, AddApart, flat, ClosedHeap}
 use Rattle.model.proofs.lists.Lists.{any-find, in-joined, in-map, in-mem, in-single, pairs-map, pairs-mono}
 use Rattle.model.proofs.lists.Numbers.{flag-at}
 use Rattle.model.proofs.visits.Order.{order-once, used-below}
 use Rattle.model.specs.Listings.{GoodLoc}
-use Rattle.model.proofs.ways.Ways.{access-closed, split-fair, whole-fair}
+use Rattle.model.proofs.ways.Ways.{split-fair, whole-fair, ClosedView, view-closed}
 
 -- the cells of different segments differ
 segments-apart : (ss : List Seg) → NoDup (flat ss) → Pairs (λ s t. (c : ℕ) → mem c (cells s) ≡ true → mem c (cells t) ≡ true → ⊥) ss
@@ -50,17 +50,14 @@ updates-apart k w o ss nd =
     h (a .0) (a .1) (subst (λ x. mem x (cells t) ≡ true) (sym (o i (a .0) (b .0) (a .2) (b .2))) (b .1)))
     (segments-apart ss nd))
 
-ways-owned : (op : Op) (h : Heap) (v : Val) → Closed (next h) v → (y : Way) → In y (waysAt v op h) → Owned (y .weight)
-ways-owned op h (cell n) k y (inl e) = subst (λ (z : Way). Owned (z .weight)) (sym e) (whole-fair (length (h .slots)) [] .owned)
-ways-owned op h (cell n) k y (inr (inl e)) =
+ways-owned : (kd : Kind) (h : Heap) (v : View) → ClosedView (next h) v → (y : Way) → In y (waysOf kd v h) → Owned (y .weight)
+ways-owned kd h noNode k y i =
+    let r = in-map (λ p. whole [] p h) y (picksOf kd) i in
+    subst (λ (z : Way). Owned (z .weight)) (sym (r .2)) (whole-fair (length (h .slots)) [] .owned)
+ways-owned kd h (oneNode n) k y (inl e) = subst (λ (z : Way). Owned (z .weight)) (sym e) (whole-fair (length (h .slots)) [] .owned)
+ways-owned kd h (oneNode n) k y (inr (inl e)) =
     subst (λ (z : Way). Owned (z .weight)) (sym e) (split-fair (length (h .slots)) [] n (used-below (h .slots) n k) (omega arith) .owned)
-ways-owned op h (cell n) k y (inr (inr x)) = absurd x
-ways-owned op h null k y i =
-    let r = in-map (λ p. whole always p h) y (picksOf (kind op)) i in
-    subst (λ (z : Way). Owned (z .weight)) (sym (r .2)) (whole-fair (length (h .slots)) [] .owned)
-ways-owned op h undef k y i =
-    let r = in-map (λ p. whole always p h) y (picksOf (kind op)) i in
-    subst (λ (z : Way). Owned (z .weight)) (sym (r .2)) (whole-fair (length (h .slots)) [] .owned)
+ways-owned kd h (oneNode n) k y (inr (inr x)) = absurd x
 
 way-once : (s k : ℕ) (y : Way) (a : Answer) → Owned (y .weight) → (E : Edge) → In E (edgeBy s k y a) → Pairs AddApart (E .updates)
 way-once s k y refused o E i = absurd i
@@ -75,7 +72,7 @@ edges-once s st h cl E i =
     let k = length (h .slots) in
     let j = in-joined E (map (λ z. edgeBy s k z (stepBy st k z)) (ways (st .op) h)) i in
     let w = in-map (λ z. edgeBy s k z (stepBy st k z)) (j .0) (ways (st .op) h) (j .1) in
-    way-once s k (w .0) (stepBy st k (w .0)) (ways-owned (st .op) h (access (st .op) h) (access-closed h (st .op) (cl .0)) (w .0) (w .1)) E
+    way-once s k (w .0) (stepBy st k (w .0)) (ways-owned (kind (st .op)) h (view (action (st .op)) h) (view-closed (action (st .op)) h (cl .0)) (w .0) (w .1)) E
     (subst (In E) (w .2) (j .2))
 
 -- and so of each location that a listing holds

@@ -169,3 +169,9 @@ pub pairs-joined : {A B : Type 0} (R : B → B → Type 0) (f : A → List B) (l
 pairs-joined R f [] p q = tt
 pairs-joined R f (x ∷ l) p q = pairs-append R (f x) (joined (map f l)) (p x (inl refl)) (pairs-joined R f l (λ y i. p y (inr i)) (q .1))
     (λ u v i j. let k = in-joined v (map f l) j in let m = in-map f (k .0) l (k .1) in q .0 (m .0) (m .1) u v i (subst (In v) (m .2) (k .2)))
+
+-- a list of at most one element
+pub few-same : {A : Type 0} (l : List A) → length l ≤ 1 → (x y : A) → In x l → In y l → x ≡ y
+few-same [] h x y i j = absurd i
+few-same (a ∷ []) h x y i j = in-single x a i ∙ sym (in-single y a j)
+few-same (a ∷ b ∷ l) h x y i j = absurd (omega arith)

@@ -89,5 +89,9 @@ pub and-r : (a b : Bool) → a && b ≡ true → b ≡ true
 and-r true b h = h
 and-r false b h = clash h refl
 
+pub and-true : (a : Bool) → a && true ≡ a
+and-true true = refl
+and-true false = refl
+
 pub and-both : (a b : Bool) → a ≡ true → b ≡ true → a && b ≡ true
 and-both a b p q = rw (p, q)

@@ -58,3 +58,9 @@ pub flag-at : (f : ℕ → Bool) (j k i : ℕ) → getD (map f (numbers j k)) i 
 flag-at f j zero i h = clash h refl
 flag-at f j (suc k) zero h = subst (λ x. f x ≡ true) (omega arith) h
 flag-at f j (suc k) (suc i) h = subst (λ x. f x ≡ true) (omega arith) (flag-at f (suc j) k i h)
+
+-- the number at a place
+pub at-number : (i n j d : ℕ) → j < n → getD (numbers i n) j d ≡ i + j
+at-number i zero j d h = absurd (omega arith)
+at-number i (suc n) zero d h = omega arith
+at-number i (suc n) (suc j) d h = let r = at-number (suc i) n j d (omega arith) in omega arith

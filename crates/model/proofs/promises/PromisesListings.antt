@@ -6,9 +6,9 @@ use mathlib.Core.Bool.{false, true}
 use mathlib.Core.List.{List, [], _∷_, map}
 use lib.ListN.{drop, getD, length, replicate}
 use Rattle.model.specs.Base.{mem}
-use Rattle.model.specs.Edges.{Edge, Loc, Update, access, at, edgesOf, failed, splitHeap}
-use Rattle.model.specs.Heap.{Heap, IsHeap, cell, inUse, kept, next, order}
-use Rattle.model.specs.Machine.{Fault, Op, Stmt, effect, faultNumber, kind}
+use Rattle.model.specs.Edges.{Edge, Loc, Update, at, edgesOf, failed, splitHeap, view}
+use Rattle.model.specs.Heap.{Heap, IsHeap, inUse, kept, next, order}
+use Rattle.model.specs.Machine.{Fault, Op, Stmt, effect, faultNumber, action}
 use Rattle.model.specs.Records.{byte, edgeRecord, guardBytes, isS, layoutH, locRecord, recordAt, refusal, refusalS, shapeOf, shapeRecord, stmtOf, updateCode, word, Refusal, isAccepted, isRefused}
 use Rattle.model.specs.Runs.{applied, updatesOf}
 use Rattle.model.specs.Shape.{Seg, cells, core, counters, segments, shape}
@@ -22,7 +22,7 @@ use Rattle.model.proofs.expansion.Facts.{heap-closed, heap-kept, kept-s
 use Rattle.model.proofs.expansion.Folds.{counters-grow, fold-same, order-cat}
 use Rattle.model.proofs.listings.FullListing.{full-exists}
 use Rattle.model.specs.Listings.{Exact, IsFull, Reached, Refused, UnusedZero, Writable, WritableLoc, linkAt, locAt, stmtRecord}
-use Rattle.model.specs.Notions.{In, Pairs, AddApart, Alike, Exclude, Expansion, Positive, Room, cat, flagged, guardOn, nodesOf, segAt, sg-after, total, upd, seg}
+use Rattle.model.specs.Notions.{In, Pairs, AddApart, Alike, Exclude, Expansion, Positive, Room, cat, flagged, nodesOf, segAt, sg-after, total, upd, seg, guardsOn, Alone}
 use Rattle.model.proofs.listings.Moves.{good-writable}
 use Rattle.model.proofs.listings.Once.{good-once}
 use Rattle.model.proofs.listings.Outcomes.{accepted-exact, fits-accepted, full-one, is-accepted, records-distinct, refused-says, tables-hold}
@@ -60,7 +60,7 @@ guards-exclude s r e l p = good-exclude (r .stmts) l (reached-good r (check-good
 abbrev pub GuardsCover : Type 0
 GuardsCover = (s : List ℕ) (r : Routine) → check s ≡ good r → (l : Loc) → Reached (r .stmts) (r .starts) l
     → (cs : List ℕ) → length cs ≡ nodesOf l → Positive cs → (E : Edge) → In E (edgesOf (r .stmts) l)
-    → (D : Edge) × In D (edgesOf (r .stmts) l) × (D .branchNo ≡ E .branchNo) × (guardOn (D .guard) cs ≡ true)
+    → (D : Edge) × In D (edgesOf (r .stmts) l) × (D .branchNo ≡ E .branchNo) × (guardsOn (D .guards) cs ≡ true)
 
 pub guards-cover : GuardsCover
 guards-cover s r e l p = good-cover (r .stmts) l (reached-good r (check-good s r e) l p)
@@ -154,8 +154,8 @@ fault-read-back n f = (failed-length n f, failed-statement n f, failed-fault n f
 abbrev pub EdgeReadBack : Type 0
 EdgeReadBack = (from to : ℕ) (e : Edge) → length (e .updates) ≤ 12
     → (length (edgeRecord from to e) ≡ 32) × (byte (edgeRecord from to e) 1 ≡ e .branchNo) × (word (edgeRecord from to e) 2 ≡ from)
-    × (word (edgeRecord from to e) 4 ≡ to) × (byte (edgeRecord from to e) 6 ≡ getD (guardBytes (e .guard)) 0 0)
-    × (byte (edgeRecord from to e) 7 ≡ getD (guardBytes (e .guard)) 1 0)
+    × (word (edgeRecord from to e) 4 ≡ to) × (byte (edgeRecord from to e) 6 ≡ getD (guardBytes (e .guards)) 0 0)
+    × (byte (edgeRecord from to e) 7 ≡ getD (guardBytes (e .guards)) 1 0)
     × (updatesOf (length (e .updates)) (edgeRecord from to e) ≡ map updateCode (e .updates))
 
 pub edge-read-back : EdgeReadBack
@@ -234,8 +234,8 @@ expansion-split W sg H X n k h t ts e u f = exp-split W sg H X n k h t ts e (use
 -- every effect faults alike on both, or finishes in an expansion, where what is read, written or freed is a chain of one cell
 abbrev pub ExpansionEffects : Type 0
 ExpansionEffects = (W : Heap) (sg : ℕ → Seg) (H : Heap) → Expansion W sg H → (op : Op) (k c : ℕ)
-    → ((n : ℕ) → access op W ≡ cell n → sg n .rest ≡ []) → Room (kind op) W k → Room (kind op) H c
-    → Alike (sg-after (kind op) k c sg) (effect op k W) (effect op c H)
+    → Alone (view (action op) W) sg → Room (action op) W k → Room (action op) H c
+    → Alike (sg-after (action op) k c sg) (effect op k W) (effect op c H)
 
 pub expansion-effects : ExpansionEffects
-expansion-effects = effect-alike
+expansion-effects W sg H X op = effect-alike W sg H X (action op)

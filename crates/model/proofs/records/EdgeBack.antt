@@ -1,29 +1,30 @@
 -- Edge records are read back as what they were written from.
 use Prim.Native.Nat.{_%_, _*_, _+_, _-_, _/_, _≤_, suc, zero, ℕ}
-use mathlib.Core.Path.{_∙_, _≡_, ap, ap₂, fun-ext, refl}
+use mathlib.Core.Path.{_∙_, _≡_, ap, ap₂, fun-ext, refl, sym}
 use mathlib.Core.List.{List, [], _++_, _∷_, map}
 use native.Mathlib.Omega.{arith}
 use lib.ListN.{getD, length, replicate}
 use Rattle.model.specs.Base.{joined, numbers}
-use Rattle.model.specs.Edges.{Edge, Guard, Update, always, isMore, isOne}
-use Rattle.model.specs.Records.{byte, edgeRecord, filled, guardBytes, twoBytes, updateCode, word}
-use Rattle.model.specs.Runs.{updatesOf}
+use Rattle.model.specs.Edges.{Edge, Guard, Update, isMore, isOne, Test}
+use Rattle.model.specs.Records.{byte, edgeRecord, filled, guardBytes, twoBytes, updateCode, word, testNumber}
+use Rattle.model.specs.Runs.{updatesOf, guardHolds, guardsHold, guardsOf}
 use Rattle.model.proofs.records.Bytes.{filled-length, word-back}
+use Rattle.model.specs.Notions.{guardsOn, testOn, guardOn}
+use Rattle.model.proofs.lists.Logic.{and-true}
 
-guard-two : (g : Guard) (w : List ℕ) → guardBytes g ++ w ≡ getD (guardBytes g) 0 0 ∷ getD (guardBytes g) 1 0 ∷ w
-guard-two always w = refl
-guard-two (isOne n) w = refl
-guard-two (isMore n) w = refl
+guard-two : (gs : List Guard) (w : List ℕ) → guardBytes gs ++ w ≡ getD (guardBytes gs) 0 0 ∷ getD (guardBytes gs) 1 0 ∷ w
+guard-two [] w = refl
+guard-two (g ∷ gs) w = refl
 
 abbrev updateBytes : Edge → List ℕ
 updateBytes e = joined (map (λ u. twoBytes (updateCode u)) (e .updates))
 
 edge-bytes : (from to : ℕ) (e : Edge)
     → edgeRecord from to e
-    ≡ 0x45 ∷ e .branchNo ∷ from % 256 ∷ from / 256 ∷ to % 256 ∷ to / 256 ∷ getD (guardBytes (e .guard)) 0 0 ∷ getD (guardBytes (e .guard)) 1 0
+    ≡ 0x45 ∷ e .branchNo ∷ from % 256 ∷ from / 256 ∷ to % 256 ∷ to / 256 ∷ getD (guardBytes (e .guards)) 0 0 ∷ getD (guardBytes (e .guards)) 1 0
     ∷ filled 24 (updateBytes e)
 edge-bytes from to e =
-    ap (λ w. 0x45 ∷ e .branchNo ∷ from % 256 ∷ from / 256 ∷ to % 256 ∷ to / 256 ∷ w) (guard-two (e .guard) (filled 24 (updateBytes e)))
+    ap (λ w. 0x45 ∷ e .branchNo ∷ from % 256 ∷ from / 256 ∷ to % 256 ∷ to / 256 ∷ w) (guard-two (e .guards) (filled 24 (updateBytes e)))
 
 updates-length : (us : List Update) → length (joined (map (λ u. twoBytes (updateCode u)) us)) ≡ 2 * length us
 updates-length [] = refl
@@ -43,11 +44,28 @@ edge-from from to e = word-back from
 pub edge-to : (from to : ℕ) (e : Edge) → word (edgeRecord from to e) 4 ≡ to
 edge-to from to e = word-back to
 
-pub edge-guard : (from to : ℕ) (e : Edge) → byte (edgeRecord from to e) 6 ≡ getD (guardBytes (e .guard)) 0 0
+pub edge-guard : (from to : ℕ) (e : Edge) → byte (edgeRecord from to e) 6 ≡ getD (guardBytes (e .guards)) 0 0
 edge-guard from to e = ap (λ r. byte r 6) (edge-bytes from to e)
 
-pub edge-node : (from to : ℕ) (e : Edge) → byte (edgeRecord from to e) 7 ≡ getD (guardBytes (e .guard)) 1 0
+pub edge-node : (from to : ℕ) (e : Edge) → byte (edgeRecord from to e) 7 ≡ getD (guardBytes (e .guards)) 1 0
 edge-node from to e = ap (λ r. byte r 7) (edge-bytes from to e)
+
+-- the guards that are read hold where those that were written do: a record holds one at most
+test-read : (x : Test) (c : ℕ) → guardHolds (testNumber x) c ≡ testOn x c
+test-read isOne c = refl
+test-read isMore c = refl
+
+guards-read : (gs : List Guard) (cs : List ℕ) → length gs ≤ 1
+    → guardHolds (getD (guardBytes gs) 0 0) (getD cs (getD (guardBytes gs) 1 0) 0) ≡ guardsOn gs cs
+guards-read [] cs h = refl
+guards-read (g ∷ []) cs h = test-read (g .test) (getD cs (g .node) 0) ∙ sym (and-true (guardOn cs g))
+guards-read (g ∷ f ∷ gs) cs h = absurd (omega arith)
+
+pub edge-guards : (from to : ℕ) (e : Edge) (cs : List ℕ) → length (e .guards) ≤ 1
+    → guardsHold cs (guardsOf (edgeRecord from to e)) ≡ guardsOn (e .guards) cs
+edge-guards from to e cs h =
+    and-true (guardHolds (byte (edgeRecord from to e) 6) (getD cs (byte (edgeRecord from to e) 7) 0))
+    ∙ ap₂ (λ g d. guardHolds g (getD cs d 0)) (edge-guard from to e) (edge-node from to e) ∙ guards-read (e .guards) cs h
 
 word-skip : (a b : ℕ) (w : List ℕ) (j n : ℕ) → map (λ i. word (a ∷ b ∷ w) (2 * i)) (numbers (suc j) n) ≡ map (λ i. word w (2 * i)) (numbers j n)
 word-skip a b w j zero = refl

@@ -1,28 +1,28 @@
--- What holds of each op, by its number.
-use Prim.Native.Nat.{_≤_, suc, ℕ}
+-- What holds of each op, by its number: one equation of lists says it of all.
+use Prim.Native.Nat.{_<_, ℕ}
 use mathlib.Core.Bool.{false}
-use mathlib.Core.Path.{_≡_, refl, subst, sym}
+use mathlib.Core.Path.{_∙_, _≡_, ap, refl, sym}
+use mathlib.Core.List.{map}
+use native.Mathlib.Nat.{zero-add}
 use native.Mathlib.Omega.{arith}
-use borrow.Author.Tests.{eqb-false}
-use Rattle.model.specs.Machine.{kind}
-use Rattle.model.specs.Records.{opOf}
-use Rattle.model.specs.Runs.{isStop}
-use Rattle.model.proofs.lists.Logic.{eq-case}
+use lib.ListN.{List·getD-map, getD}
+use borrow.Author.Tests.{ne-eqb}
+use Rattle.model.specs.Base.{numbers}
+use Rattle.model.specs.Machine.{Op, isStop, kind, stop}
+use Rattle.model.specs.Records.{isZero, opCount, opOf, opsBy}
+use Rattle.model.proofs.lists.Lists.{getD-map}
+use Rattle.model.proofs.lists.Numbers.{at-number, length-numbers}
 
--- what holds of the numbers up to n and of the next holds of those up to the next
-next-op : (P : ℕ → Type 0) (n : ℕ) → ((k : ℕ) → k ≤ n → P k) → P (suc n) → (k : ℕ) → k ≤ suc n → P k
-next-op P n f a k h = eq-case k (suc n) (λ e. subst P (sym e) a) (λ e. f k (omega (arith, eqb-false k (suc n) e)))
-
-pub each-op : (P : ℕ → Type 0) → P 0 → P 1 → P 2 → P 3 → P 4 → P 5 → P 6 → P 7 → P 8 → P 9 → P 10 → P 11
-    → (op : ℕ) → op ≤ 11 → P op
-each-op P a b c d e f g h i j k l =
-    let p0 : (n : ℕ) → n ≤ 0 → P n = λ n q. subst P (omega arith) a in
-    let p4 : (n : ℕ) → n ≤ 4 → P n = next-op P 3 (next-op P 2 (next-op P 1 (next-op P 0 p0 b) c) d) e in
-    let p8 : (n : ℕ) → n ≤ 8 → P n = next-op P 7 (next-op P 6 (next-op P 5 (next-op P 4 p4 f) g) h) i in
-    next-op P 10 (next-op P 9 (next-op P 8 p8 j) k) l
+pub each-op : {A : Type 0} (f : Op → A) (g : ℕ → A) (u w : ℕ) → map f (opsBy u w) ≡ map g (numbers 0 opCount) → (op : ℕ) → op < opCount
+    → f (opOf op u w) ≡ g op
+each-op f g u w e op h =
+    sym (List·getD-map f (opsBy u w) op stop) ∙ ap (λ l. getD l op (f stop)) e
+    ∙ getD-map g (numbers 0 opCount) op 0 (f stop) (let l = length-numbers 0 opCount in omega arith)
+    ∙ ap g (at-number 0 opCount op 0 h ∙ zero-add op)
 
 -- op 0 alone stops
-pub op-goes : (op u w : ℕ) → op ≤ 11 → (op ≡ 0 → ⊥) → isStop (kind (opOf op u w)) ≡ false
-op-goes op u w m =
-    each-op (λ k. (k ≡ 0 → ⊥) → isStop (kind (opOf k u w)) ≡ false) (λ z. absurd (z refl)) (λ z. refl) (λ z. refl) (λ z. refl) (λ z. refl) (λ z. refl)
-    (λ z. refl) (λ z. refl) (λ z. refl) (λ z. refl) (λ z. refl) (λ z. refl) op m
+pub op-stops : (op u w : ℕ) → op < opCount → isStop (kind (opOf op u w)) ≡ isZero op
+op-stops op u w = each-op (λ o. isStop (kind o)) isZero u w refl op
+
+pub op-goes : (op u w : ℕ) → op < opCount → (op ≡ 0 → ⊥) → isStop (kind (opOf op u w)) ≡ false
+op-goes op u w h z = op-stops op u w h ∙ ne-eqb op 0 z

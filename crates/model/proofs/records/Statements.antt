@@ -1,5 +1,5 @@
 -- Statement records: how a statement is written, that it is read back, and that an accepted record is written again as it stood.
-use Prim.Native.Nat.{_<_, _≤_, ℕ}
+use Prim.Native.Nat.{_<_, ℕ}
 use Rattle.model.proofs.records.Checks.{none-failed}
 use Rattle.model.specs.Notions.{Pass}
 use mathlib.Core.Path.{_∙_, _≡_, ap, refl, sym}
@@ -7,16 +7,16 @@ use mathlib.Core.Bool.{Bool, _&&_, false, true}
 use mathlib.Core.List.{List, [], _∷_}
 use native.Mathlib.Omega.{arith}
 use lib.ListN.{drop, length, replicate}
-use borrow.Author.Tests.{eqb-true, ltb-true, leb-true}
+use borrow.Author.Tests.{eqb-true, ltb-true}
 use Rattle.model.specs.Base.{all}
 use Rattle.model.specs.Machine.{Op, Stmt, choose, clear, copy, free, isNull, load, new, same, setNull, skip, stop, store}
-use Rattle.model.specs.Records.{byte, fieldsS, isS, isZero, opOf, pointerField, refusalS, stmtOf, targetField, usesFirst, usesSecond, usesU, usesW, checksS}
+use Rattle.model.specs.Records.{byte, fieldsS, isS, isZero, opOf, pointerField, refusalS, stmtOf, targetField, usesFirst, usesSecond, usesU, usesW, checksS, opCount}
 use Rattle.model.proofs.records.Bytes.{all-zero}
-use Rattle.model.specs.Listings.{UnusedZero, field, opNumber, pointerU, pointerW, stmtRecord}
+use Rattle.model.specs.Listings.{UnusedZero, field, stmtRecord, opFields, fieldsOf, OpFields}
 use Rattle.model.proofs.lists.Logic.{and-l, and-r, clash}
 use Rattle.model.proofs.records.Ops.{each-op}
 
-op-back : (op : Op) → opOf (opNumber op) (pointerU op) (pointerW op) ≡ op
+op-back : (op : Op) → (let o = opFields op in opOf (o .number) (o .u) (o .w)) ≡ op
 op-back stop = refl
 op-back (setNull u) = refl
 op-back (copy u w) = refl
@@ -37,7 +37,7 @@ field-same false b h = sym (h refl)
 -- a statement is read back from its record
 pub statement-back : (st : Stmt) → UnusedZero st → stmtOf (stmtRecord st) ≡ st
 statement-back st z =
-    let n = opNumber (st .op) in
+    let n = opFields (st .op) .number in
     λ i. record {
       op = op-back (st .op) i;
       firstTarget = field-same (usesFirst n) (st .firstTarget) (z .first) i;
@@ -45,13 +45,8 @@ statement-back st z =
     }
 
 -- what an op number is read as
-abbrev OpRead : ℕ → ℕ → ℕ → Type 0
-OpRead n u w =
-    (opNumber (opOf n u w) ≡ n) × (pointerU (opOf n u w) ≡ field (usesU n) u) × (pointerW (opOf n u w) ≡ field (usesW n) w)
-
-op-read : (n u w : ℕ) → n ≤ 11 → OpRead n u w
-op-read n u w = each-op (λ k. OpRead k u w) (refl, refl, refl) (refl, refl, refl) (refl, refl, refl) (refl, refl, refl) (refl, refl, refl) (refl, refl, refl)
-    (refl, refl, refl) (refl, refl, refl) (refl, refl, refl) (refl, refl, refl) (refl, refl, refl) (refl, refl, refl) n
+op-read : (n u w : ℕ) → n < opCount → opFields (opOf n u w) ≡ fieldsOf n (field (usesU n) u) (field (usesW n) w)
+op-read n u w = each-op opFields (λ m. fieldsOf m (field (usesU m) u) (field (usesW m) w)) u w refl n
 
 pointer-zero : (used : Bool) (b : ℕ) → pointerField used b ≡ true → used ≡ false → b ≡ 0
 pointer-zero true b h e = clash refl e
@@ -90,12 +85,12 @@ pointer-low true b h = ltb-true b 6 h
 pointer-low false b h = omega (arith, eqb-true b 0 h)
 
 -- the op and the pointers of an accepted S record
-pub statement-fields : (n : ℕ) (r : List ℕ) → refusalS n r ≡ 0 → (byte r 1 ≤ 11) × (byte r 2 < 6) × (byte r 3 < 6)
+pub statement-fields : (n : ℕ) (r : List ℕ) → refusalS n r ≡ 0 → (byte r 1 < opCount) × (byte r 2 < 6) × (byte r 3 < 6)
 statement-fields n r e =
     let op = byte r 1 in
     let q = passed-s n r e in
     let f = fields-hold r (q .1 .0) in
-    (leb-true op 11 (q .0), pointer-low (usesU op) (byte r 2) (f .0), pointer-low (usesW op) (byte r 3) (f .1))
+    (ltb-true op opCount (q .0), pointer-low (usesU op) (byte r 2) (f .0), pointer-low (usesW op) (byte r 3) (f .1))
 
 -- ---- a record is written again as it stood
 
@@ -105,15 +100,16 @@ record-of n op u w f g z l e =
     let r : List ℕ = 0x53 ∷ op ∷ u ∷ w ∷ f ∷ g ∷ z in
     let q = passed-s n r e in
     let t = fields-hold r (q .1 .0) in
-    let o = op-read op u w (leb-true op 11 (q .0)) in
-    let pu = o .1 ∙ field-same (usesU op) u (pointer-zero (usesU op) u (t .0)) in
-    let pw = o .2 ∙ field-same (usesW op) w (pointer-zero (usesW op) w (t .1)) in
-    let pf : field (usesFirst (opNumber (opOf op u w))) f ≡ f =
-    ap (λ m. field (usesFirst m) f) (o .0) ∙ field-same (usesFirst op) f (target-zero (usesFirst op) f (t .2)) in
-    let pg : field (usesSecond (opNumber (opOf op u w))) g ≡ g =
-    ap (λ m. field (usesSecond m) g) (o .0) ∙ field-same (usesSecond op) g (target-zero (usesSecond op) g (t .3)) in
+    let o = op-read op u w (ltb-true op opCount (q .0)) in
+    let on = ap (λ (x : OpFields). x .number) o in
+    let pu = ap (λ (x : OpFields). x .u) o ∙ field-same (usesU op) u (pointer-zero (usesU op) u (t .0)) in
+    let pw = ap (λ (x : OpFields). x .w) o ∙ field-same (usesW op) w (pointer-zero (usesW op) w (t .1)) in
+    let pf : field (usesFirst (opFields (opOf op u w) .number)) f ≡ f =
+    ap (λ m. field (usesFirst m) f) on ∙ field-same (usesFirst op) f (target-zero (usesFirst op) f (t .2)) in
+    let pg : field (usesSecond (opFields (opOf op u w) .number)) g ≡ g =
+    ap (λ m. field (usesSecond m) g) on ∙ field-same (usesSecond op) g (target-zero (usesSecond op) g (t .3)) in
     let pz : replicate 26 0 ≡ z = ap (λ m. replicate m 0) (sym l) ∙ sym (all-zero z (t .4)) in
-    λ i. 0x53 ∷ o .0 i ∷ pu i ∷ pw i ∷ pf i ∷ pg i ∷ pz i
+    λ i. 0x53 ∷ on i ∷ pu i ∷ pw i ∷ pf i ∷ pg i ∷ pz i
 
 -- an accepted statement record is what its statement is written as
 pub record-back : (n : ℕ) (r : List ℕ) → length r ≡ 32 → isS r ≡ true → refusalS n r ≡ 0 → stmtRecord (stmtOf r) ≡ r

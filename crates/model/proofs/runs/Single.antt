@@ -18,7 +18,7 @@ use Rattle.model.proofs.records.Checked.{GoodStarts}
 use Rattle.model.proofs.listings.Exact.{LinkGood, edge-listed}
 use Rattle.model.proofs.ways.Leave.{Fit, MatchIn, begin}
 use Rattle.model.specs.Listings.{Exact, linkAt, linkOf, linksFrom, locAt}
-use Rattle.model.specs.Notions.{In, Pairs, Exclude, guardOn, worth}
+use Rattle.model.specs.Notions.{In, Pairs, Exclude, worth, guardsOn}
 use Rattle.model.proofs.lists.Lists.{in-getD, in-map, pairs-at, pairs-joined, pairs-map, pairs-mono, some-none}
 use Rattle.model.proofs.ways.Location.{leave-backward, leave-forward}
 use Rattle.model.proofs.lists.Logic.{bool-case, eq-case}
@@ -92,7 +92,7 @@ module _ (r : Routine) (t : Listing) (X : Exact r t) (G : GoodStarts r) (a b : �
           let k = linkAt t n in
           let ed : k .edge ≡ E = ap (λ (z : Link). z .edge) (P .2) in
           let L = link-facts r t X G a b n (P .1) in
-          let on : guardOn (k .edge .guard) (c .values) ≡ true = ap₂ (λ (z : Edge) cs. guardOn (z .guard) cs) ed (m .1) ∙ F .2 in (
+          let on : guardsOn (k .edge .guards) (c .values) ≡ true = ap₂ (λ (z : Edge) cs. guardsOn (z .guards) cs) ed (m .1) ∙ F .2 in (
             n,
             by-link c k,
             move-of r t X G a b n c (P .1) (ap (λ (z : Link). z .from) (P .2)) on,
@@ -109,7 +109,7 @@ module _ (r : Routine) (t : Listing) (X : Exact r t) (G : GoodStarts r) (a b : �
       → (x : Advance State) × (stepOf sts q e ≡ some x) × (x .branchNo ≡ y .branchNo) × Both (x .after) (y .after)
   backward q c B n y p e pk u = by-status (q .status) (B .0)
     where
-      M : (n < length (t .links)) × (linkAt t n .from ≡ c .loc) × (guardOn (linkAt t n .edge .guard) (c .values) ≡ true) × (y ≡ by-link c (linkAt t n))
+      M : (n < length (t .links)) × (linkAt t n .from ≡ c .loc) × (guardsOn (linkAt t n .edge .guards) (c .values) ≡ true) × (y ≡ by-link c (linkAt t n))
       M = move-some r t X G a b n c y p
 
       L : LinkGood sts t (linkAt t n)
@@ -124,7 +124,7 @@ module _ (r : Routine) (t : Listing) (X : Exact r t) (G : GoodStarts r) (a b : �
       by-status running m =
           let k = linkAt t n in
           let F = leave-backward (q .stmt) (stmtAt sts (q .stmt)) (q .heap) (m .2) (m .3) (k .edge) (subst (λ l. In (k .edge) (edgesOf sts l)) (m .0) inEdges)
-          (ap (guardOn (k .edge .guard)) (sym (m .1)) ∙ M .2) e (pk ∙ ap (λ (z : Advance Config). z .branchNo) (M .3)) u in (
+          (ap (guardsOn (k .edge .guards)) (sym (m .1)) ∙ M .2) e (pk ∙ ap (λ (z : Advance Config). z .branchNo) (M .3)) u in (
             F .0,
             sym (made-begin q (step (stmtAt sts (q .stmt)) e (q .heap))) ∙ F .1,
             F .2 ∙ ap (λ (z : Advance Config). z .branchNo) (sym (M .3)),

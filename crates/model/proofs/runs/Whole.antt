@@ -8,15 +8,15 @@ use native.Mathlib.Omega.{arith}
 use lib.ListN.{List·getD-eq-default, length}
 use Rattle.model.specs.Edges.{Edge, Loc, edgesOf, stmtAt}
 use Rattle.model.specs.Heap.{Heap, inUse, next, unused}
-use Rattle.model.specs.Machine.{Effect, Entry, Stmt, accepts, answerOf, branch, done, fault, kind, carryOut, step}
+use Rattle.model.specs.Machine.{Effect, Entry, Stmt, accepts, answerOf, branch, done, fault, carryOut, step, isStop, kind, action}
 use Rattle.model.specs.Records.{byte, locRecord, shapeOf}
-use Rattle.model.specs.Runs.{Config, DescribesIn, Forced, Match, Matched, Matching, Paired, State, Status, Advance, Supply, AreUnused, afterEntry, ended, endedIn, faultOf, fed, final, isStop, leaves, made, moveOf, past, running, stepOf, trace}
+use Rattle.model.specs.Runs.{Config, DescribesIn, Forced, Match, Matched, Matching, Paired, State, Status, Advance, Supply, AreUnused, afterEntry, ended, endedIn, faultOf, fed, final, leaves, made, moveOf, past, running, stepOf, trace}
 use Rattle.model.specs.Shape.{shape}
 use Rattle.model.specs.Translate.{Link, Listing, Routine, Tables, tablesOf}
 use Rattle.model.proofs.records.Checked.{GoodStarts}
 use Rattle.model.proofs.listings.Exact.{edge-listed}
 use Rattle.model.proofs.expansion.Facts.{is-heap}
-use Rattle.model.proofs.ways.Leave.{MatchIn, accept-room, begin}
+use Rattle.model.proofs.ways.Leave.{MatchIn, begin}
 use Rattle.model.specs.Listings.{Exact, WritableLoc, linkAt, linkOf, locAt, noLink}
 use Rattle.model.specs.Notions.{In}
 use Rattle.model.proofs.lists.Lists.{in-getD}
@@ -26,7 +26,7 @@ use Rattle.model.proofs.listings.Moves.{good-writable, leaves-link, lin
 use Rattle.model.proofs.records.ReadBack.{location-shape}
 use Rattle.model.proofs.runs.Single.{Both, backward, forward, only-one}
 use Rattle.model.proofs.expansion.Step.{step-go}
-use Rattle.model.proofs.ways.Ways.{room-of}
+use Rattle.model.proofs.ways.Picks.{room-of, accept-room}
 
 module _ (r : Routine) (t : Listing) (X : Exact r t) (G : GoodStarts r) (a b : ℕ) where
   abbrev sts : List Stmt
@@ -39,7 +39,7 @@ module _ (r : Routine) (t : Listing) (X : Exact r t) (G : GoodStarts r) (a b : �
   Fits q c = Both r t X G a b q c
 
   -- no edge leaves the location exactly when the routine is at a stop or past a fault
-  some-step : (s : ℕ) (st : Stmt) (e : Entry) (h : Heap) → isStop (kind (st .op)) ≡ false → accepts (kind (st .op)) e h ≡ true
+  some-step : (s : ℕ) (st : Stmt) (e : Entry) (h : Heap) → isStop (kind (st .op)) ≡ false → accepts (st .op) e h ≡ true
       → (x : Advance State) × (made (begin s h) (step st e h) ≡ some x)
   some-step s st e h g ac = rw (step-go st e h g ac) (by-run (carryOut (st .op) (e .cellNo) h))
     where
@@ -77,8 +77,8 @@ module _ (r : Routine) (t : Listing) (X : Exact r t) (G : GoodStarts r) (a b : �
           clash z (edge-goes (q .stmt) (length (shape H .slots)) (w .0) st (k .0) (w .2)))))
           (λ z. rw z
           (let e : Entry = record { pick = 0; cellNo = length (H .slots) } in
-          let x = some-step (q .stmt) st e H z (accept-room (kind (st .op)) e H
-          (room-of (kind (st .op)) H (length (H .slots)) (List·getD-eq-default (H .slots) unused (omega arith))) (omega arith)) in
+          let x = some-step (q .stmt) st e H z (accept-room (st .op) e H
+          (room-of (action (st .op)) H (length (H .slots)) (List·getD-eq-default (H .slots) unused (omega arith))) (λ q. omega arith)) in
           let F = leave-forward (q .stmt) st H (m .2) (m .3) e (x .0) (x .1) in
           in-leaves (c .loc) (F .0) (subst (λ l. In (F .0) (edgesOf sts l)) (sym (m .0)) (F .1))))
 

@@ -7,21 +7,20 @@ use mathlib.Core.Bool.{false, true}
 use mathlib.Core.List.{List, [], _∷_, map}
 use native.Mathlib.Omega.{arith}
 use lib.ListN.{length, length-map}
-use borrow.Author.Tests.{le-leb}
 use Rattle.model.specs.Base.{sum}
 use Rattle.model.specs.Edges.{Edge, Loc, Update, Way, Weight, at, edgeBy, failed, stepBy, updateOf}
-use Rattle.model.specs.Heap.{Heap, inUse, next}
-use Rattle.model.specs.Machine.{Answer, Effect, Entry, Kind, Stmt, accepts, allocates, answerOf, branch, done, fault, faulted, kind, other, picks, refused, carryOut, step, stopped, stops, went}
-use Rattle.model.specs.Runs.{State, Status, Advance, isStop, made, past, running, taken}
+use Rattle.model.specs.Heap.{Heap, next}
+use Rattle.model.specs.Machine.{Answer, Effect, Entry, Stmt, accepts, answerOf, branch, done, fault, faulted, refused, carryOut, step, stopped, went, isStop, kind, action}
+use Rattle.model.specs.Runs.{State, Status, Advance, made, past, running, taken}
 use Rattle.model.specs.Shape.{Seg, cells, counters, foldBy, last, nodeSlot, segments, shape, size}
-use Rattle.model.proofs.expansion.Facts.{unused-of}
 use Rattle.model.proofs.expansion.Folds.{Alls, counters-grow, fold-same, large-closed}
-use Rattle.model.specs.Notions.{Kept, Room, SmallEdge, SmallUpdates, sg-after, total, worth, ClosedHeap}
-use Rattle.model.proofs.lists.Logic.{bool-case, clash}
-use Rattle.model.proofs.ways.Sizes.{Neat, Short, neat, run-short}
+use Rattle.model.specs.Notions.{Kept, SmallEdge, SmallUpdates, sg-after, total, worth, ClosedHeap}
+use Rattle.model.proofs.ways.Sizes.{Neat, neat, run-short}
 use Rattle.model.proofs.expansion.Step.{Agree, fault-alike, step-agree, step-go, went-alike}
 use Rattle.model.proofs.ways.Ways.{Fits, count-length}
 use Rattle.model.proofs.ways.Weights.{Fair, update-small, update-value, weigh}
+use Rattle.model.proofs.expansion.Kinds.{Short}
+use Rattle.model.proofs.ways.Picks.{accept-room, room-accept}
 
 -- the match of a state with a location and counters
 abbrev pub MatchIn : Status → ℕ → Heap → Loc → List ℕ → Type 0
@@ -71,18 +70,20 @@ pub record Landed (q : State) (a : Answer) (E : Edge) (cs : List ℕ) : Type 0 w
   pub branches : taken .branchNo ≡ E .branchNo
   pub fits : Fit (taken .after) (E .to) (map (worth cs) (E .updates))
 
-landed : (s k : ℕ) (y : Way) (H : Heap) (cs : List ℕ) (sg : ℕ → Seg) (a b : Answer) → length cs ≡ k → Fair k cs (y .weight)
+landed : (s k : ℕ) (y : Way) (H : Heap) (cs : List ℕ) (sg : ℕ → Seg) (a b : Answer) → length (y .guards) ≤ 1 → length cs ≡ k
+    → Fair k cs (y .weight)
     → ((i : ℕ) → size (sg i) ≡ weigh cs ((y .weight) i))
-    → Agree sg a b → ShortAnswer (suc k) a → (E : Edge) × (edgeBy s k y a ≡ E ∷ []) × (E .guard ≡ y .guard) × Landed (begin s H) b E cs × SmallEdge k E
-landed s k y H cs sg a b len F h (fault-alike {f = f}) sh = (
-  record { branchNo = 0; guard = y .guard; to = failed s f; updates = [] },
+    → Agree sg a b → ShortAnswer (suc k) a
+    → (E : Edge) × (edgeBy s k y a ≡ E ∷ []) × (E .guards ≡ y .guards) × Landed (begin s H) b E cs × SmallEdge k E
+landed s k y H cs sg a b gd len F h (fault-alike {f = f}) sh = (
+  record { branchNo = 0; guards = y .guards; to = failed s f; updates = [] },
   refl,
   refl,
   record { taken = record { branchNo = 0; after = record { stmt = s; status = past f; heap = H } }; isMade = refl; branches = refl; fits = (refl, refl) },
-  record { number = refl; small = λ u i. absurd i },
+  record { number = refl; guarded = gd; small = λ u i. absurd i },
 )
-landed s k y H cs sg a b len F h (went-alike {b = c} {t = t} {W = W′} {H = H′} X kp) sh = (
-  record { branchNo = c; guard = y .guard; to = at t (foldBy (segments W′) W′); updates = map (updateOf k (y .weight)) (segments W′) },
+landed s k y H cs sg a b gd len F h (went-alike {b = c} {t = t} {W = W′} {H = H′} X kp) sh = (
+  record { branchNo = c; guards = y .guards; to = at t (foldBy (segments W′) W′); updates = map (updateOf k (y .weight)) (segments W′) },
   refl,
   refl,
   record {
@@ -98,37 +99,31 @@ landed s k y H cs sg a b len F h (went-alike {b = c} {t = t} {W = W′} {H = H�
   },
   record {
     number = length-map (segments W′) (updateOf k (y .weight)) ∙ sym (length-map (segments W′) (λ (g : Seg). nodeSlot (segments W′) (next W′ (last g))));
+    guarded = gd;
     small = smalls k cs (y .weight) len F (segments W′) (neat (suc k) W′ (X .closed, X .body .closed) sh);
   },
 )
 
--- accepted entries
-room-accept : (kd : Kind) (e : Entry) (h : Heap) → accepts kd e h ≡ true → Room kd h (e .cellNo)
-room-accept stops e h a = tt
-room-accept picks e h a = tt
-room-accept allocates e h a = bool-case (inUse (next h (e .cellNo))) (λ u. clash (rw u at a) refl) (λ u. unused-of (next h (e .cellNo)) u)
-room-accept other e h a = tt
-
-pub accept-room : (kd : Kind) (e : Entry) (h : Heap) → Room kd h (e .cellNo) → e .pick ≤ 1 → accepts kd e h ≡ true
-accept-room stops e h r p = refl
-accept-room picks e h r p = le-leb (e .pick) 1 p
-accept-room allocates e h r p = rw r
-accept-room other e h r p = refl
-
--- the step of a way that fits, beside the step of an entry
+-- the edge of a way beside the step of an entry
 module _ (s : ℕ) (st : Stmt) (H : Heap) (cl : ClosedHeap H) (kp : Kept H) where
-  abbrev k-of : ℕ
-  k-of = length (shape H .slots)
+  abbrev nodes : ℕ
+  nodes = length (shape H .slots)
 
-  pub way-lands : (y : Way) (e : Entry) → isStop (kind (st .op)) ≡ false → Fits (st .op) k-of (e .cellNo) y H (counters H) → y .pick ≤ 1
-      → accepts (kind (st .op)) e H ≡ true
-      → branch (st .op) (e .pick) H ≡ branch (st .op) (y .pick) (y .heap)
-      → (E : Edge) × (edgeBy s k-of y (stepBy st k-of y) ≡ E ∷ []) × (E .guard ≡ y .guard) × Landed (begin s H) (step st e H) E (counters H) × SmallEdge k-of E
-  way-lands y e g F p a b =
-      let d : Entry = record { pick = y .pick; cellNo = k-of } in
-      let aw : accepts (kind (st .op)) d (y .heap) ≡ true = accept-room (kind (st .op)) d (y .heap) (F .room) p in
-      landed s k-of y H (counters H) (sg-after (kind (st .op)) k-of (e .cellNo) (F .sg)) (stepBy st k-of y) (step st e H) (count-length H cl kp) (F .fair)
-      (F .weighs)
-      (step-agree st d e (y .heap) (F .sg) H (F .expansion) g aw a (F .single) (F .room) (room-accept (kind (st .op)) e H a) b)
-      (rw (step-go st d (y .heap) g aw) (answer-short (suc k-of) st (branch (st .op) (y .pick) (y .heap)) (carryOut (st .op) k-of (y .heap))
-      (run-short (st .op) k-of (suc k-of) (y .heap) (F .expansion .closed, F .expansion .body .closed) (F .short) (omega arith))))
+  abbrev pub Lands : Way → Entry → Type 0
+  Lands y e = (E : Edge) × (edgeBy s nodes y (stepBy st nodes y) ≡ E ∷ []) × (E .guards ≡ y .guards)
+      × Landed (begin s H) (step st e H) E (counters H) × SmallEdge nodes E
+
+  -- a way that fits
+  pub fits-lands : (y : Way) (e : Entry) → isStop (kind (st .op)) ≡ false
+      → Fits (action (st .op)) nodes (e .cellNo) y H (counters H) → y .pick ≤ 1 → length (y .guards) ≤ 1
+      → accepts (st .op) e H ≡ true → branch (st .op) (e .pick) H ≡ branch (st .op) (y .pick) (y .heap) → Lands y e
+  fits-lands y e g F p gd ac b =
+      let a = action (st .op) in
+      let d : Entry = record { pick = y .pick; cellNo = nodes } in
+      let aw : accepts (st .op) d (y .heap) ≡ true = accept-room (st .op) d (y .heap) (F .room) (λ q. p) in
+      landed s nodes y H (counters H) (sg-after a nodes (e .cellNo) (F .sg)) (stepBy st nodes y) (step st e H) gd
+      (count-length H cl kp) (F .fair) (F .weighs)
+      (step-agree st d e (y .heap) (F .sg) H (F .expansion) g aw ac (F .alone) (F .room) (room-accept (st .op) e H ac) b)
+      (rw (step-go st d (y .heap) g aw)
+      (answer-short (suc nodes) st (branch (st .op) (y .pick) (y .heap)) (carryOut (st .op) nodes (y .heap))
+      (run-short (st .op) nodes (suc nodes) (y .heap) (F .expansion .closed, F .expansion .body .closed) (F .short) (omega arith))))

@@ -7,91 +7,104 @@ use native.Mathlib.Omega.{arith}
 use lib.Dec.{eqb}
 use lib.ListN.{List·getD-eq-default, List·getD-map, getD, length, length-map}
 use borrow.Author.Tests.{eqb-false, eqb-true}
-use Rattle.model.specs.Edges.{Guard, Way, Weight, access, addsCounter, counter, isOne, isOneCell, isLess, one, less, split, splitHeap, whole}
-use Rattle.model.specs.Heap.{Heap, Val, cell, next, null, unused}
-use Rattle.model.specs.Machine.{Kind, Op, allocates, branch, choose, clear, copy, free, isNull, kind, load, new, other, picks, same, setNull, skip, stop, stops, store}
+use Rattle.model.specs.Edges.{Guard, Way, Weight, addsCounter, counter, isOneCell, isLess, one, less, split, splitHeap, whole, noNode, view, oneNode, View, viewVal}
+use Rattle.model.specs.Heap.{Heap, Val, cell, next, null, unused, Slot, undef, ptr}
+use Rattle.model.specs.Machine.{picks, Kind, Action, actionOf, acceptsCell, point, acts, follow, ifNull, link, ifSame, make, release, halts, stay}
 use Rattle.model.specs.Shape.{Seg, counters, last, nodeSlot, segments, shape, size}
 use Rattle.model.proofs.shapes.Canon.{single}
 use Rattle.model.proofs.expansion.Effects.{closed-ptr, exp-split}
-use Rattle.model.specs.Notions.{Kept, Expansion, Room, segAt, sg-after, upd, AllClosed, Closed, ClosedHeap, Used, seg}
+use Rattle.model.specs.Notions.{Kept, Expansion, Room, segAt, sg-after, upd, AllClosed, Closed, ClosedHeap, Used, seg, Alone}
 use Rattle.model.proofs.lists.Logic.{bool-case, clash, eq-case, eqb-same}
 use Rattle.model.proofs.visits.Order.{used-below}
 use Rattle.model.proofs.ways.Sizes.{split-short}
 use Rattle.model.proofs.expansion.Start.{start}
 use Rattle.model.proofs.ways.Weights.{Fair, weigh}
 use Rattle.model.proofs.expansion.Writes.{upd-at, upd-off}
+use Rattle.model.proofs.ways.Picks.{room-of}
 
--- A way fits a heap: the heap expands the way's, the node that is read, written or freed is one cell, and the weights are the chains' sizes.
--- k is the number of nodes and the cell for new on the shape, c the cell for new on the heap.
-pub record Fits (op : Op) (k c : ℕ) (y : Way) (H : Heap) (cs : List ℕ) : Type 0 where
+-- A way fits a heap: the heap expands the way's, each node that is read, written or freed is one cell, and the weights are the
+-- chains' sizes. k is the number of nodes and the cell for new on the shape, c the cell for new on the heap.
+pub record Fits (a : Action) (k c : ℕ) (y : Way) (H : Heap) (cs : List ℕ) : Type 0 where
   pub sg : ℕ → Seg
   pub expansion : Expansion (y .heap) sg H
-  pub single : (n : ℕ) → access op (y .heap) ≡ cell n → sg n .rest ≡ []
-  pub room : Room (kind op) (y .heap) k
-  pub weighs : (i : ℕ) → size (sg-after (kind op) k c sg i) ≡ weigh cs ((y .weight) i)
+  pub alone : Alone (view a (y .heap)) sg
+  pub room : Room a (y .heap) k
+  pub weighs : (i : ℕ) → size (sg-after a k c sg i) ≡ weigh cs ((y .weight) i)
   pub short : length (y .heap .slots) ≤ suc k
   pub fair : Fair k cs (y .weight)
 
-pub no-access {ℓ} : {C : Type ℓ} {n : ℕ} → _≡_ {A = Val} null (cell n) → C
-no-access {n} e = absurd (let z : _≡_ {A = ℕ} 0 1 = cc in omega arith)
+-- ---- what a statement looks at
 
--- an op that reads, writes or frees through a node has no other say
-pub access-facts : (op : Op) (h : Heap) (n : ℕ) → access op h ≡ cell n → (kind op ≡ other) × ((p : ℕ) (g : Heap) → branch op p g ≡ 0)
-access-facts stop h n e = no-access e
-access-facts (setNull u) h n e = no-access e
-access-facts (copy u w) h n e = no-access e
-access-facts (load u w) h n e = (refl, λ p g. refl)
-access-facts (clear u) h n e = (refl, λ p g. refl)
-access-facts (store u w) h n e = (refl, λ p g. refl)
-access-facts (new u) h n e = no-access e
-access-facts (free u) h n e = (refl, λ p g. refl)
-access-facts (isNull u) h n e = no-access e
-access-facts (same u w) h n e = no-access e
-access-facts choose h n e = no-access e
-access-facts skip h n e = no-access e
+pub no-view {ℓ} : {C : Type ℓ} {n : ℕ} → noNode ≡ oneNode n → C
+no-view {n} e = absurd (let z : _≡_ {A = ℕ} 0 1 = cc in omega arith)
 
-pub access-closed : (h : Heap) (op : Op) → AllClosed (next h) (h .ptrs) → Closed (next h) (access op h)
-access-closed h stop k = tt
-access-closed h (setNull u) k = tt
-access-closed h (copy u w) k = tt
-access-closed h (load u w) k = closed-ptr (next h) (h .ptrs) w k
-access-closed h (clear u) k = closed-ptr (next h) (h .ptrs) u k
-access-closed h (store u w) k = closed-ptr (next h) (h .ptrs) u k
-access-closed h (new u) k = tt
-access-closed h (free u) k = closed-ptr (next h) (h .ptrs) u k
-access-closed h (isNull u) k = tt
-access-closed h (same u w) k = tt
-access-closed h choose k = tt
-access-closed h skip k = tt
+-- a statement that looks at a node acts, and has no other say
+pub view-acts : (k : Kind) (h : Heap) (n : ℕ) → view (actionOf k) h ≡ oneNode n → (a : Action) × (k ≡ acts a)
+view-acts halts h n e = no-view e
+view-acts (acts a) h n e = (a, refl)
+view-acts (ifNull u) h n e = no-view e
+view-acts (ifSame u w) h n e = no-view e
+view-acts picks h n e = no-view e
+
+pub acts-no-pick : (a : Action) → acts a ≡ picks → ⊥
+acts-no-pick a e = let z : _≡_ {A = ℕ} 0 1 = cc in omega arith
+
+pub record Looks (a : Action) : Type 0 where
+  pub takes : (s : Slot) → acceptsCell a s ≡ true
+  pub roomy : (h : Heap) (c : ℕ) → Room a h c
+  pub chains : (k c : ℕ) (sg : ℕ → Seg) → sg-after a k c sg ≡ sg
+
+pub view-looks : (a : Action) (h : Heap) (n : ℕ) → view a h ≡ oneNode n → Looks a
+view-looks stay h n e = no-view e
+view-looks (point u s) h n e = no-view e
+view-looks (follow u w) h n e = record { takes = λ s. refl; roomy = λ h c. tt; chains = λ k c sg. refl }
+view-looks (link u s) h n e = record { takes = λ s. refl; roomy = λ h c. tt; chains = λ k c sg. refl }
+view-looks (make u) h n e = no-view e
+view-looks (release u) h n e = record { takes = λ s. refl; roomy = λ h c. tt; chains = λ k c sg. refl }
+
+-- each node that is looked at is in use
+abbrev pub ClosedView : (ℕ → Slot) → View → Type 0
+ClosedView nx noNode = Unit {0}
+ClosedView nx (oneNode n) = Used nx n
+
+view-val : (nx : ℕ → Slot) (v : Val) → Closed nx v → ClosedView nx (viewVal v)
+view-val nx (cell n) k = k
+view-val nx null k = tt
+view-val nx undef k = tt
+
+pub view-closed : (a : Action) (h : Heap) → AllClosed (next h) (h .ptrs) → ClosedView (next h) (view a h)
+view-closed stay h k = tt
+view-closed (point u s) h k = tt
+view-closed (follow u w) h k = view-val (next h) (ptr h w) (closed-ptr (next h) (h .ptrs) w k)
+view-closed (link u s) h k = view-val (next h) (ptr h u) (closed-ptr (next h) (h .ptrs) u k)
+view-closed (make u) h k = tt
+view-closed (release u) h k = view-val (next h) (ptr h u) (closed-ptr (next h) (h .ptrs) u k)
 
 -- the pointers alone decide
-pub access-same : (op : Op) (n k : ℕ) (h : Heap) → access op (splitHeap n k h) ≡ access op h
-access-same stop n k h = refl
-access-same (setNull u) n k h = refl
-access-same (copy u w) n k h = refl
-access-same (load u w) n k h = refl
-access-same (clear u) n k h = refl
-access-same (store u w) n k h = refl
-access-same (new u) n k h = refl
-access-same (free u) n k h = refl
-access-same (isNull u) n k h = refl
-access-same (same u w) n k h = refl
-access-same choose n k h = refl
-access-same skip n k h = refl
+pub view-split : (a : Action) (n k : ℕ) (h : Heap) → view a (splitHeap n k h) ≡ view a h
+view-split stay n k h = refl
+view-split (point u s) n k h = refl
+view-split (follow u w) n k h = refl
+view-split (link u s) n k h = refl
+view-split (make u) n k h = refl
+view-split (release u) n k h = refl
 
-pub room-of : (k : Kind) (h : Heap) (c : ℕ) → next h c ≡ unused → Room k h c
-room-of stops h c e = tt
-room-of picks h c e = tt
-room-of allocates h c e = e
-room-of other h c e = tt
+-- ---- weights
 
-weigh-of : (kd : Kind) (k c : ℕ) (sg : ℕ → Seg) (f : ℕ → ℕ) → ((i : ℕ) → eqb i k ≡ false → size (sg i) ≡ f i) → size (sg k) ≡ 1 → f k ≡ 1 → (i : ℕ)
-    → size (sg-after kd k c sg i) ≡ f i
-weigh-of stops k c sg f h z e i = eq-case i k (λ p. ap (λ x. size (sg x)) p ∙ z ∙ sym e ∙ ap f (sym p)) (h i)
-weigh-of picks k c sg f h z e i = eq-case i k (λ p. ap (λ x. size (sg x)) p ∙ z ∙ sym e ∙ ap f (sym p)) (h i)
-weigh-of allocates k c sg f h z e i =
-    eq-case i k (λ p. ap size (upd-at sg k (seg c []) i p) ∙ sym e ∙ ap f (sym p)) (λ p. ap size (upd-off sg k (seg c []) i p) ∙ h i p)
-weigh-of other k c sg f h z e i = eq-case i k (λ p. ap (λ x. size (sg x)) p ∙ z ∙ sym e ∙ ap f (sym p)) (h i)
+same-weigh : (k : ℕ) (sg : ℕ → Seg) (f : ℕ → ℕ) → ((i : ℕ) → eqb i k ≡ false → size (sg i) ≡ f i) → size (sg k) ≡ 1 → f k ≡ 1
+    → (i : ℕ) → size (sg i) ≡ f i
+same-weigh k sg f h z e i = eq-case i k (λ p. ap (λ x. size (sg x)) p ∙ z ∙ sym e ∙ ap f (sym p)) (h i)
+
+weigh-of : (a : Action) (k c : ℕ) (sg : ℕ → Seg) (f : ℕ → ℕ) → ((i : ℕ) → eqb i k ≡ false → size (sg i) ≡ f i)
+    → size (sg k) ≡ 1 → f k ≡ 1 → (i : ℕ) → size (sg-after a k c sg i) ≡ f i
+weigh-of stay k c sg f h z e = same-weigh k sg f h z e
+weigh-of (point u s) k c sg f h z e = same-weigh k sg f h z e
+weigh-of (follow u w) k c sg f h z e = same-weigh k sg f h z e
+weigh-of (link u s) k c sg f h z e = same-weigh k sg f h z e
+weigh-of (make u) k c sg f h z e = λ i.
+    eq-case i k (λ p. ap size (upd-at sg k (seg c []) i p) ∙ sym e ∙ ap f (sym p))
+    (λ p. ap size (upd-off sg k (seg c []) i p) ∙ h i p)
+weigh-of (release u) k c sg f h z e = same-weigh k sg f h z e
 
 -- the weights of the two kinds of way
 module _ (k : ℕ) (cs : List ℕ) where
@@ -166,61 +179,63 @@ module _ (H : Heap) (cl : ClosedHeap H) (kp : Kept H) where
   past-size : size (segAt (segments H) (length (shape H .slots))) ≡ 1
   past-size = size-at (length (shape H .slots)) ∙ List·getD-eq-default (counters H) 1 (omega (arith, count-length))
 
-  pub whole-fits : (op : Op) (c p : ℕ) (g : Guard) → ((n : ℕ) → access op (shape H) ≡ cell n → segAt (segments H) n .rest ≡ [])
-      → Fits op (length (shape H .slots)) c (whole g p (shape H)) H (counters H)
-  whole-fits op c p g o =
-      let k = length (shape H .slots) in
-      record {
-        sg = segAt (segments H);
-        expansion = start H cl kp;
-        single = o;
-        room = room-of (kind op) (shape H) k past-end;
-        weighs = weigh-of (kind op) k c (segAt (segments H)) (λ i. weigh (counters H) (cond (eqb i k) one (counter i)))
-            (λ i e. rw e (size-at i)) past-size (rw (eqb-same k));
-        short = omega arith;
-        fair = whole-fair k (counters H);
-      }
+  -- ---- the ways that fit: nothing split, and a node split
+
+  abbrev nodes : ℕ
+  nodes = length (shape H .slots)
+
+  pub whole-fits : (a : Action) (c p : ℕ) (gs : List Guard) → Alone (view a (shape H)) (segAt (segments H))
+      → Fits a nodes c (whole gs p (shape H)) H (counters H)
+  whole-fits a c p gs o = record {
+    sg = segAt (segments H);
+    expansion = start H cl kp;
+    alone = o;
+    room = room-of a (shape H) nodes past-end;
+    weighs = weigh-of a nodes c (segAt (segments H)) (λ i. weigh (counters H) (cond (eqb i nodes) one (counter i)))
+        (λ i e. rw e (size-at i)) past-size (rw (eqb-same nodes));
+    short = omega arith;
+    fair = whole-fair nodes (counters H);
+  }
 
   no-rest : (l : List ℕ) → suc (length l) ≡ 1 → l ≡ []
   no-rest [] e = refl
   no-rest (x ∷ l) e = absurd (omega arith)
 
-  pub one-fits : (op : Op) (c n : ℕ) → access op (shape H) ≡ cell n → getD (counters H) n 1 ≡ 1
-      → Fits op (length (shape H .slots)) c (whole (isOne n) 0 (shape H)) H (counters H)
-  one-fits op c n a e = whole-fits op c 0 (isOne n) (λ m b.
-      let q : m ≡ n = cc in
-      no-rest (segAt (segments H) m .rest) (size-at m ∙ ap (λ x. getD (counters H) x 1) q ∙ e))
+  -- a node whose counter is 1 is one cell
+  pub one-alone : (n : ℕ) → getD (counters H) n 1 ≡ 1 → segAt (segments H) n .rest ≡ []
+  one-alone n e = no-rest (segAt (segments H) n .rest) (size-at n ∙ e)
 
-  pub access-node : (op : Op) (n : ℕ) → access op (shape H) ≡ cell n → Used (next (shape H)) n
-  access-node op n a = subst (Closed (next (shape H))) a (access-closed (shape H) op (start H cl kp .closed))
+  pub view-node : (a : Action) (n : ℕ) → view a (shape H) ≡ oneNode n → Used (next (shape H)) n
+  view-node a n e = subst (ClosedView (next (shape H))) e (view-closed a (shape H) (start H cl kp .closed))
 
-  pub two-fits : (op : Op) (c n : ℕ) → access op (shape H) ≡ cell n → 2 ≤ getD (counters H) n 1
-      → Fits op (length (shape H .slots)) c (split n (shape H)) H (counters H)
-  two-fits op c n a e = by-rest (segAt (segments H) n .rest) refl
+  pub split-fits : (a : Action) (c n : ℕ) (gs : List Guard) → view a (shape H) ≡ oneNode n → 2 ≤ getD (counters H) n 1
+      → Fits a nodes c (split gs n (shape H)) H (counters H)
+  split-fits a c n gs v e = by-rest (segAt (segments H) n .rest) refl
     where
-      by-rest : (l : List ℕ) → segAt (segments H) n .rest ≡ l → Fits op (length (shape H .slots)) c (split n (shape H)) H (counters H)
+      by-rest : (l : List ℕ) → segAt (segments H) n .rest ≡ l → Fits a nodes c (split gs n (shape H)) H (counters H)
       by-rest [] q = absurd (omega (arith, size-at n, ap length q))
       by-rest (t ∷ ts) q =
-          let k = length (shape H .slots) in
           let h = segAt (segments H) n .first in
           let sn : segAt (segments H) n ≡ seg h (t ∷ ts) = λ i. record { first = h; rest = q i } in
-          let u = access-node op n a in
-          let lt : n < k = used-below (shape H .slots) n u in
-          let sg′ = upd (upd (segAt (segments H)) k (seg t ts)) n (seg h []) in
+          let u = view-node a n v in
+          let lt : n < nodes = used-below (shape H .slots) n u in
+          let tail = upd (segAt (segments H)) nodes (seg t ts) in
+          let sg′ = upd tail n (seg h []) in
+          let L = view-looks a (shape H) n v in
           record {
             sg = sg′;
-            expansion = exp-split (shape H) (segAt (segments H)) H (start H cl kp) n k h t ts sn u past-end;
-            single = λ m b. let z : m ≡ n = (let y = access-same op n k (shape H) in cc) in
-                ap (λ (s : Seg). s .rest) (upd-at (upd (segAt (segments H)) k (seg t ts)) n (seg h []) m z);
-            room = rw (access-facts op (shape H) n a .0) tt;
-            weighs = λ i. rw (access-facts op (shape H) n a .0) (weigh-split i h t ts q);
+            expansion = exp-split (shape H) (segAt (segments H)) H (start H cl kp) n nodes h t ts sn u past-end;
+            alone = subst (λ x. Alone x sg′) (sym (view-split a n nodes (shape H) ∙ v))
+                (ap (λ (s : Seg). s .rest) (upd-at tail n (seg h []) n refl));
+            room = L .roomy (splitHeap n nodes (shape H)) nodes;
+            weighs = λ i. ap (λ f. size (f i)) (L .chains nodes c sg′) ∙ weigh-split i h t ts q;
             short = split-short n (shape H) lt;
-            fair = split-fair k (counters H) n lt (omega arith);
+            fair = split-fair nodes (counters H) n lt (omega arith);
           }
         where
           weigh-split : (i h t : ℕ) (ts : List ℕ) → segAt (segments H) n .rest ≡ t ∷ ts
-              → size (upd (upd (segAt (segments H)) (length (shape H .slots)) (seg t ts)) n (seg h []) i)
-              ≡ weigh (counters H) (cond (eqb i n) one (cond (eqb i (length (shape H .slots))) (less n) (counter i)))
+              → size (upd (upd (segAt (segments H)) nodes (seg t ts)) n (seg h []) i)
+              ≡ weigh (counters H) (cond (eqb i n) one (cond (eqb i nodes) (less n) (counter i)))
           weigh-split i h t ts q =
-              bool-case (eqb i n) (λ x. rw x) (λ x. rw x (bool-case (eqb i (length (shape H .slots)))
+              bool-case (eqb i n) (λ x. rw x) (λ x. rw x (bool-case (eqb i nodes)
               (λ y. rw y (omega (arith, size-at n, ap length q))) (λ y. rw y (size-at i))))

@@ -9,7 +9,8 @@ use Rattle.record.proofs.put_edge.Tie as tie
 returns : tie.Need-returns
 returns c =
     let a = c .before .before .before .before .before .before .args in
-    put-back (a .table .now) (edgeBytes (a .branch) (a .from) (a .to) (a .guard) (a .node .0) (a .updates .now) (a .k)) _ (32 * a .n) 32 (c .before .before .write-edge .ensures)
+    put-back (a .table .now) (edgeBytes (a .fields) (a .updates .now)) _ (32 * a .n) 32
+    (c .before .before .write-edge .ensures)
 
 pub put-edge-spec : {M : Type 1} → statement M
 put-edge-spec =

@@ -1,11 +1,11 @@
--- `spread::first_cells` meets its contract: the entries below n are right, and the running sum is the first cell of node n.
+-- `first_cells` meets its contract: the entries below n are right, and the running sum is the first cell of node n.
 use Prim.Native.Nat.{ℕ, _+_, _-_, _<_, _≤_}
 use mathlib.Core.Path.{_≡_, refl}
 use native.Mathlib.Omega.{arith}
 use lib.ListN.{getD, length, length-set}
 use borrow.Author.Needs.{needs}
 use Rattle.model.specs.Image.{firstCell}
-use Rattle.unfolding.proofs.ListLaws.{set-below}
+use Rattle.model.proofs.lists.Loops.{set-below}
 use Rattle.unfolding.proofs.Steps.{first-most, first-next}
 use Rattle.unfolding.proofs.first_cells.Statement.{statement}
 use Rattle.unfolding.proofs.first_cells.Tie as tie

@@ -1,4 +1,4 @@
--- `spread::place_pointers` meets its contract: the first i pointers are done, and the values from i on follow them.
+-- `place_pointers` meets its contract: the first i pointers are done, and the values from i on follow them.
 use Prim.Native.Nat.{_+_, _-_, _<_, _≤_}
 use mathlib.Core.Path.{_≡_, sym, ap, _∙_}
 use mathlib.Core.List.{_∷_, _++_, map}
@@ -7,7 +7,7 @@ use lib.ListN.{drop, getD, length, length-set, take}
 use borrow.Author.Needs.{needs}
 use Rattle.model.proofs.lists.Slices.{map-end, map-step}
 use Rattle.unfolding.specs.Bytes.{placedByte}
-use Rattle.unfolding.proofs.ListLaws.{push, pushed}
+use Rattle.model.proofs.lists.Loops.{push, pushed}
 use Rattle.unfolding.proofs.place_pointers.Statement.{statement}
 use Rattle.unfolding.proofs.place_pointers.Tie as tie
 

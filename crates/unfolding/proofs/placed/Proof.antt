@@ -1,4 +1,4 @@
--- `spread::placed` meets its contract: each answer is the case of the test.
+-- `placed` meets its contract: each answer is the case of the test.
 use borrow.Author.Needs.{needs}
 use borrow.Author.Tests.{le-ltb, lt-ltb}
 use Rattle.unfolding.proofs.placed.Statement.{statement}

@@ -1,4 +1,4 @@
--- `spread::write_strand` meets its contract: the cells below i are done, and the rest of the strand, from cell i on, follows them.
+-- `write_strand` meets its contract: the cells below i are done, and the rest of the strand follows them.
 use Prim.Native.Nat.{_+_, _-_, _<_, _≤_}
 use mathlib.Core.Path.{_≡_, refl, sym, ap, ap₂, _∙_}
 use mathlib.Core.List.{[], _++_, append-nil}
@@ -6,7 +6,7 @@ use native.Mathlib.Omega.{arith}
 use lib.ListN.{length, length-set, set, take}
 use borrow.Author.Needs.{needs}
 use Rattle.unfolding.specs.Bytes.{strandBytes}
-use Rattle.unfolding.proofs.ListLaws.{push}
+use Rattle.model.proofs.lists.Loops.{push}
 use Rattle.unfolding.proofs.Steps.{strand-last, strand-step}
 use Rattle.unfolding.proofs.write_strand.Statement.{statement}
 use Rattle.unfolding.proofs.write_strand.Tie as tie

@@ -1,4 +1,4 @@
--- `spread::write_strands` meets its contract: the strands of the nodes below n are written, and those of the others follow them.
+-- `write_strands` meets its contract: the strands of the nodes below n are written, and the others follow them.
 use Prim.Native.Nat.{_+_, _-_, _<_, _≤_}
 use mathlib.Core.Path.{_≡_, sym, ap, _∙_}
 use mathlib.Core.List.{_++_, append-nil}
@@ -7,7 +7,7 @@ use lib.ListN.{drop, getD, length, take}
 use borrow.Author.Needs.{needs}
 use Rattle.model.specs.Base.{sum}
 use Rattle.unfolding.specs.Bytes.{placedByte, strandBytes, strandsBytes}
-use Rattle.unfolding.proofs.ListLaws.{sum-end, sum-step}
+use Rattle.model.proofs.lists.Loops.{sum-end, sum-step}
 use Rattle.unfolding.proofs.Steps.{node-room, strands-end, strands-push}
 use Rattle.unfolding.proofs.write_strands.Statement.{statement}
 use Rattle.unfolding.proofs.write_strands.Tie as tie

@@ -1,28 +1,42 @@
--- `edge::fold::leave` meets its contract: the image is folded into the blank target, which then gets its head; the updates are summed by the nodes of its cells.
+-- `edge::fold::leave` meets its contract: the order is cut, the image folded into the blank target, and the updates summed by the nodes.
 use borrow.Author.Needs.{needs}
-use Rattle.edge.proofs.Leaving.{is-left, shape-ready, sum-ready}
+use Rattle.segment.proofs.ImageLaws.{count-lasts, cut-ready, few-nodes, fold-ready, shape-is}
 use Rattle.edge.proofs.fold.leave.Statement.{statement}
 use Rattle.edge.proofs.fold.leave.Tie as tie
+use native.Mathlib.Omega.{arith}
+use Rattle.edge.proofs.Leaving.{sum-ready, is-left, part-room}
 
-shape-of-requires : tie.Need-shape-of-requires
-shape-of-requires c κs =
-    let b = c .before .before .before .before .before .before in
-    shape-ready (b .before .before .before .before .before .before .before .before .pre) (b .blank .last .0) (b .blank .ensures)
+cut-requires : tie.Need-cut-requires
+cut-requires c κs = cut-ready (c .before .before .before .before .before .before .before .before .before .before .before .before .before .pre .image) _ (let p = c .before .before .before .before .before .before .before .before .before .before .before .before .before .pre in let few = p .few in let old = p .fewOld in omega arith) (omega arith) (omega arith)
 
-sum-updates-requires : tie.Need-sum-updates-requires
-sum-updates-requires c κs =
-    let f = c .before .before .before .before .before .before .before .before .before .before .before in
-    sum-ready (f .before .before .before .before .before .before .before .before .before .before .before .before .before .before .before .pre) (f .shape-of .ensures .0) (f .shape-of .kept .1 .1 .1 .1 .1 .0)
+array-share-prefix-last : tie.Need-array-share-prefix-last
+array-share-prefix-last c = let k = c .before .before .before .cut in omega (arith, few-nodes (c .before .before .before .before .before .before .before .before .before .before .before .before .before .before .before .before .before .pre .image) (k .ensures .0), k .kept .1 .1 .1 .0)
+
+slice-aggregate-fold-shape : tie.Need-slice-aggregate-fold-shape
+slice-aggregate-fold-shape c = count-lasts (c .before .before .before .before .before .before .before .before .before .before .before .before .before .before .before .before .before .before .pre .image) (c .before .before .before .before .cut .ensures .0)
+
+fold-shape-requires : tie.Need-fold-shape-requires
+fold-shape-requires c κs =
+    let p = c .before .before .before .before .before .before .before .before .before .before .before .before .before .before .before .before .before .before .before .before .pre in
+    let k = c .before .before .before .before .before .before .cut in
+    let few = p .few in
+    let old = p .fewOld in
+    fold-ready (p .image) (k .ensures .0) (omega (arith, k .kept .1 .1 .0)) _ (part-room p (c .before .before .before .before .before .before .before .before .before .before .before .before .blank .ensures))
+
+sum-cells-requires : tie.Need-sum-cells-requires
+sum-cells-requires c κs =
+    let p = c .before .before .before .before .before .before .before .before .before .before .before .before .before .before .before .before .before .before .before .before .before .before .before .before .before .pre in
+    let k = c .before .before .before .before .before .before .before .before .before .before .before .cut in
+    let f = c .before .before .before .before .fold-shape in
+    (p .short, sum-ready p (c .before .before .before .before .before .before .before .before .before .before .before .before .before .before .before .before .before .blank .ensures) (shape-is (p .image) (k .ensures .0) _ _ (f .ensures)) (k .kept .1 .1 .0))
 
 returns : tie.Need-returns
 returns c =
-    let u = c .before .before .sum-updates in
-    let w = c .before .before .before .before .before .before .before .write-head in
-    let f = c .before .before .before .before .before .before .before .before .before .before .before .before .before .before in
-    let b = f .before .before .before .before .before .before .before in
-    let s = b .before .before .before .before .before .before .before .before in
-    is-left (s .pre) (b .blank .last .0) (b .blank .ensures) (f .shape-of .ensures .0) (s .args .to .0) (w .last .0) (u .last .1 .1 .1 .1 .1 .1 .0) (w .ensures)
-    (u .kept .1 .1 .1 .1 .1 .1 .0) (u .ensures)
+    let p = c .before .before .before .before .before .before .before .before .before .before .before .before .before .before .before .before .before .before .before .before .before .before .before .before .before .before .before .before .pre in
+    let k = c .before .before .before .before .before .before .before .before .before .before .before .before .before .before .cut in
+    let f = c .before .before .before .before .before .before .before .fold-shape in
+    let u = c .before .before .sum-cells in
+    is-left p (c .before .before .before .before .before .before .before .before .before .before .before .before .before .before .before .before .before .before .before .before .blank .ensures) (shape-is (p .image) (k .ensures .0) _ _ (f .ensures)) (u .last .1 .1 .1 .0) (u .kept .1 .1 .1 .0) (u .ensures)
 
 pub leave-spec : {M : Type 1} → statement M
 leave-spec =
@@ -32,13 +46,16 @@ leave-spec =
     (λ c. search needs)
     (λ c. search needs)
     (λ c. search needs)
+    cut-requires
+    array-share-prefix-last
+    slice-aggregate-fold-shape
     (λ c. search needs)
     (λ c. search needs)
     (λ c. search needs)
-    shape-of-requires
-    (λ c κs. search needs)
     (λ c. search needs)
-    sum-updates-requires
+    fold-shape-requires
+    (λ c. search needs)
+    sum-cells-requires
     (λ c. search needs)
     (λ c. search needs)
     returns)
