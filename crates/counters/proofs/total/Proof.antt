@@ -29,7 +29,8 @@ loop-again c =
     omega (arith, c .shared-slice-known .given (l .i))
 
 returns : tie.Need-returns Inv-loop μ-loop
-returns c = let l = c .before .loop in omega (arith, sum-end (c .before .before .args .counters .now) (l .i) (omega arith))
+returns c = let l = c .before .loop in
+    omega (arith, sum-end (c .before .before .args .counters .now) (l .i) (omega arith))
 
 pub total-spec : {M : Type 1} → statement M
 total-spec =

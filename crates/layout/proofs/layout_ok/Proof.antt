@@ -20,7 +20,8 @@ few : (c : tie.Else1) → byte (c .before .before .before .before .before .befor
 few c =
     let r = c .before .before .before .before .before .before .before .args .rec .now in
     let h = eqb (byte r 0) 0x48 && isZero (byte r 1) && isZero (byte r 2) in
-    leb-true (byte r 3) 12 (and-r h (leb (byte r 3) 12) (sym (c .before .head-ok .ensures) ∙ not-false _ (c .if1 .left)))
+    leb-true (byte r 3) 12
+    (and-r h (leb (byte r 3) 12) (sym (c .before .head-ok .ensures) ∙ not-false _ (c .if1 .left)))
 
 returns : tie.Need-returns
 returns c =

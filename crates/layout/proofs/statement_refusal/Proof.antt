@@ -14,7 +14,8 @@ returns c =
 returns-2 : tie.Need-returns-2
 returns-2 c =
     let a = c .before .before .before .before .before .args in
-    refusal-6 (a .n) (a .rec .now) (lt-ltb _ _ (c .before .before .if1 .left)) (sym (c .before .fields-ok .ensures) ∙ not-true _ (c .if2 .taken))
+    refusal-6 (a .n) (a .rec .now) (lt-ltb _ _ (c .before .before .if1 .left))
+    (sym (c .before .fields-ok .ensures) ∙ not-true _ (c .if2 .taken))
 
 returns-3 : tie.Need-returns-3
 returns-3 c =
