@@ -29,29 +29,35 @@ pub answered : (s : List ℕ) (a b : ℕ) (o : Translated) (ls es : List ℕ) �
     → Answered s a b o ls es
 answered s a b o ls es e = (e, outcome-automaton s a b o ls es e)
 
--- ks and fs are the tables ls and es cleared, and o is what the check said
-module _ (s ls es ks fs : List ℕ) (d : ks ≡ replicate (length ls) 0) (d′ : fs ≡ replicate (length es) 0)
-    (p : length ks ≡ length ls) (p′ : length fs ≡ length es) (o : Checked) (e : checkedOf o s ≡ check s)
-    (g : GoodCounts o s) where
-  pub answer-bad : (k x : ℕ) → o ≡ checked.Bad k x → Answered s (length ls) (length es) (translated.Refused k x) ks fs
-  answer-bad k x q =
-      answered s (length ls) (length es) (translated.Refused k x) ks fs
-      (outcome-bad s (length ls) (length es) k x ks fs (rw q at e) d d′)
+-- ks and fs are the tables ls and es cleared, and o is what the check of the input s said
+pub record Looked (s ls es ks fs : List ℕ) (o : Checked) : Type 0 where
+  pub cleared : (ks ≡ replicate (length ls) 0) × (fs ≡ replicate (length es) 0)
+  pub wide : length ks ≡ length ls
+  pub wide′ : length fs ≡ length es
+  pub said : checkedOf o s ≡ check s
+  pub counts : GoodCounts o s
 
-  module _ (n m most : ℕ) (q : o ≡ checked.Good n m) (r : most ≡ places mostLocations (length ks)) where
+module _ {s ls es ks fs : List ℕ} {o : Checked} (L : Looked s ls es ks fs o) where
+  pub answer-bad : {k x : ℕ} → o ≡ checked.Bad k x → Answered s (length ls) (length es) (translated.Refused k x) ks fs
+  answer-bad {k} {x} q =
+      answered s (length ls) (length es) (translated.Refused k x) ks fs
+      (outcome-bad s (length ls) (length es) k x ks fs (rw q at (L .said)) (L .cleared .0) (L .cleared .1))
+
+  module _ {n m most : ℕ} (q : o ≡ checked.Good n m) (r : most ≡ places mostLocations (length ks)) where
     is-good : check s ≡ good (routineOf n s)
-    is-good = sym (rw q at e)
+    is-good = sym (rw q at (L .said))
 
     is-accepted : Accepted s n m
-    is-accepted = accepted s n m (rw q at e) (rw q at g)
+    is-accepted = accepted s n m (rw q at (L .said)) (rw q at (L .counts))
 
     pub answer-few : most < m → Answered s (length ls) (length es) (translated.Refused 11 most) ks fs
     answer-few h =
         let l = starts-length s n m (is-accepted .whole) in
-        let z : most ≡ places mostLocations (length ls) = r ∙ ap (places mostLocations) p in
+        let z : most ≡ places mostLocations (length ls) = r ∙ ap (places mostLocations) (L .wide) in
         answered s (length ls) (length es) (translated.Refused 11 most) ks fs
         (ap (λ x. outcomeOf (translated.Refused 11 x) ks fs) z
-        ∙ outcome-few s (length ls) (length es) (routineOf n s) is-good ks fs (omega arith) d d′)
+        ∙ outcome-few s (length ls) (length es) (routineOf n s) is-good ks fs (omega arith)
+        (L .cleared .0) (L .cleared .1))
 
     pub ready-to-list : m ≤ most → ListReady s n m ks fs
     ready-to-list h = record {
@@ -59,7 +65,7 @@ module _ (s ls es ks fs : List ℕ) (d : ks ≡ replicate (length ls) 0) (d′ :
         isGood = is-good;
         accepted = is-accepted;
         room = omega arith;
-        blank = d ∙ ap (λ k. replicate k 0) (sym p);
+        blank = L .cleared .0 ∙ ap (λ k. replicate k 0) (sym (L .wide));
       };
-      blank = d′ ∙ ap (λ k. replicate k 0) (sym p′);
+      blank = L .cleared .1 ∙ ap (λ k. replicate k 0) (sym (L .wide′));
     }

@@ -6,7 +6,7 @@ use native.Mathlib.Omega.{arith}
 use lib.ListN.{length, drop, replicate, length-map, length-take, take, take-append-drop}
 use borrow.Rule.Slice.PartMut.{putMid}
 use Rattle.model.specs.Heap.{IsHeap}
-use Rattle.model.specs.Image.{Folding, foldImage, heapOf, refusalImage}
+use Rattle.model.specs.Image.{Folding, foldImage, heapOf}
 use Rattle.model.specs.Records.{filled, shapeRecord, valOf, isAccepted, isRefused, refusal}
 use Rattle.model.specs.Shape.{counters, segments, shape, size}
 use Rattle.model.proofs.images.Images.{fold-suc, fold-zero, image-accepted, number-case}
@@ -20,17 +20,18 @@ use Rattle.heap_operations.specs.Fold.{foldedHeap}
 abbrev refusedWith : ℕ → Folding
 refusedWith n = record { verdict = isRefused (refusal n 0); recordBytes = replicate 32 0; counts = replicate 12 0 }
 
-pub fold-refused : (ps cs : List ℕ) (n : ℕ) → n ≡ refusalImage ps cs → (n ≡ 0 → ⊥) → refusedWith n ≡ foldImage ps cs
-fold-refused ps cs n e z =
-    number-case n (λ q. absurd (z q)) (λ m q. ap refusedWith q ∙ sym (fold-suc ps cs m (sym e ∙ q)))
-
--- an image that passes is folded as its heap is
-pub fold-passed : (ps cs : List ℕ) → refusalImage ps cs ≡ 0 → foldedHeap (heapOf ps cs) ≡ foldImage ps cs
-unfolding foldedHeap
-fold-passed ps cs e = sym (fold-zero ps cs e)
+pub fold-refused : {ps cs o m : List ℕ} {r n : ℕ} → ImageChecked ps cs o m r n → (r ≡ 0 → ⊥)
+    → refusedWith r ≡ foldImage ps cs
+fold-refused {ps} {cs} {o} {m} {r} d z =
+    number-case r (λ q. absurd (z q)) (λ k q. ap refusedWith q ∙ sym (fold-suc ps cs k (sym (d .refusal) ∙ q)))
 
 -- what the fold asks of a checked image
 module _ {ps cs o m : List ℕ} {r n : ℕ} (d : ImageChecked ps cs o m r n) (z : r ≡ 0) where
+  -- it is folded as its heap is
+  pub fold-passed : foldedHeap (heapOf ps cs) ≡ foldImage ps cs
+  unfolding foldedHeap
+  fold-passed = sym (fold-zero ps cs (sym (d .refusal) ∙ z))
+
   accepted : (length ps ≡ 6) × (length cs ≤ 240) × IsHeap (heapOf ps cs)
   accepted = image-accepted ps cs .0 (sym (d .refusal) ∙ z)
 

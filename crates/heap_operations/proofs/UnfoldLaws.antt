@@ -8,7 +8,7 @@ use Rattle.model.specs.Records.{byte, shapeOf, valByte, isAccepted, isRefused, 
 use Rattle.model.proofs.images.Images.{number-case, unfold-accepted, unfold-suc, unfold-zero}
 use Rattle.unfolding.specs.Ready.{UnfoldReady}
 
-module _ (r vs ps cs : List ℕ) (n : ℕ) (e : n ≡ refusalUnfold r vs (length ps) (length cs)) where
+module _ (r vs ps cs : List ℕ) {n : ℕ} (e : n ≡ refusalUnfold r vs (length ps) (length cs)) where
   -- what unfolding the shape asks
   pub unfold-ready : n ≡ 0 → UnfoldReady r vs ps cs
   unfold-ready z =
@@ -21,8 +21,9 @@ module _ (r vs ps cs : List ℕ) (n : ℕ) (e : n ≡ refusalUnfold r vs (length
       (λ m q. (λ i. record { verdict = isRefused (refusal (q i) 0); ptrBytes = ps; cellBytes = cs })
       ∙ sym (unfold-suc r vs ps cs m (sym e ∙ q)))
 
-  pub unfold-done : n ≡ 0 → (qs ds : List ℕ) → qs ≡ map valByte (unfoldHeap (shapeOf r) (take (byte r 3) vs) .ptrs)
-      → ds ≡ cellBytesOf (length cs) (unfoldHeap (shapeOf r) (take (byte r 3) vs))
+  pub unfold-done : n ≡ 0 → {qs ds : List ℕ}
+      → (qs ≡ map valByte (unfoldHeap (shapeOf r) (take (byte r 3) vs) .ptrs))
+      × (ds ≡ cellBytesOf (length cs) (unfoldHeap (shapeOf r) (take (byte r 3) vs)))
       → record { verdict = isAccepted; ptrBytes = qs; cellBytes = ds } ≡ unfoldImage r vs ps cs
-  unfold-done z qs ds a b =
+  unfold-done z (a, b) =
       (λ i. record { verdict = isAccepted; ptrBytes = a i; cellBytes = b i }) ∙ sym (unfold-zero r vs ps cs (sym e ∙ z))

@@ -1,15 +1,13 @@
-// The checks of the three calls: of a heap image, of the record and counters of an unfolding, and of a step's record
+// The checks of the calls on heap images: of an image, of an unfolding's record and counters, and of a step's record
 // and entry.
-ghost use Prim.Native.Nat.{ℕ, _<_};
+ghost use Prim.Native.Nat.{_<_};
 ghost use mathlib.Core.Bool.{_&&_};
-ghost use mathlib.Core.List.{List};
 ghost use mathlib.Core.Path.{_≡_};
 ghost use lib.Dec.{eqb};
 ghost use lib.ListN.{length, replicate};
-ghost use Rattle.model.specs.Image.{lengths, refusalUnfold, checksStatement, entryFits, heapOf};
-ghost use Rattle.model.specs.Machine.{entry};
-ghost use Rattle.model.specs.Records.{firstFailed, layoutH, opCount, opOf};
-ghost use Rattle.image_checks.specs.Checked.{ImageChecked};
+ghost use Rattle.model.specs.Image.{lengths, refusalUnfold, checksStatement};
+ghost use Rattle.model.specs.Records.{firstFailed, layoutH, opCount};
+ghost use Rattle.image_checks.specs.Checked.{EntryChecked, ImageChecked};
 
 // Whether there are six pointers and at most 240 cells.
 fn lengths_ok(pointers: &[u8], cells: &[u8]) -> bool
@@ -27,12 +25,11 @@ pub struct Checked {
     pub visited: usize,
 }
 
-// Checks an image: its lengths and values, then that every cell in use is visited. The order and the marks of the
-// visit are kept.
+// Checks an image: its lengths and values, then that every cell in use is visited. Its order and marks are kept.
 pub fn check_image(pointers: &[u8], cells: &[u8], order: &mut [u8], seen: &mut [u8]) -> Checked
     requires { ⌜ (length (now order) ≡ 240) × (now seen ≡ replicate 240 0) ⌝ }
-    ensures { λ r. ⌜ ImageChecked (now (pointers .entry)) (now (cells .entry)) (now (order .exit)) (now (seen .exit))
-        (r .refusal) (r .visited) ⌝ }
+    ensures { λ r. ⌜ ImageChecked (now (pointers .entry)) (now (cells .entry))
+        (now (order .exit)) (now (seen .exit)) (r .refusal) (r .visited) ⌝ }
 {
     if !lengths_ok(pointers, cells) {
         return Checked {
@@ -96,8 +93,8 @@ pub fn unfold_refusal(rec: &[u8], counters: &[u32], pointers: usize, cells: usiz
 
 // The refusal of a step (0 for none) by its image and its record; 16 comes after these.
 pub fn step_refusal(rec: &[u8], pointers: &[u8], cells: &[u8]) -> u8
-    ensures { λ r. ⌜ r ≡ firstFailed (checksStatement (now (rec .entry)) (now (pointers .entry))
-        (now (cells .entry))) ⌝ }
+    ensures { λ r. ⌜ r
+        ≡ firstFailed (checksStatement (now (rec .entry)) (now (pointers .entry)) (now (cells .entry))) ⌝ }
 {
     let mut order = [0u8; 240];
     let mut seen = [0u8; 240];
@@ -117,8 +114,7 @@ pub fn step_refusal(rec: &[u8], pointers: &[u8], cells: &[u8]) -> u8
 // Whether the pick at choose is 0 or 1, and the cell at new is one of the image that is not in use.
 pub fn entry_ok(op: u8, pick: u8, cell: usize, cells: &[u8]) -> bool
     requires { ⌜ op < opCount ⌝ }
-    ensures { λ r. ⌜ ((u w : ℕ) (ps : List ℕ)
-        → r ≡ entryFits (opOf op u w) (entry pick cell) (heapOf ps (now (cells .entry)))) ⌝ }
+    ensures { λ r. ⌜ EntryChecked op pick cell (now (cells .entry)) r ⌝ }
 {
     if op == 10 {
         return pick <= 1;

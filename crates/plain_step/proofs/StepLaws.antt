@@ -11,7 +11,7 @@ use lib.Seq.{take-at, take-length}
 use borrow.Author.Tests.{ne-eqb, not-true, eq-eqb}
 use Rattle.model.specs.Heap.{Heap}
 use Rattle.model.specs.Machine.{Answer, done, Stmt, accepts, answerOf, branch, kind, carryOut, target, step, entry, isStop, action, stopped}
-use Rattle.model.specs.Records.{stmtOf, opOf, Row, firstFailed, refusal, unless, opCount}
+use Rattle.model.specs.Records.{stmtOf, Row, firstFailed, refusal, unless, opCount}
 use Rattle.model.specs.Image.{Stepping, answered, cellSlot, heapOf, pastEnd, stays, stepImage, checksStatement, checksStep, entryFits, noStep, toFault, toNext, toStop}
 use Rattle.model.specs.declared.Decoded.{Decoded}
 use Rattle.model.proofs.images.Images.{image-accepted, number-case}
@@ -21,6 +21,7 @@ use Rattle.model.proofs.records.Ops.{op-goes, op-stops}
 use Rattle.effect.specs.Effect.{effectOf}
 use Rattle.effect.proofs.Laws.{image-bytes}
 use Rattle.machine.specs.Run.{IsRun, RunReady, bytes}
+use Rattle.image_checks.specs.Checked.{EntryChecked}
 use Rattle.image_checks.proofs.StepChecks.{checked-fields, checked-image}
 use Rattle.plain_step.specs.Step.{Finished, RunOn, StepReady}
 use Rattle.model.specs.Structs.{decoded, opIn, stmtIn}
@@ -113,9 +114,9 @@ unfolding stepImage
 image-answered r p c ps cs e = rw (e, stepImage)
 
 -- the checks of image and record refuse
-pub step-unchecked : (r : List ℕ) (p c : ℕ) (ps cs : List ℕ) (n : ℕ) → n ≡ firstFailed (checksStatement r ps cs)
+pub step-unchecked : (r : List ℕ) (p c : ℕ) (ps cs : List ℕ) {n : ℕ} → n ≡ firstFailed (checksStatement r ps cs)
     → (n ≡ 0 → ⊥) → stays (noStep (refusal n 0)) ps cs ≡ stepImage r p c ps cs
-step-unchecked r p c ps cs n e z = number-case n (λ q. absurd (z q))
+step-unchecked r p c ps cs {n} e z = number-case n (λ q. absurd (z q))
     (λ m q. ap (λ i. stays (noStep (refusal i 0)) ps cs) q
     ∙ image-refused r p c ps cs m
     (failed-before (checksStatement r ps cs) (entryCheck r p c ps cs ∷ []) m (sym e ∙ q)))
@@ -132,8 +133,7 @@ module _ {r : List ℕ} {p c : ℕ} {ps cs : List ℕ} {d : Decoded} (C : Checke
       (checked-fields r ps cs (C .passed))
 
   -- a is what the test of the entry gives, which reads the op and the cells only
-  module _ {a : Bool}
-      (e : (u w : ℕ) (qs : List ℕ) → a ≡ entryFits (opOf (d .op) u w) (entry p c) (heapOf qs cs)) where
+  module _ {a : Bool} (e : EntryChecked (d .op) p c cs a) where
     fits : a ≡ entryFits (stmtOf r .op) (entry p c) (heapOf ps cs)
     fits = e (d .u .0) (d .w .0) ps ∙ ap (λ x. entryFits (opIn x) (entry p c) (heapOf ps cs)) (C .decodes)
 

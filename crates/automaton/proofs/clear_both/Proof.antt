@@ -9,9 +9,4 @@ returns c = (c .before .before .before .before .before .before .clear .ensures, 
 pub clear-both-spec : {M : Type 1} → statement M
 clear-both-spec =
     tie.close
-    (tie.spec
-    (λ c κs. search needs)
-    (λ c κs. search needs)
-    (λ c. search needs)
-    (λ c. search needs)
-    returns)
+    (tie.spec (λ c κs. search needs) (λ c κs. search needs) (λ c. search needs) (λ c. search needs) returns)

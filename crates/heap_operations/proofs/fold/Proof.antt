@@ -1,5 +1,5 @@
 -- `fold` meets its contract: a refusal, and the fold of an image that passes the checks.
-use mathlib.Core.Path.{sym, _∙_}
+use mathlib.Core.Path.{_∙_}
 use native.Mathlib.Omega.{arith}
 use borrow.Author.Needs.{needs}
 use Rattle.heap_operations.proofs.FoldLaws.{count-visited, few-visited, fold-passed, fold-ready, fold-refused}
@@ -8,9 +8,7 @@ use Rattle.heap_operations.proofs.fold.Tie as tie
 
 returns : tie.Need-returns
 returns c =
-    let a = c .before .before .before .before .before .before .before .before .before .args in
-    let k = c .before .before .before .before .check-image in
-    fold-refused (a .pointers .now) (a .cells .now) (k .result .refusal) (k .ensures .refusal) (c .if1 .taken)
+    fold-refused (c .before .before .before .before .check-image .ensures) (c .if1 .taken)
 
 array-share-prefix-order : tie.Need-array-share-prefix-order
 array-share-prefix-order c =
@@ -29,11 +27,8 @@ fold-heap-requires c κs =
 
 returns-2 : tie.Need-returns-2
 returns-2 c =
-    let e = c .before .before .before in
-    let k = e .before .before .before .before in
-    let a = k .before .before .before .before .before .args in
-    c .fold-heap .ensures
-    ∙ fold-passed (a .pointers .now) (a .cells .now) (sym (k .check-image .ensures .refusal) ∙ e .if1 .left)
+    let t = c .before .before .before in
+    c .fold-heap .ensures ∙ fold-passed (t .before .before .before .before .check-image .ensures) (t .if1 .left)
 
 pub fold-spec : {M : Type 1} → statement M
 fold-spec =

@@ -7,13 +7,15 @@ use Rattle.heap_operations.proofs.step.Tie as tie
 
 returns : tie.Need-returns
 returns c =
-    let a = c .before .before .before .before .before .before .before .args in
-    let s = c .before .step-refusal in
-    step-unchecked (a .rec .now) (a .pick) (a .cell) (a .pointers .now) (a .cells .now) (s .result) (s .ensures)
+    let k = c .before in
+    let a = k .before .before .before .before .before .before .args in
+    step-unchecked (a .rec .now) (a .pick) (a .cell) (a .pointers .now) (a .cells .now) (k .step-refusal .ensures)
     (c .if1 .taken)
 
 take-step-requires : tie.Need-take-step-requires
-take-step-requires c κs = sym (c .before .before .before .step-refusal .ensures) ∙ c .before .before .if1 .left
+take-step-requires c κs =
+    let t = c .before .before in
+    sym (t .before .step-refusal .ensures) ∙ t .if1 .left
 
 returns-2 : tie.Need-returns-2
 returns-2 c = c .before .before .before .before .take-step .ensures

@@ -6,26 +6,27 @@ use Rattle.heap_operations.proofs.unfold.Tie as tie
 
 returns : tie.Need-returns
 returns c =
-    let a = c .before .before .before .before .before .before .args in
-    let u = c .before .unfold-refusal in
-    unfold-refused (a .rec .now) (a .counters .now) (a .pointers .now) (a .cells .now) (u .result) (u .ensures)
+    let u = c .before in
+    let a = u .before .before .before .before .before .args in
+    unfold-refused (a .rec .now) (a .counters .now) (a .pointers .now) (a .cells .now) (u .unfold-refusal .ensures)
     (c .if1 .taken)
 
 unfold-shape-requires : tie.Need-unfold-shape-requires
 unfold-shape-requires c κs =
-    let a = c .before .before .before .before .before .before .before .before .args in
-    let u = c .before .before .before .unfold-refusal in
-    unfold-ready (a .rec .now) (a .counters .now) (a .pointers .now) (a .cells .now) (u .result) (u .ensures)
-    (c .before .before .if1 .left)
+    let t = c .before .before in
+    let u = t .before in
+    let a = u .before .before .before .before .before .args in
+    unfold-ready (a .rec .now) (a .counters .now) (a .pointers .now) (a .cells .now) (u .unfold-refusal .ensures)
+    (t .if1 .left)
 
 returns-2 : tie.Need-returns-2
 returns-2 c =
-    let s = c .before .before .before .before .unfold-shape in
-    let t = c .before .before .before .before .before .before .before in
-    let u = t .before .unfold-refusal in
-    let a = t .before .before .before .before .before .before .args in
-    unfold-done (a .rec .now) (a .counters .now) (a .pointers .now) (a .cells .now) (u .result) (u .ensures)
-    (t .if1 .left) (s .last .1 .1 .0) (s .last .1 .1 .1 .0) (s .ensures .0) (s .ensures .1)
+    let s = c .before .before .before .before in
+    let t = s .before .before .before in
+    let u = t .before in
+    let a = u .before .before .before .before .before .args in
+    unfold-done (a .rec .now) (a .counters .now) (a .pointers .now) (a .cells .now) (u .unfold-refusal .ensures)
+    (t .if1 .left) (s .unfold-shape .ensures)
 
 pub unfold-spec : {M : Type 1} → statement M
 unfold-spec =

@@ -68,5 +68,5 @@ pub take-step-spec : {M : Type 1} → statement M
 take-step-spec =
     tie.close
     (tie.spec decode-requires entry-ok-requires (λ c. search needs) returns (λ c. search needs) returns-2
-    branch-of-requires run-statement-requires (λ c. search needs) (λ c. search needs) returns-3
-    (λ c κs. search needs) (λ c. search needs) (λ c. search needs) returns-4)
+    branch-of-requires run-statement-requires (λ c. search needs) (λ c. search needs) returns-3 (λ c κs. search needs)
+    (λ c. search needs) (λ c. search needs) returns-4)
