@@ -17,7 +17,7 @@ pub struct Ran {
 }
 
 // Whether no cell is lost, where n cells have marks: if that is all of them, there is nothing to look for.
-fn keeps_all(cells: &[u8], seen: &[u8], n: usize) -> bool
+pub fn keeps_all(cells: &[u8], seen: &[u8], n: usize) -> bool
     requires { ⌜ length (now cells) ≤ length (now seen) ⌝ }
     ensures { λ r. ⌜ r ≡ eqb n (length (now (cells .entry)))
         || eachUsed (λ c. not (eqb (getD (now (seen .entry)) c 0) 0)) 0 (map cellSlot (now (cells .entry))) ⌝ }

@@ -11,7 +11,8 @@ ghost use Rattle.model.specs.Image.{checksStatement, stepImage};
 ghost use Rattle.model.specs.Records.{firstFailed};
 ghost use Rattle.plain_step.specs.Step.{StepReady, RunOn, Finished};
 
-// Runs a statement on the image, and answers the fault (0 for none).
+// Runs a statement on the image, and answers the fault (0 for none). These are the steps of `machine::run`: with a second
+// caller, the compiler would no longer inline that into the exploration.
 fn run_on(d: Decoded, x: usize, pointers: &mut [u8], cells: &mut [u8]) -> u8
     requires { ⌜ StepReady d x (now pointers) (now cells) ⌝ }
     ensures { λ r. ⌜ RunOn d x (now (pointers .entry)) (now (cells .entry))
@@ -19,8 +20,12 @@ fn run_on(d: Decoded, x: usize, pointers: &mut [u8], cells: &mut [u8]) -> u8
 {
     let mut order = [0u8; 240];
     let mut seen = [0u8; 240];
-    let ran = machine::run(d, x, pointers, cells, &mut order, &mut seen);
-    ran.fault
+    let fault = effect::run_effect(d, x, pointers, cells);
+    if fault != 0 {
+        return fault;
+    }
+    let n = visit::visit(&pointers[..], &cells[..], &mut order, &mut seen);
+    if machine::keeps_all(&cells[..], &seen, n) { 0 } else { 3 }
 }
 
 // Puts the image ps, cs back where a run had a fault.
