@@ -40,8 +40,14 @@ fault-edge : (s k : ℕ) (y : Way) (x : Fault) (a : Answer) (E : Edge) → a ≡
     → record { branchNo = 0; guards = y .guards; to = failed s x; updates = [] } ≡ E
 fault-edge s k y x a E e q = head-eq-of-cons-eq (sym (ap (edgeBy s k y) e) ∙ q)
 
-pub went-edge : (s k : ℕ) (y : Way) (b t : ℕ) (h : Heap) (a : Answer) (E : Edge) → a ≡ went b t h → edgeBy s k y a ≡ E ∷ []
-    → record { branchNo = b; guards = y .guards; to = at t (shape h); updates = map (updateOf k (y .weight)) (segments h) } ≡ E
+pub went-edge : (s k : ℕ) (y : Way) (b t : ℕ) (h : Heap) (a : Answer) (E : Edge) → a ≡ went b t h → edgeBy s k y a ≡ E
+    ∷ []
+    → record {
+      branchNo = b;
+      guards = y .guards;
+      to = at t (shape h);
+      updates = map (updateOf k (y .weight)) (segments h);
+    } ≡ E
 went-edge s k y b t h a E e q = head-eq-of-cons-eq (sym (ap (edgeBy s k y) e) ∙ q)
 
 -- the fault that a number is
@@ -71,7 +77,8 @@ module _ {l : List ℕ} {d : Decoded} {s : ℕ} {h : Heap} {y : declared.Way} (R
       ∙ ap (λ b. answerOf (stmtIn d) b (carryOut (opIn d) k x))
       (ap (λ i. branchBy i 0 x) (f .1) ∙ sym (ap (λ i. branchBy i (y .pick) h) (f .1)))))
       (λ e. rw e (step-go (stmtIn d) (entry (y .pick) k) h (R .goes)
-      (accept-room (opIn d) (entry (y .pick) k) h (room-of (action (opIn d)) h k (List·getD-eq-default (h .slots) unused (omega arith)))
+      (accept-room (opIn d) (entry (y .pick) k) h
+      (room-of (action (opIn d)) h k (List·getD-eq-default (h .slots) unused (omega arith)))
       (λ q. R .pick))))
 
   pub guards-is : guardBytes (wayIn y h .guards) ≡ guardsBytes (y .guards)
@@ -108,7 +115,8 @@ fault-leaves {l = l} {d = d} {y = y} {us = us} F m s h R E e =
 
 -- ---- a run by a ready way
 
-module _ {l : List ℕ} {d : Decoded} {y : declared.Way} {image : Bytes} {visit seen : List ℕ} {g : Gone} (W : WayRan l d y image visit seen g) where
+module _ {l : List ℕ} {d : Decoded} {y : declared.Way} {image : Bytes} {visit seen : List ℕ} {g : Gone}
+    (W : WayRan l d y image visit seen g) where
   abbrev left : Heap
   left = leftIn image g
 
@@ -180,13 +188,15 @@ module _ {l : List ℕ} {d : Decoded} {y : declared.Way} {image : Bytes} {visit 
       let q = went-edge s k yy b (target st b) left (stepBy st k yy) E step e in
       let codes : ℕ → (ℕ → Weight) → List ℕ = λ j f. map (λ i. updateCode (updateOf j f i)) (segments left) in
       let weights : codes (w .nodes) (weightIn w) ≡ codes k (yy .weight) =
-      (λ i. codes (wn i) (weightBy (ws i) (wv i) (wn i))) ∙ ap (λ j. codes j (weightBy (y .split) (y .node .0) j)) (nodes-is R)
+      (λ i. codes (wn i) (weightBy (ws i) (wv i) (wn i))) ∙ ap (λ j. codes j (weightBy (y .split) (y .node .0) j))
+      (nodes-is R)
       ∙ ap (codes k) (sym (weight-way R)) in
       record {
         branch = ap (λ (i : Edge). i .branchNo) q;
         guards = ap (λ (i : Edge). guardBytes (i .guards)) (sym q) ∙ guards-is R;
         target = te ∙ L .target a ∙ ap (λ i. locRecord (at i (shape left))) ae ∙ ap (λ (i : Edge). locRecord (i .to)) q;
-        number = L .number ∙ sym (length-map (segments left) (updateOf k (yy .weight))) ∙ ap (λ (i : Edge). length (i .updates)) q;
+        number = L .number ∙ sym (length-map (segments left) (updateOf k (yy .weight)))
+            ∙ ap (λ (i : Edge). length (i .updates)) q;
         few = L .few;
         updates = L .updates ∙ weights ∙ sym (map-map updateCode (updateOf k (yy .weight)) (segments left))
             ∙ ap (λ (i : Edge). map updateCode (i .updates)) q;

@@ -1,4 +1,5 @@
--- The edge of a test, choose or skip: the run is done with the heap as it is, which is its own shape, and each counter is carried.
+-- The edge of a test, choose or skip: the run is done with the heap as it is, which is its own shape, and each counter
+-- is carried.
 use Prim.Native.Nat.{ℕ, _+_, _^_, _≤_, _<_}
 use mathlib.Core.Path.{_≡_, refl, sym, ap, ap₂, _∙_}
 use mathlib.Core.Bool.{Bool, true, false, _||_, cond}
@@ -72,7 +73,8 @@ carried k i lt =
     let here : plusBy (weightBy false 0 k i) ≡ 2 ^ i = rw (ne-eqb i k (λ e. omega arith)) in
     omega (
       arith,
-      segment-update false i k (single i) (λ e. lt) (refl, tt) (λ c q. omega (arith, in-single c i (mem-in c (i ∷ []) q))),
+      segment-update false i k (single i) (λ e. lt) (refl, tt)
+          (λ c q. omega (arith, in-single c i (mem-in c (i ∷ []) q))),
     )
 
 codes-carried : (k : ℕ) (us : List ℕ) → k ≤ 12 → k ≤ length us → ((j : ℕ) → j < 12 → getD us j 0 ≡ 4096 + 2 ^ j)
@@ -91,7 +93,8 @@ codes-carried k us few room codes =
 -- ---- the edge
 
 -- no split is ready, as nothing is looked at
-pub keep-leaves : {l : List ℕ} {d : Decoded} {y : Way} (t us : List ℕ) (a b : ℕ) → staysAt (d .op) ≡ true → 12 ≤ length us
+pub keep-leaves : {l : List ℕ} {d : Decoded} {y : Way} (t us : List ℕ) (a b : ℕ) → staysAt (d .op) ≡ true
+    → 12 ≤ length us
     → b ≡ branch (opIn d) (y .pick) (heapOf (take 6 (drop 4 l)) []) → a ≡ target (stmtIn d) b → t ≡ set l 1 a
     → ((j : ℕ) → j < 12 → getD us j 0 ≡ 4096 + 2 ^ j)
     → LeavesBy l d y t us (record { branch = b; guards = y .guards; nodes = byte l 3 })
@@ -102,7 +105,8 @@ keep-leaves {l = l} {d = d} {y = y} t us a b le room be ae te codes s h R E e =
     let few = nodes-few R in
     let is = nodes-is R in
     let stays = stays-op (d .op) (d .u .0) (d .w .0) (R .statement .known) le in
-    let plain : y .split ≡ false = bool-case (y .split) (λ q. no-view (ap (λ x. view x h) (sym stays) ∙ R .isNode q)) (λ q. q) in
+    let plain : y .split ≡ false = bool-case (y .split) (λ q. no-view (ap (λ x. view x h) (sym stays) ∙ R .isNode q))
+    (λ q. q) in
     let whole-heap : w .heap ≡ h = rw plain in
     let weight-is : w .weight ≡ weightBy false 0 k = rw plain in
     let step : stepBy st k w ≡ answerOf st b (done h) =
@@ -119,7 +123,8 @@ keep-leaves {l = l} {d = d} {y = y} t us a b le room be ae te codes s h R E e =
     record {
       branch = ap (λ (x : Edge). x .branchNo) q;
       guards = ap (λ (x : Edge). guardBytes (x .guards)) (sym q) ∙ guards-is R;
-      target = te ∙ ap (λ x. set x 1 a) (R .isRecord) ∙ ap₂ (λ i x. locRecord (at i x)) ae (sym (canon-fold h (R .isShape)))
+      target = te ∙ ap (λ x. set x 1 a) (R .isRecord)
+          ∙ ap₂ (λ i x. locRecord (at i x)) ae (sym (canon-fold h (R .isShape)))
           ∙ ap (λ (x : Edge). locRecord (x .to)) q;
       number = is ∙ sym number ∙ ap (λ (x : Edge). length (x .updates)) q;
       few = few;
@@ -130,7 +135,9 @@ keep-leaves {l = l} {d = d} {y = y} t us a b le room be ae te codes s h R E e =
     }
 
 -- any other op that goes may change the heap
-pub changes-op : {l : List ℕ} {s : ℕ} {h : Heap} {y : Way} (d : Decoded) → WayReady l d s h y → d .op < 8 → keepsAt (d .op) ≡ false
+pub changes-op : {l : List ℕ} {s : ℕ} {h : Heap} {y : Way} (d : Decoded) → WayReady l d s h y → d .op < 8
+    → keepsAt (d .op) ≡ false
 changes-op d R lt =
-    let z : d .op ≡ 0 → ⊥ = λ e. clash (op-stops (d .op) (d .u .0) (d .w .0) (R .statement .known) ∙ eq-eqb (d .op) 0 e) (R .goes) in
+    let z : d .op ≡ 0 → ⊥ = λ e. clash (op-stops (d .op) (d .u .0) (d .w .0) (R .statement .known)
+    ∙ eq-eqb (d .op) 0 e) (R .goes) in
     rw (ne-eqb (d .op) 0 z, lt-leb 8 (d .op) lt)

@@ -36,7 +36,8 @@ module _ {ps cs visit held : List ℕ} {w : Weights} {t us : List ℕ} (L : Leav
 
   tail-visited : w .split ≡ true → mem (w .nodes) visit ≡ true
   tail-visited e =
-      subst (λ l. mem (w .nodes) l ≡ true) (sym (L .image .visited)) (heap-kept (heapOf ps cs) (L .image .isHeap) (w .nodes) (L .hasTail e))
+      subst (λ l. mem (w .nodes) l ≡ true) (sym (L .image .visited))
+      (heap-kept (heapOf ps cs) (L .image .isHeap) (w .nodes) (L .hasTail e))
 
   different : NoDup visit
   different = subst NoDup (sym (L .image .visited)) (tour-facts .nodup)
@@ -44,7 +45,8 @@ module _ {ps cs visit held : List ℕ} {w : Weights} {t us : List ℕ} (L : Leav
   -- the blank target b, whose part from byte 4 on is lent
   module _ {b : List ℕ} (e : b ≡ replicate 32 0 ++ drop 32 t) where
     blank : b ≡ replicate 32 0
-    blank = let short : length t ≤ 32 = omega (arith, L .wide) in e ∙ ap (λ d. replicate 32 0 ++ d) (drop-of-length-le t short)
+    blank = let short : length t ≤ 32 = omega (arith, L .wide) in
+        e ∙ ap (λ d. replicate 32 0 ++ d) (drop-of-length-le t short)
 
     pub part-room : 18 ≤ length (midOf 4 (length b - 4) b)
     part-room = rw blank (omega arith)
@@ -83,7 +85,8 @@ module _ {ps cs visit held : List ℕ} {w : Weights} {t us : List ℕ} (L : Leav
       }
 
       -- the updates are us′
-      pub is-left : (us′ : List ℕ) → length us′ ≡ length us → ((j : ℕ) → j < length us → getD us′ j 0 ≡ codeAt nd w visit j)
+      pub is-left : (us′ : List ℕ) → length us′ ≡ length us
+          → ((j : ℕ) → j < length us → getD us′ j 0 ≡ codeAt nd w visit j)
           → IsLeft ps cs w (putMid 4 (length b - 4) b q) us′ m
       is-left us′ len codes =
           let g = heapOf ps cs in

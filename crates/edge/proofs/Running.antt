@@ -1,4 +1,5 @@
--- The run by a ready way: the opened image is one that the machine can run, and what the run gives is what the way's heap gives.
+-- The run by a ready way: the opened image is one that the machine can run, and what the run gives is what the way's
+-- heap gives.
 use Prim.Native.Nat.{ℕ, zero, suc, _+_, _≤_}
 use mathlib.Core.Path.{_≡_, refl, sym, ap, subst, _∙_}
 use mathlib.Core.Bool.{true}
@@ -47,7 +48,8 @@ module _ {l : List ℕ} {d : Decoded} {s : ℕ} {h : Heap} {y : Way} (R : WayRea
   slots-is = nodes-is R ∙ ap (λ (x : Heap). length (x .slots)) (sym (shape-is R))
 
   -- the image ps and the first c of cs, as the shape was opened
-  module _ (ps cs : List ℕ) (c : ℕ) (pe : ps ≡ take 6 (drop 4 l)) (ce : c ≡ openedCount (y .split) op (byte l 3)) (room : 13 ≤ length cs)
+  module _ (ps cs : List ℕ) (c : ℕ) (pe : ps ≡ take 6 (drop 4 l)) (ce : c ≡ openedCount (y .split) op (byte l 3))
+      (room : 13 ≤ length cs)
       (he : heapOf ps (take c cs) ≡ openedHeap (y .split) op v (shapeOf l)) where
     count-few : c ≤ byte l 3 + 1
     count-few = rw ce (count-most (y .split) op (byte l 3))
@@ -81,7 +83,8 @@ module _ {l : List ℕ} {d : Decoded} {s : ℕ} {h : Heap} {y : Way} (R : WayRea
             isW = R .statement .isW;
             six = six-pointers;
             few = omega arith;
-            isClosed = subst (λ (x : Heap). closed x ≡ true) (sym heap-is) (opened-closed (y .split) op v h (R .isShape .closed) (node-used R));
+            isClosed = subst (λ (x : Heap). closed x ≡ true) (sym heap-is)
+                (opened-closed (y .split) op v h (R .isShape .closed) (node-used R));
             room = rw (len, cis, is) (opened-end op u w lt (y .split) v h (R .isNode));
           };
           fresh = subst (λ (x : Heap). Room a x (byte l 3)) (sym heap-is)
@@ -92,15 +95,22 @@ module _ {l : List ℕ} {d : Decoded} {s : ℕ} {h : Heap} {y : Way} (R : WayRea
         }
 
     -- the branch b, and the image qs, ds that the run leaves
-    pub way-ran : (qs ds o t : List ℕ) (b : ℕ) (r : Ran) → ((ks : List ℕ) → b ≡ branch (opIn d) (y .pick) (heapOf ps ks))
+    pub way-ran : (qs ds o t : List ℕ) (b : ℕ) (r : Ran)
+        → ((ks : List ℕ) → b ≡ branch (opIn d) (y .pick) (heapOf ps ks))
         → IsRun d (byte l 3) (bytes ps (take c cs)) (bytes qs ds) o t r → length ds ≡ length (take c cs)
-        → WayRan l d y (bytes qs (ds ++ drop c cs)) o t (record { fault = r .fault; branch = b; cells = c; visited = r .visited })
+        → WayRan l d y (bytes qs (ds ++ drop c cs)) o t (record {
+          fault = r .fault;
+          branch = b;
+          cells = c;
+          visited = r .visited;
+        })
     way-ran qs ds o t b r be I len =
         let k = length (h .slots) in
         let is = nodes-is R in
         let lc : length ds ≡ c = len ∙ part-length in
         let part : take c (ds ++ drop c cs) ≡ ds = take-at ds (drop c cs) c lc in
-        let run : carryOut (opIn d) (byte l 3) (heapOf ps (take c cs)) ≡ carryOut (opIn d) (byte l 3) (wayIn y (shapeOf l) .heap) =
+        let run : carryOut (opIn d) (byte l 3) (heapOf ps (take c cs))
+        ≡ carryOut (opIn d) (byte l 3) (wayIn y (shapeOf l) .heap) =
         ap (carryOut (opIn d) (byte l 3)) heap-is
         ∙ ap (λ n. carryOut (opIn d) n (openedHeap (y .split) op v h)) is
         ∙ opened-run op (d .u .0) (d .w .0) (R .statement .known) (y .split) v h (R .isNode) y refl refl

@@ -16,7 +16,8 @@ use Rattle.way.specs.declared.Way.{Way}
 abbrev pub LeavesBy : List ℕ → Decoded → Way → List ℕ → List ℕ → EdgeMade → Type 0
 LeavesBy l d y t us r =
     (s : ℕ) (h : Heap) → WayReady l d s h y → (E : Edge)
-    → edgeBy s (length (h .slots)) (wayIn y h) (stepBy (stmtIn d) (length (h .slots)) (wayIn y h)) ≡ E ∷ [] → IsEdge E t us r
+    → edgeBy s (length (h .slots)) (wayIn y h) (stepBy (stmtIn d) (length (h .slots)) (wayIn y h)) ≡ E ∷ []
+    → IsEdge E t us r
 
 -- some location is given of which the way is ready, and there is room for the target and the updates
 pub record EdgeReady (l : List ℕ) (d : Decoded) (y : Way) (t us : List ℕ) : Type 0 where

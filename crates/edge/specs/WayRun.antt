@@ -36,7 +36,8 @@ staysAt op = leb 8 op
 abbrev pub FaultMade : List ℕ → ℕ → Guards → List ℕ → EdgeMade → Type 0
 FaultMade l f g t r = (r .branch ≡ 0) × (r .guards ≡ g) × (r .nodes ≡ 0) × (t ≡ faultBytes (byte l 1) f)
 
--- the edge by branch b, with guards g and m new nodes, to the statement of that branch: its target before (t) and after (t′)
+-- the edge by branch b, with guards g and m new nodes, to the statement of that branch: its target before (t) and
+-- after (t′)
 abbrev pub EdgeOn : Decoded → ℕ → Guards → ℕ → List ℕ → List ℕ → EdgeMade → Type 0
 EdgeOn d b g m t t′ r =
     (r ≡ record { branch = b; guards = g; nodes = m }) × (t′ ≡ 0x4c ∷ target (stmtIn d) b ∷ 0 ∷ m ∷ drop 4 t)
@@ -56,8 +57,8 @@ pub record RunsReady (l : List ℕ) (d : Decoded) (y : Way) (image : Bytes) (vis
 abbrev pub leftIn : Bytes → Gone → Heap
 leftIn image r = heapOf (image .pointers) (take (r .cells) (image .cells))
 
--- what the run gave, and the image afterwards, are those of the statement run on the way's heap; without a fault the visited cells
--- stand in their order, and the marks tell the core cells
+-- what the run gave, and the image afterwards, are those of the statement run on the way's heap; without a fault the
+-- visited cells stand in their order, and the marks tell the core cells
 pub record WayRan (l : List ℕ) (d : Decoded) (y : Way) (image : Bytes) (visit seen : List ℕ) (r : Gone) : Type 0 where
   pub outcome : effectOf (r .fault) (leftIn image r) ≡ carryOut (opIn d) (byte l 3) (wayIn y (shapeOf l) .heap)
   pub branch : r .branch ≡ branch (opIn d) (y .pick) (shapeOf l)
@@ -68,8 +69,8 @@ pub record WayRan (l : List ℕ) (d : Decoded) (y : Way) (image : Bytes) (visit 
   pub few : r .fault ≡ 0 → r .visited ≤ r .cells
   pub held : r .fault ≡ 0 → Held (image .pointers) (take (r .cells) (image .cells)) seen
 
--- a heap image in visit order with the counts of holders, of at most one cell past the old nodes, and room for the target t and the
--- updates us; at a split the tail is in use
+-- a heap image in visit order with the counts of holders, of at most one cell past the old nodes, and room for the
+-- target t and the updates us; at a split the tail is in use
 pub record LeaveReady (ps cs visit held : List ℕ) (w : Weights) (t us : List ℕ) : Type 0 where
   pub image : ShapeReady ps cs visit held
   pub fewOld : w .nodes ≤ 12

@@ -33,18 +33,24 @@ records-open : (n : ℕ) (rs : List (List ℕ)) (r : Routine) → checkRecords n
 records-open n rs r e = by-bad (badRecord n 0 [] rs) refl
   where
     by-bad : (o : Option Refusal) → badRecord n 0 [] rs ≡ o
-        → (badRecord n 0 [] rs ≡ none) × (r ≡ record { stmts = map stmtOf (take n rs); starts = map shapeOf (drop n rs) })
+        → (badRecord n 0 [] rs ≡ none) × (r ≡ record {
+          stmts = map stmtOf (take n rs);
+          starts = map shapeOf (drop n rs);
+        })
     by-bad (some x) q = bad-good (rw (q, checkRecords) at e)
     by-bad none q = (q, sym (good-inj (rw (q, checkRecords) at e)))
 
 counts-open : (rs : List (List ℕ)) (r : Routine) → checkCounts rs ≡ good r
-    → (between 1 64 (count isS rs) ≡ true) × (between 1 16 (count isH rs) ≡ true) × (checkRecords (count isS rs) rs ≡ good r)
+    → (between 1 64 (count isS rs) ≡ true) × (between 1 16 (count isH rs) ≡ true)
+    × (checkRecords (count isS rs) rs ≡ good r)
 counts-open rs r e = bool-case (between 1 64 (count isS rs))
     (λ a. let e1 = rw (a, checkCounts) at e in
-    bool-case (between 1 16 (count isH rs)) (λ b. (a, b, rw (b, checkCounts) at e1)) (λ b. bad-good (rw (b, checkCounts) at e1)))
+    bool-case (between 1 16 (count isH rs)) (λ b. (a, b, rw (b, checkCounts) at e1))
+    (λ b. bad-good (rw (b, checkCounts) at e1)))
     (λ a. bad-good (rw (a, checkCounts) at e))
 
-kinds-open : (rs : List (List ℕ)) (r : Routine) → checkKinds rs ≡ good r → (badKind false 0 rs ≡ none) × (checkCounts rs ≡ good r)
+kinds-open : (rs : List (List ℕ)) (r : Routine) → checkKinds rs ≡ good r → (badKind false 0 rs ≡ none)
+    × (checkCounts rs ≡ good r)
 kinds-open rs r e = by-kind (badKind false 0 rs) refl
   where
     by-kind : (o : Option ℕ) → badKind false 0 rs ≡ o → (badKind false 0 rs ≡ none) × (checkCounts rs ≡ good r)
@@ -81,7 +87,8 @@ module _ (s : List ℕ) (n : ℕ) (w : 32 * n ≡ length s) (m : ℕ) (e : badRe
   passed zero h = e
   passed (suc i) h =
       let q = passed i (omega arith) in
-      ap (λ j. badRecord m j (earlier s j) (drop j (recordsOf s))) (sym (add-one i)) ∙ sym (records-pass s n w m i (omega arith) (one-more i (omega arith) q)) ∙ q
+      ap (λ j. badRecord m j (earlier s j) (drop j (recordsOf s))) (sym (add-one i))
+      ∙ sym (records-pass s n w m i (omega arith) (one-more i (omega arith) q)) ∙ q
 
   pub record-passed : (i : ℕ) → i < n → recordRefusal m s i ≡ 0
   record-passed i h = one-more i h (passed i (omega arith))

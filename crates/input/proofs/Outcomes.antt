@@ -18,17 +18,20 @@ module _ (n : ℕ) (rs : List (List ℕ)) where
   pub records-bad : (x : Refusal) → badRecord n 0 [] rs ≡ some x → bad x ≡ checkRecords n rs
   records-bad x e = rw (e, checkRecords)
 
-  pub records-good : badRecord n 0 [] rs ≡ none → good (record { stmts = map stmtOf (take n rs); starts = map shapeOf (drop n rs) }) ≡ checkRecords n rs
+  pub records-good : badRecord n 0 [] rs ≡ none
+      → good (record { stmts = map stmtOf (take n rs); starts = map shapeOf (drop n rs) }) ≡ checkRecords n rs
   records-good e = rw (e, checkRecords)
 
 module _ (rs : List (List ℕ)) where
   pub counts-2 : between 1 64 (count isS rs) ≡ false → bad (refusal 2 0) ≡ checkCounts rs
   counts-2 e = rw (e, checkCounts)
 
-  pub counts-3 : between 1 64 (count isS rs) ≡ true → between 1 16 (count isH rs) ≡ false → bad (refusal 3 0) ≡ checkCounts rs
+  pub counts-3 : between 1 64 (count isS rs) ≡ true → between 1 16 (count isH rs) ≡ false → bad (refusal 3 0)
+      ≡ checkCounts rs
   counts-3 e h = rw (e, checkCounts) (rw (h, checkCounts))
 
-  pub counts-rest : between 1 64 (count isS rs) ≡ true → between 1 16 (count isH rs) ≡ true → checkRecords (count isS rs) rs ≡ checkCounts rs
+  pub counts-rest : between 1 64 (count isS rs) ≡ true → between 1 16 (count isH rs) ≡ true
+      → checkRecords (count isS rs) rs ≡ checkCounts rs
   counts-rest e h = rw (e, checkCounts) (rw (h, checkCounts))
 
   pub kinds-4 : (i : ℕ) → badKind false 0 rs ≡ some i → bad (refusal 4 i) ≡ checkKinds rs

@@ -34,24 +34,30 @@ chunks-at (suc n) s (suc i) h =
 
 -- a record's tag is the byte where it begins
 pub record-tag : (s : List ℕ) (i : ℕ) → byte (recordAt s i) 0 ≡ getD s (32 * i) 0
-record-tag s i = getD-take 32 (drop (32 * i) s) 0 0 (omega arith) ∙ getD-drop (32 * i) s 0 0 ∙ ap (λ m. getD s m 0) (add-zero (32 * i))
+record-tag s i = getD-take 32 (drop (32 * i) s) 0 0 (omega arith) ∙ getD-drop (32 * i) s 0 0
+    ∙ ap (λ m. getD s m 0) (add-zero (32 * i))
 
 pub record-wide : (s : List ℕ) (i : ℕ) → 32 * (i + 1) ≤ length s → length (recordAt s i) ≡ 32
 record-wide s i h = length-take-le 32 (drop (32 * i) s) (omega (arith, length-drop (32 * i) s))
 
 -- the kind of the first record
-kind-pass : (a : Bool) (i : ℕ) (r : List ℕ) (rs : List (List ℕ)) → kindFits a (byte r 0) ≡ true → badKind a i (r ∷ rs) ≡ badKind (isH r) (suc i) rs
+kind-pass : (a : Bool) (i : ℕ) (r : List ℕ) (rs : List (List ℕ)) → kindFits a (byte r 0) ≡ true → badKind a i (r ∷ rs)
+    ≡ badKind (isH r) (suc i) rs
 kind-pass a i r rs h = bool-case (isH r) (λ e. rw (e, badKind)) (λ e. rw (e, badKind) (rw (rw e at h, badKind)))
 
-kind-fail : (a : Bool) (i : ℕ) (r : List ℕ) (rs : List (List ℕ)) → kindFits a (byte r 0) ≡ false → badKind a i (r ∷ rs) ≡ some i
-kind-fail a i r rs h = bool-case (isH r) (λ e. clash (or-l (isH r) _ e) h) (λ e. rw (e, badKind) (rw (rw e at h, badKind)))
+kind-fail : (a : Bool) (i : ℕ) (r : List ℕ) (rs : List (List ℕ)) → kindFits a (byte r 0) ≡ false
+    → badKind a i (r ∷ rs) ≡ some i
+kind-fail a i r rs h = bool-case (isH r) (λ e. clash (or-l (isH r) _ e) h)
+    (λ e. rw (e, badKind) (rw (rw e at h, badKind)))
 
 -- the refusal of the first record
-refusal-pass : (n i : ℕ) (e : List (List ℕ)) (r : List ℕ) (rs : List (List ℕ)) → cond (isS r) (refusalS n r) (refusalH e r) ≡ 0
+refusal-pass : (n i : ℕ) (e : List (List ℕ)) (r : List ℕ) (rs : List (List ℕ))
+    → cond (isS r) (refusalS n r) (refusalH e r) ≡ 0
     → badRecord n i e (r ∷ rs) ≡ badRecord n (suc i) (r ∷ e) rs
 refusal-pass n i e r rs h = rw (h, badRecord)
 
-refusal-fail : (n i k : ℕ) (e : List (List ℕ)) (r : List ℕ) (rs : List (List ℕ)) → cond (isS r) (refusalS n r) (refusalH e r) ≡ k → (k ≡ 0 → ⊥)
+refusal-fail : (n i k : ℕ) (e : List (List ℕ)) (r : List ℕ) (rs : List (List ℕ))
+    → cond (isS r) (refusalS n r) (refusalH e r) ≡ k → (k ≡ 0 → ⊥)
     → badRecord n i e (r ∷ rs) ≡ some (refusal k i)
 refusal-fail n i zero e r rs h z = absurd (z refl)
 refusal-fail n i (suc k) e r rs h z = rw (h, badRecord)
@@ -93,7 +99,8 @@ module _ (s : List ℕ) (n : ℕ) (w : 32 * n ≡ length s) where
 
   pub records-step : (i : ℕ) → i < n → drop i (recordsOf s) ≡ recordAt s i ∷ drop (i + 1) (recordsOf s)
   records-step i h =
-      rw add-one (drop-cons (recordsOf s) i [] (omega (arith, records-length)) ∙ ap (λ r. r ∷ drop (suc i) (recordsOf s)) (records-at i h))
+      rw add-one (drop-cons (recordsOf s) i [] (omega (arith, records-length))
+      ∙ ap (λ r. r ∷ drop (suc i) (recordsOf s)) (records-at i h))
 
   pub records-end : (i : ℕ) → n ≤ i → drop i (recordsOf s) ≡ []
   records-end i h = drop-of-length-le (recordsOf s) {i = i} (omega (arith, records-length))
@@ -103,17 +110,21 @@ module _ (s : List ℕ) (n : ℕ) (w : 32 * n ≡ length s) where
       → badKind a i (drop i (recordsOf s)) ≡ badKind (eqb (getD s (32 * i) 0) 0x48) (i + 1) (drop (i + 1) (recordsOf s))
   kinds-pass a i h k =
       let rs = drop (i + 1) (recordsOf s) in
-      let e : badKind (isH (recordAt s i)) (suc i) rs ≡ badKind (eqb (getD s (32 * i) 0) 0x48) (i + 1) rs = rw (record-tag s i, add-one) in
+      let e : badKind (isH (recordAt s i)) (suc i) rs ≡ badKind (eqb (getD s (32 * i) 0) 0x48) (i + 1) rs =
+      rw (record-tag s i, add-one) in
       ap (badKind a i) (records-step i h) ∙ kind-pass a i (recordAt s i) rs (ap (kindFits a) (record-tag s i) ∙ k) ∙ e
 
-  pub kinds-fail : (a : Bool) (i : ℕ) → i < n → kindFits a (getD s (32 * i) 0) ≡ false → badKind a i (drop i (recordsOf s)) ≡ some i
-  kinds-fail a i h k = ap (badKind a i) (records-step i h) ∙ kind-fail a i (recordAt s i) (drop (i + 1) (recordsOf s)) (ap (kindFits a) (record-tag s i) ∙ k)
+  pub kinds-fail : (a : Bool) (i : ℕ) → i < n → kindFits a (getD s (32 * i) 0) ≡ false
+      → badKind a i (drop i (recordsOf s)) ≡ some i
+  kinds-fail a i h k = ap (badKind a i) (records-step i h) ∙ kind-fail a i (recordAt s i) (drop (i + 1) (recordsOf s))
+      (ap (kindFits a) (record-tag s i) ∙ k)
 
   pub kinds-end : (a : Bool) (i : ℕ) → n ≤ i → badKind a i (drop i (recordsOf s)) ≡ none
   kinds-end a i h = ap (badKind a i) (records-end i h)
 
   -- the statements from record i on
-  pub count-step : (i : ℕ) → i < n → count isS (drop i (recordsOf s)) ≡ cond (eqb (getD s (32 * i) 0) 0x53) 1 0 + count isS (drop (i + 1) (recordsOf s))
+  pub count-step : (i : ℕ) → i < n → count isS (drop i (recordsOf s)) ≡ cond (eqb (getD s (32 * i) 0) 0x53) 1
+      0 + count isS (drop (i + 1) (recordsOf s))
   count-step i h = ap (count isS) (records-step i h) ∙ rw (record-tag s i)
 
   pub count-end : (i : ℕ) → n ≤ i → count isS (drop i (recordsOf s)) ≡ 0
@@ -121,19 +132,23 @@ module _ (s : List ℕ) (n : ℕ) (w : 32 * n ≡ length s) where
 
   -- the refusals from record i on
   pub records-pass : (m i : ℕ) → i < n → recordRefusal m s i ≡ 0
-      → badRecord m i (earlier s i) (drop i (recordsOf s)) ≡ badRecord m (i + 1) (earlier s (i + 1)) (drop (i + 1) (recordsOf s))
+      → badRecord m i (earlier s i) (drop i (recordsOf s)) ≡ badRecord m (i + 1) (earlier s (i + 1))
+      (drop (i + 1) (recordsOf s))
   records-pass m i h z =
       let rs = drop (i + 1) (recordsOf s) in
       ap (badRecord m i (earlier s i)) (records-step i h) ∙ refusal-pass m i (earlier s i) (recordAt s i) rs z
       ∙ ap (λ j. badRecord m j (earlier s j) rs) (sym (add-one i))
 
-  pub records-fail : (m i k : ℕ) → i < n → recordRefusal m s i ≡ k → (k ≡ 0 → ⊥) → badRecord m i (earlier s i) (drop i (recordsOf s)) ≡ some (refusal k i)
+  pub records-fail : (m i k : ℕ) → i < n → recordRefusal m s i ≡ k → (k ≡ 0 → ⊥)
+      → badRecord m i (earlier s i) (drop i (recordsOf s)) ≡ some (refusal k i)
   records-fail m i k h e z =
-      ap (badRecord m i (earlier s i)) (records-step i h) ∙ refusal-fail m i k (earlier s i) (recordAt s i) (drop (i + 1) (recordsOf s)) e z
+      ap (badRecord m i (earlier s i)) (records-step i h) ∙ refusal-fail m i k (earlier s i) (recordAt s i)
+      (drop (i + 1) (recordsOf s)) e z
 
   pub records-pass-end : (m i : ℕ) → n ≤ i → badRecord m i (earlier s i) (drop i (recordsOf s)) ≡ none
   records-pass-end m i h = ap (badRecord m i (earlier s i)) (records-end i h)
 
 -- the records of an input are its statements and its shapes
-pub counts-whole : (s : List ℕ) (n : ℕ) → 32 * n ≡ length s → badKind false 0 (recordsOf s) ≡ none → count isS (recordsOf s) + count isH (recordsOf s) ≡ n
+pub counts-whole : (s : List ℕ) (n : ℕ) → 32 * n ≡ length s → badKind false 0 (recordsOf s) ≡ none
+    → count isS (recordsOf s) + count isH (recordsOf s) ≡ n
 counts-whole s n w e = kinds-sorted 0 (recordsOf s) e .whole ∙ records-length s n w

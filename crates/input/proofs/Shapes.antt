@@ -42,7 +42,9 @@ number-low : (cs : List Row) → all (λ (c : Row). leb (c .number) 10) cs ≡ t
 number-low [] h = omega arith
 number-low (c ∷ cs) h = bool-case (c .passes)
     (λ p. rw (p, firstFailed) (number-low cs (and-r (leb (c .number) 10) (all (λ (x : Row). leb (x .number) 10) cs) h)))
-    (λ p. rw (p, firstFailed) (leb-true (c .number) 10 (and-l (leb (c .number) 10) (all (λ (x : Row). leb (x .number) 10) cs) h)))
+    (λ p. rw (p, firstFailed) (leb-true (c .number) 10
+    (and-l (leb (c .number) 10) (all (λ (x : Row). leb (x .number) 10) cs) h)))
 
 pub number-few : (n : ℕ) (e : List (List ℕ)) (r : List ℕ) → cond (isS r) (refusalS n r) (refusalH e r) ≤ 10
-number-few n e r = bool-case (isS r) (λ a. rw a (number-low (checksS n r) refl)) (λ a. rw a (number-low (checksH e r) refl))
+number-few n e r = bool-case (isS r) (λ a. rw a (number-low (checksS n r) refl))
+    (λ a. rw a (number-low (checksH e r) refl))

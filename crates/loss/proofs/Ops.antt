@@ -30,7 +30,8 @@ sets (link u s) = none
 sets (make u) = some u
 sets (release u) = none
 
-pub sets-op : (op u w : ℕ) → op < opCount → cutsAt op ≡ false → keepsAt op ≡ false → sets (action (opOf op u w)) ≡ some u
+pub sets-op : (op u w : ℕ) → op < opCount → cutsAt op ≡ false → keepsAt op ≡ false → sets (action (opOf op u w))
+    ≡ some u
 sets-op op u w lt c k =
     each-op (λ o. sets (action o)) (λ n. cond (cutsAt n || keepsAt n) none (some u)) u w refl op lt ∙ rw (c, k)
 

@@ -1,4 +1,5 @@
--- A leak that is seen before the statement is run: what is asked of the location's record, and what it says of the run. Assumes nothing.
+-- A leak that is seen before the statement is run: what is asked of the location's record, and what it says of the
+-- run. Assumes nothing.
 use Prim.Native.Nat.{ℕ, _+_, _<_, _≤_}
 use mathlib.Core.Path.{_≡_}
 use mathlib.Core.Bool.{Bool, false, _||_}
@@ -42,4 +43,5 @@ pub record LossReady (l : List ℕ) (d : Decoded) (y : Way) : Type 0 where
 
 -- whichever location was given, the run is a leak
 abbrev pub Leaks : List ℕ → Decoded → Way → Type 0
-Leaks l d y = (s : ℕ) (h : Heap) → WayReady l d s h y → carryOut (opIn d) (length (h .slots)) (wayIn y h .heap) ≡ fault leak
+Leaks l d y = (s : ℕ) (h : Heap) → WayReady l d s h y → carryOut (opIn d) (length (h .slots)) (wayIn y h .heap)
+    ≡ fault leak

@@ -1,4 +1,5 @@
--- The laws about the definitions, in folders by subject, each below those that it cites. The last states what is claimed.
+-- The laws about the definitions, in folders by subject, each below those that it cites. The last states what is
+-- claimed.
 pub mod lists
 pub mod visits
 pub mod expansion

@@ -18,7 +18,8 @@ line x z = bytesOf 32 (x * 16 ^ z)
 
 -- the records in use, each L and then each E, as the program `translate` prints them
 abbrev printed : Tables → List (List ℕ)
-printed t = map (recordAt (t .locBytes)) (numbers 0 (t .locCount)) ++ map (recordAt (t .edgeBytes)) (numbers 0 (t .edgeCount))
+printed t = map (recordAt (t .locBytes)) (numbers 0 (t .locCount))
+    ++ map (recordAt (t .edgeBytes)) (numbers 0 (t .edgeCount))
 
 pub record Case : Type 0 where
   pub input : List (List ℕ)

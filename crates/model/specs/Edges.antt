@@ -35,7 +35,8 @@ oneAt n = record { node = n; test = isOne }
 abbrev pub moreAt : ℕ → Guard
 moreAt n = record { node = n; test = isMore }
 
--- How many cells of a heap a cell of the shape stands for: as many as the counter of node n says, one, or one less than that counter.
+-- How many cells of a heap a cell of the shape stands for: as many as the counter of node n says, one, or one less
+-- than that counter.
 pub data Weight : Type 0 where
   counter : ℕ → Weight
   one : Weight
@@ -61,8 +62,8 @@ pub record Update : Type 0 where
   pub adds : List Bool
   pub plus : ℕ
 
--- The update that adds up what the cells of a segment stand for, over k old nodes. At most one cell of the heap is one less than a
--- counter, since one node is split, so nothing is cut off where subtraction stops at 0.
+-- The update that adds up what the cells of a segment stand for, over k old nodes. At most one cell of the heap is one
+-- less than a counter, since one node is split, so nothing is cut off where subtraction stops at 0.
 abbrev pub updateOf : ℕ → (ℕ → Weight) → Seg → Update
 updateOf k w s = record {
   adds = map (λ i. any (λ c. addsCounter i (w c)) (cells s)) (numbers 0 k);
@@ -122,8 +123,8 @@ picksOf (ifNull u) = 0 ∷ []
 picksOf (ifSame u w) = 0 ∷ []
 picksOf picks = 0 ∷ 1 ∷ []
 
--- "Ops 3, 4, 5 and 7 on a pointer to a node give two edges: counter = 1, with nothing split, then counter ≥ 2, with the head split off
--- .. Every other statement gives one unguarded edge, except choose"
+-- "Ops 3, 4, 5 and 7 on a pointer to a node give two edges: counter = 1, with nothing split, then counter ≥ 2, with
+-- the head split off .. Every other statement gives one unguarded edge, except choose"
 abbrev pub waysOf : Kind → View → Heap → List Way
 waysOf k noNode h = map (λ p. whole [] p h) (picksOf k)
 waysOf k (oneNode n) h = whole (oneAt n ∷ []) 0 h ∷ split (moreAt n ∷ []) n h ∷ []

@@ -1,4 +1,5 @@
--- 01, "Records", heap images: folding, unfolding and the plain step on bytes, each with its whole outcome. Assumes nothing.
+-- 01, "Records", heap images: folding, unfolding and the plain step on bytes, each with its whole outcome. Assumes
+-- nothing.
 use Prim.Native.Nat.{ℕ, zero, suc, _-_, _+_}
 use mathlib.Core.Bool.{Bool, false, _&&_, cond, not}
 use mathlib.Core.List.{List, [], _∷_, _++_, map}
@@ -45,8 +46,16 @@ pub record Folding : Type 0 where
 unfoldable pub foldImage : List ℕ → List ℕ → Folding
 foldImage ps cs =
     elim (refusalImage ps cs) [
-      | zero ↦ let h = heapOf ps cs in record { verdict = isAccepted; recordBytes = shapeRecord (shape h); counts = filled mostNodes (counters h) }
-      | suc n ↦ record { verdict = verdictBy (suc n); recordBytes = replicate recordSize 0; counts = replicate mostNodes 0 }
+      | zero ↦ let h = heapOf ps cs in record {
+        verdict = isAccepted;
+        recordBytes = shapeRecord (shape h);
+        counts = filled mostNodes (counters h);
+      }
+      | suc n ↦ record {
+        verdict = verdictBy (suc n);
+        recordBytes = replicate recordSize 0;
+        counts = replicate mostNodes 0;
+      }
     ]
 
 -- ---- unfolding: "numbers cells from 0, node by node, head to tail"
@@ -88,7 +97,8 @@ countsFit k vs n = all (leb 1) (take k vs) && all isZero (drop k vs) && leb (sum
 abbrev pub countersFit : ℕ → List ℕ → ℕ → Bool
 countersFit k vs n = eqb (length vs) mostNodes && countsFit k vs n
 
--- "Unfolding checks the lengths (13), then 8, 9, 15"; r a record, vs the counters, np and nc the lengths of pointers and cells
+-- "Unfolding checks the lengths (13), then 8, 9, 15"; r a record, vs the counters, np and nc the lengths of pointers
+-- and cells
 abbrev pub checksUnfold : List ℕ → List ℕ → ℕ → ℕ → List Row
 checksUnfold r vs np nc =
     unless 13 (eqb np pointerCount && leb nc mostCells)
@@ -105,7 +115,8 @@ pub record Unfolding : Type 0 where
   pub ptrBytes : List ℕ
   pub cellBytes : List ℕ
 
--- the heap's bytes, "and marks the rest 0xfd" up to n cells; they fit, so nothing is cut off where subtraction stops at 0
+-- the heap's bytes, "and marks the rest 0xfd" up to n cells; they fit, so nothing is cut off where subtraction stops
+-- at 0
 abbrev pub cellBytesOf : ℕ → Heap → List ℕ
 cellBytesOf n h = let ss = map slotByte (h .slots) in ss ++ replicate (n - length ss) 0xfd
 

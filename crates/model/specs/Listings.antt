@@ -1,5 +1,5 @@
--- What the promises about listings, refusals and records speak of, beside specs/: the locations that are reached, what a listing holds,
--- where one has no place, what is wrong with an input, and what a record can hold.
+-- What the promises about listings, refusals and records speak of, beside specs/: the locations that are reached, what
+-- a listing holds, where one has no place, what is wrong with an input, and what a record can hold.
 use Prim.Native.Nat.{_%_, _/_, _<_, _≤_, suc, zero, ℕ}
 use mathlib.Core.Path.{_≡_}
 use mathlib.Core.Logic.{_⊎_}
@@ -55,8 +55,8 @@ noLink = record { from = 0; dest = 0; edge = record { branchNo = 0; guards = [];
 abbrev pub linkAt : Listing → ℕ → Link
 linkAt t n = getD (t .links) n noLink
 
--- "The starting shapes are locations 0 on, in input order. Locations are explored by number; each new target takes the next number; edges
--- stand in the order found." Each location stands once, and they are exactly those reached.
+-- "The starting shapes are locations 0 on, in input order. Locations are explored by number; each new target takes the
+-- next number; edges stand in the order found." Each location stands once, and they are exactly those reached.
 pub record Exact (r : Routine) (t : Listing) : Type 0 where
   pub starts : take (length (r .starts)) (t .locs) ≡ map (at 0) (r .starts)
   pub distinct : Distinct (t .locs)
@@ -88,11 +88,12 @@ IsFull r t = t ≡ explored (r .stmts) (r .starts) (length (t .locs))
 abbrev pub Placed : ℕ → ℕ → Listing → Type 0
 Placed cl ce t = (length (t .locs) ≤ cl) × (length (t .links) ≤ ce)
 
--- Why the edge e of location i cannot be added to listing u: 11, its target is new and every place for a location is taken; 12, its target
--- stands there or has a place, and every place for an edge is taken.
+-- Why the edge e of location i cannot be added to listing u: 11, its target is new and every place for a location is
+-- taken; 12, its target stands there or has a place, and every place for an edge is taken.
 pub data Why (cl ce i : ℕ) (e : Edge) (u : Listing) (x : Refusal) : Type 0 where
   no-location : x ≡ refusal 11 i → (In (e .to) (u .locs) → ⊥) → length (u .locs) ≡ cl → Why cl ce i e u x
-  no-edge : x ≡ refusal 12 i → In (e .to) (u .locs) ⊎ (length (u .locs) < cl) → length (u .links) ≡ ce → Why cl ce i e u x
+  no-edge : x ≡ refusal 12 i → In (e .to) (u .locs) ⊎ (length (u .locs) < cl) → length (u .links) ≡ ce
+      → Why cl ce i e u x
 
 -- of the edges es of location i, those before one have places, and that one has none
 pub record NoPlace (cl ce i : ℕ) (es : List Edge) (t : Listing) (x : Refusal) : Type 0 where
@@ -104,12 +105,15 @@ pub record NoPlace (cl ce i : ℕ) (es : List Edge) (t : Listing) (x : Refusal) 
   pub fit : Placed cl ce (extend i earlier t)
   pub why : Why cl ce i stuck (extend i earlier t) x
 
--- The refusal at location x .place: the locations below have been explored, it stands in the listing, and one of its edges has no place.
+-- The refusal at location x .place: the locations below have been explored, it stands in the listing, and one of its
+-- edges has no place.
 pub record Refused (sts : List Stmt) (hs : List Heap) (cl ce : ℕ) (x : Refusal) : Type 0 where
   pub reached : explore sts cl ce (x .place) 0 (explored sts hs 0) ≡ listed (explored sts hs (x .place))
   pub below : x .place < length (explored sts hs (x .place) .locs)
-  pub adding : addEdges cl ce (x .place) (edgesOf sts (locAt (explored sts hs (x .place) .locs) (x .place))) (explored sts hs (x .place)) ≡ full x
-  pub no-place : NoPlace cl ce (x .place) (edgesOf sts (locAt (explored sts hs (x .place) .locs) (x .place))) (explored sts hs (x .place)) x
+  pub adding : addEdges cl ce (x .place) (edgesOf sts (locAt (explored sts hs (x .place) .locs) (x .place)))
+      (explored sts hs (x .place)) ≡ full x
+  pub no-place : NoPlace cl ce (x .place) (edgesOf sts (locAt (explored sts hs (x .place) .locs) (x .place)))
+      (explored sts hs (x .place)) x
 
 -- ---- refusals of the input
 
@@ -127,7 +131,8 @@ wrongKind rs i = not (isH (getD rs i [])) && not (isS (getD rs i []) && not (any
 
 -- 5 to 10: the refusal of record i, 0 for none
 abbrev pub recordRefusal : List (List ℕ) → ℕ → ℕ
-recordRefusal rs i = cond (isS (getD rs i [])) (refusalS (count isS rs) (getD rs i [])) (refusalH (take i rs) (getD rs i []))
+recordRefusal rs i = cond (isS (getD rs i [])) (refusalS (count isS rs) (getD rs i []))
+    (refusalH (take i rs) (getD rs i []))
 
 -- the records of an input below i are of right kinds; they are not refused
 abbrev pub RightKinds : List ℕ → ℕ → Type 0
@@ -143,14 +148,18 @@ rightS s = between 1 mostStatements (count isS (recordsOf s))
 abbrev pub rightH : List ℕ → Bool
 rightH s = between 1 mostShapes (count isH (recordsOf s))
 
--- What is wrong with an input, in the order of the checks, each where all before it pass: "whole input, in this order"; "Records are checked in
--- input order, the lowest number first."
+-- What is wrong with an input, in the order of the checks, each where all before it pass: "whole input, in this
+-- order"; "Records are checked in input order, the lowest number first."
 pub data BadInput (s : List ℕ) (x : Refusal) : Type 0 where
   bad-length : x ≡ refusal 1 0 → noRecords s ≡ true → BadInput s x
-  bad-kind : (i : ℕ) → x ≡ refusal 4 i → noRecords s ≡ false → i < length (recordsOf s) → RightKinds s i → wrongKind (recordsOf s) i ≡ true → BadInput s x
-  bad-statements : x ≡ refusal 2 0 → noRecords s ≡ false → RightKinds s (length (recordsOf s)) → rightS s ≡ false → BadInput s x
-  bad-shapes : x ≡ refusal 3 0 → noRecords s ≡ false → RightKinds s (length (recordsOf s)) → rightS s ≡ true → rightH s ≡ false → BadInput s x
-  bad-record : (n i : ℕ) → x ≡ refusal (suc n) i → noRecords s ≡ false → RightKinds s (length (recordsOf s)) → rightS s ≡ true → rightH s ≡ true
+  bad-kind : (i : ℕ) → x ≡ refusal 4 i → noRecords s ≡ false → i < length (recordsOf s) → RightKinds s i
+      → wrongKind (recordsOf s) i ≡ true → BadInput s x
+  bad-statements : x ≡ refusal 2 0 → noRecords s ≡ false → RightKinds s (length (recordsOf s)) → rightS s ≡ false
+      → BadInput s x
+  bad-shapes : x ≡ refusal 3 0 → noRecords s ≡ false → RightKinds s (length (recordsOf s)) → rightS s ≡ true
+      → rightH s ≡ false → BadInput s x
+  bad-record : (n i : ℕ) → x ≡ refusal (suc n) i → noRecords s ≡ false → RightKinds s (length (recordsOf s))
+      → rightS s ≡ true → rightH s ≡ true
       → i < length (recordsOf s) → RightRecords s i → recordRefusal (recordsOf s) i ≡ suc n → BadInput s x
 
 -- the routine that is read: the statements and the starting shapes
@@ -226,7 +235,8 @@ abbrev pub stmtRecord : Stmt → List ℕ
 stmtRecord st =
     let o = opFields (st .op) in
     let n = o .number in
-    0x53 ∷ n ∷ o .u ∷ o .w ∷ field (usesFirst n) (st .firstTarget) ∷ field (usesSecond n) (st .secondTarget) ∷ replicate 26 0
+    0x53 ∷ n ∷ o .u ∷ o .w ∷ field (usesFirst n) (st .firstTarget) ∷ field (usesSecond n) (st .secondTarget)
+    ∷ replicate 26 0
 
 -- the targets that the op does not use are zero
 pub record UnusedZero (st : Stmt) : Type 0 where

@@ -1,5 +1,5 @@
--- What the promises about heaps, shapes and edges speak of, beside specs/: reachable cells, segments, merging, renaming, one heap as the
--- expansion of another, guards and updates on counters.
+-- What the promises about heaps, shapes and edges speak of, beside specs/: reachable cells, segments, merging,
+-- renaming, one heap as the expansion of another, guards and updates on counters.
 use Prim.Native.Nat.{_+_, _-_, _<_, _≤_, ℕ}
 use Rattle.model.specs.Image.{StepAnswer, noStep, toFault, toNext, toStop}
 use mathlib.Core.Path.{_≡_}
@@ -43,7 +43,8 @@ Pairs R (x ∷ l) = ((y : _) → In y l → R x y) × Pairs R l
 abbrev pub Used : (ℕ → Slot) → ℕ → Type 0
 Used nx n = (v : Val) × (nx n ≡ holds v)
 
--- a value names a cell only if that cell is in use: of one value, of each of a list, and of all that a heap's pointers and cells hold
+-- a value names a cell only if that cell is in use: of one value, of each of a list, and of all that a heap's pointers
+-- and cells hold
 abbrev pub Closed : (ℕ → Slot) → Val → Type 0
 Closed nx null = Unit {0}
 Closed nx undef = Unit {0}
@@ -64,7 +65,8 @@ pub data Walks (nx : ℕ → Slot) : List ℕ → Val → List ℕ → Type 0 wh
   at-null : {s : List ℕ} → Walks nx s null s
   at-undef : {s : List ℕ} → Walks nx s undef s
   at-seen : {s : List ℕ} {c : ℕ} → mem c s ≡ true → Walks nx s (cell c) s
-  go : {s t : List ℕ} {c : ℕ} {v : Val} → mem c s ≡ false → nx c ≡ holds v → Walks nx (s ++ c ∷ []) v t → Walks nx s (cell c) t
+  go : {s t : List ℕ} {c : ℕ} {v : Val} → mem c s ≡ false → nx c ≡ holds v → Walks nx (s ++ c ∷ []) v t
+      → Walks nx s (cell c) t
 
 pub data Tours (nx : ℕ → Slot) : List ℕ → List Val → List ℕ → Type 0 where
   tour-done : {s : List ℕ} → Tours nx s [] s
@@ -146,7 +148,8 @@ upd f c x i = cond (eqb i c) x (f i)
 abbrev pub mergeHeap : ℕ → ℕ → Heap → Heap
 mergeHeap p d W = putSlot d unused (putSlot p (next W d) W)
 
--- One merge, in a heap whose cells have the counters w: a cell d that is not core goes into its predecessor p, and the counters are added.
+-- One merge, in a heap whose cells have the counters w: a cell d that is not core goes into its predecessor p, and the
+-- counters are added.
 pub data Merges : Heap → (ℕ → ℕ) → Heap → (ℕ → ℕ) → Type 0 where
   merge : {W : Heap} {w : ℕ → ℕ} (p d : ℕ) → IsHeap W → Used (next W) d → core W d ≡ false → next W p ≡ holds (cell d)
       → Merges W w (mergeHeap p d W) (upd w p (w p + w d))
@@ -164,7 +167,8 @@ renameVal f (cell n) = cell (f n)
 renameVal f null = null
 renameVal f undef = undef
 
--- f takes the cells of heap a to those of heap b, one to one, and each value to the value renamed: the heaps are isomorphic
+-- f takes the cells of heap a to those of heap b, one to one, and each value to the value renamed: the heaps are
+-- isomorphic
 pub record Renames (f : ℕ → ℕ) (a b : Heap) : Type 0 where
   pub ptrsAre : b .ptrs ≡ map (renameVal f) (a .ptrs)
   pub nextsAre : (n : ℕ) (v : Val) → next a n ≡ holds v → next b (f n) ≡ holds (renameVal f v)
@@ -252,7 +256,8 @@ guardsOn gs cs = all (guardOn cs) gs
 
 -- two edges of one branch are never enabled together
 abbrev pub Exclude : Edge → Edge → Type 0
-Exclude a b = a .branchNo ≡ b .branchNo → (cs : List ℕ) → guardsOn (a .guards) cs ≡ true → guardsOn (b .guards) cs ≡ true → ⊥
+Exclude a b = a .branchNo ≡ b .branchNo → (cs : List ℕ) → guardsOn (a .guards) cs ≡ true → guardsOn (b .guards) cs
+    ≡ true → ⊥
 
 -- no old counter is added by both updates
 abbrev pub AddApart : Update → Update → Type 0
@@ -267,7 +272,8 @@ flagged (b ∷ fs) (c ∷ cs) = cond b c 0 + flagged fs cs
 abbrev pub worth : List ℕ → Update → ℕ
 worth cs u = (flagged (u .adds) cs + u .plus) - 1
 
--- The updates of an edge: one for each node of the target, each with a flag for each of the k old nodes and a constant of -1, 0 or 1.
+-- The updates of an edge: one for each node of the target, each with a flag for each of the k old nodes and a constant
+-- of -1, 0 or 1.
 abbrev pub SmallUpdates : ℕ → List Update → Type 0
 SmallUpdates k us = (u : Update) → In u us → (u .plus ≤ 2) × (length (u .adds) ≡ k)
 
@@ -295,7 +301,8 @@ Halted (toFault f) = Unit {0}
 Halted toStop = Unit {0}
 Halted (noStep x) = Unit {0}
 
--- A call is accepted exactly when every check passes; it is refused with a number, at place 0, exactly when that number is given.
+-- A call is accepted exactly when every check passes; it is refused with a number, at place 0, exactly when that
+-- number is given.
 pub record CheckedBy (cs : List Row) (v : Verdict) : Type 0 where
   pub accepts : (v ≡ isAccepted) ↔ Pass cs
   pub refuses : (n p : ℕ) → (v ≡ isRefused (refusal n p)) ↔ ((p ≡ 0) × Given cs n)

@@ -1,5 +1,5 @@
--- 01, "Records": 32 bytes each. How locations and edges are written, and how statements, shapes, locations and edges are read.
--- Assumes nothing.
+-- 01, "Records": 32 bytes each. How locations and edges are written, and how statements, shapes, locations and edges
+-- are read. Assumes nothing.
 use Prim.Native.Nat.{ℕ, suc, _-_, _+_, _*_, _/_, _%_}
 use mathlib.Core.Bool.{Bool, true, false, _&&_, _||_, cond, not}
 use mathlib.Core.List.{List, [], _∷_, _++_, map}
@@ -63,7 +63,8 @@ updateCode u = bits (u .adds) + 4096 * u .plus
 abbrev pub edgeRecord : ℕ → ℕ → Edge → List ℕ
 edgeRecord from to e =
     0x45 ∷ e .branchNo
-    ∷ (twoBytes from ++ twoBytes to ++ guardBytes (e .guards) ++ filled 24 (joined (map (λ u. twoBytes (updateCode u)) (e .updates))))
+    ∷ (twoBytes from ++ twoBytes to ++ guardBytes (e .guards)
+    ++ filled 24 (joined (map (λ u. twoBytes (updateCode u)) (e .updates))))
 
 -- ---- reading
 
@@ -89,7 +90,8 @@ isH r = eqb (byte r 0) 0x48
 -- S: 1 op, 2 u, 3 w, 4 first target, 5 second target
 abbrev pub opsBy : ℕ → ℕ → List Op
 opsBy u w =
-    stop ∷ setNull u ∷ copy u w ∷ load u w ∷ clear u ∷ store u w ∷ new u ∷ free u ∷ isNull u ∷ same u w ∷ choose ∷ skip ∷ []
+    stop ∷ setNull u ∷ copy u w ∷ load u w ∷ clear u ∷ store u w ∷ new u ∷ free u ∷ isNull u ∷ same u w ∷ choose
+    ∷ skip ∷ []
 
 -- how many ops there are
 abbrev pub opCount : ℕ

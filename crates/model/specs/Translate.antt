@@ -1,5 +1,5 @@
--- 01, "Records" and "Refusals by place of check": the whole translator, from the input's bytes and the lengths of the two tables to
--- the answer and every byte of both tables. Assumes nothing.
+-- 01, "Records" and "Refusals by place of check": the whole translator, from the input's bytes and the lengths of the
+-- two tables to the answer and every byte of both tables. Assumes nothing.
 use Prim.Native.Nat.{ℕ, zero, suc, _-_, _+_, _*_, _/_, _%_, min}
 use mathlib.Core.Bool.{Bool, true, false, _&&_, _||_, cond, not}
 use mathlib.Core.Option.{Option, none, some}
@@ -60,7 +60,11 @@ abbrev pub checkCounts : List (List ℕ) → Checked
 checkCounts rs =
     elim (between 1 mostStatements (count isS rs)) [
       | false ↦ bad (refusal 2 0)
-      | true ↦ elim (between 1 mostShapes (count isH rs)) [ false ↦ bad (refusal 3 0) | true ↦ checkRecords (count isS rs) rs ]
+      | true ↦ elim (between 1 mostShapes (count isH rs)) [
+        | false ↦ bad (refusal 3 0)
+        | true ↦ checkRecords
+            (count isS rs) rs
+      ]
     ]
 
 abbrev pub checkKinds : List (List ℕ) → Checked
@@ -97,7 +101,8 @@ grown i j e t = record {
   links = t .links ++ record { from = i; dest = j; edge = e } ∷ [];
 }
 
--- The edges of location i are added in order. A known target has its number; a new one has the next, so that one test gives 11.
+-- The edges of location i are added in order. A known target has its number; a new one has the next, so that one test
+-- gives 11.
 abbrev pub addEdges : ℕ → ℕ → ℕ → List Edge → Listing → Explored
 addEdges cl ce i [] t = listed t
 addEdges cl ce i (e ∷ es) t =
@@ -146,8 +151,8 @@ pub record Outcome : Type 0 where
 abbrev pub linkRecord : Link → List ℕ
 linkRecord l = edgeRecord (l .from) (l .dest) (l .edge)
 
--- "Each record is written into its lent table from its own offset onward; bytes after the last are zero." The records fit into the n
--- bytes, so nothing is cut off where subtraction stops at 0.
+-- "Each record is written into its lent table from its own offset onward; bytes after the last are zero." The records
+-- fit into the n bytes, so nothing is cut off where subtraction stops at 0.
 abbrev pub tableOf : ℕ → List (List ℕ) → List ℕ
 tableOf n rs = joined rs ++ replicate (n - recordSize * length rs) 0
 

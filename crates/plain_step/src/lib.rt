@@ -11,8 +11,8 @@ ghost use Rattle.model.specs.Image.{checksStatement, stepImage};
 ghost use Rattle.model.specs.Records.{firstFailed};
 ghost use Rattle.plain_step.specs.Step.{StepReady, RunOn, Finished};
 
-// Runs a statement on the image, and answers the fault (0 for none). These are the steps of `machine::run`: with a second
-// caller, the compiler would no longer inline that into the exploration.
+// Runs a statement on the image, and answers the fault (0 for none). These are the steps of `machine::run`: with a
+// second caller, the compiler would no longer inline that into the exploration.
 fn run_on(d: Decoded, x: usize, pointers: &mut [u8], cells: &mut [u8]) -> u8
     requires { ⌜ StepReady d x (now pointers) (now cells) ⌝ }
     ensures { λ r. ⌜ RunOn d x (now (pointers .entry)) (now (cells .entry))
@@ -25,7 +25,11 @@ fn run_on(d: Decoded, x: usize, pointers: &mut [u8], cells: &mut [u8]) -> u8
         return fault;
     }
     let n = visit::visit(&pointers[..], &cells[..], &mut order, &mut seen);
-    if machine::keeps_all(&cells[..], &seen, n) { 0 } else { 3 }
+    if machine::keeps_all(&cells[..], &seen, n) {
+        0
+    } else {
+        3
+    }
 }
 
 // Puts the image ps, cs back where a run had a fault.

@@ -20,7 +20,8 @@ use Rattle.record.proofs.ListLaws.{drop-zeros}
 -- ---- shapes
 
 -- a blank record b of whose part from byte 4 on the front was written with the shape of g, once its head is written too
-pub headed-is : (tag s k : ℕ) (g : Heap) (b q : List ℕ) → b ≡ replicate 32 0 → length (g .ptrs) ≡ 6 → k ≡ length (segments g) → k ≤ 12
+pub headed-is : (tag s k : ℕ) (g : Heap) (b q : List ℕ) → b ≡ replicate 32 0 → length (g .ptrs) ≡ 6 → k
+    ≡ length (segments g) → k ≤ 12
     → q ≡ (map valByte (shape g .ptrs) ++ map slotByte (shape g .slots)) ++ drop (6 + k) (midOf 4 (length b - 4) b)
     → tag ∷ s ∷ 0 ∷ k ∷ drop 4 (putMid 4 (length b - 4) b q) ≡ tag ∷ s ∷ 0 ∷ shapeBytes (shape g)
 headed-is tag s k g b q e p n f w =
@@ -33,7 +34,8 @@ headed-is tag s k g b q e p n f w =
     let m : 32 - at ≡ 28 - length (x ++ y) = omega (arith, length-append x y) in
     let z : drop {A = ℕ} at (replicate 32 0) ≡ replicate (28 - length (x ++ y)) 0 =
     drop-zeros at 32 [] (omega arith) ∙ append-nil _ ∙ ap (λ i. replicate i 0) m in
-    ap (λ (l : List ℕ). tag ∷ s ∷ 0 ∷ k ∷ drop 4 l) (put-back b (x ++ y) q 4 (6 + k) w ∙ ap (λ l. take 4 l ++ ((x ++ y) ++ drop at l)) e)
+    ap (λ (l : List ℕ). tag ∷ s ∷ 0 ∷ k ∷ drop 4 l) (put-back b (x ++ y) q 4 (6 + k) w
+    ∙ ap (λ l. take 4 l ++ ((x ++ y) ++ drop at l)) e)
     ∙ (λ i. tag ∷ s ∷ 0 ∷ nodes i ∷ ((x ++ y) ++ z i))
 
 -- ---- edges
@@ -51,13 +53,15 @@ withUpdates p us j = take 8 p ++ (updateBytes us j ++ drop (8 + 2 * j) p)
 
 -- one update more
 pub updates-turn : (p us : List ℕ) (j : ℕ) → 8 + 2 * (j + 1) ≤ length p → j < length us
-    → set (set (withUpdates p us j) (8 + 2 * j) (getD us j 0 % 256)) (9 + 2 * j) (getD us j 0 / 256) ≡ withUpdates p us (j + 1)
+    → set (set (withUpdates p us j) (8 + 2 * j) (getD us j 0 % 256)) (9 + 2 * j) (getD us j 0 / 256)
+    ≡ withUpdates p us (j + 1)
 updates-turn p us j h k =
     let u = getD us j 0 in
     let n = 8 + 2 * j in
     let pre = take 8 p ++ updateBytes us j in
     let lp : length pre ≡ n =
-    length-append (take 8 p) (updateBytes us j) ∙ ap₂ _+_ (length-take-le 8 p (omega arith)) (updates-length us j (omega arith)) in
+    length-append (take 8 p) (updateBytes us j) ∙ ap₂ _+_ (length-take-le 8 p (omega arith))
+    (updates-length us j (omega arith)) in
     let x = pre ++ drop n p in
     let lw : length x ≡ length p = omega (arith, length-append pre (drop n p), length-drop n p) in
     let s = sets-eq (twoBytes u) x n (omega arith) in

@@ -14,7 +14,8 @@ use Rattle.record.specs.Written.{placed}
 use Rattle.record.proofs.ListLaws.{drop-zeros}
 
 -- The table of n bytes with records rs, with one more behind them.
-pub placed-next : (n : ℕ) (rs : List (List ℕ)) (r : List ℕ) → ((x : List ℕ) → In x rs → length x ≡ 32) → 32 * length rs + 32 ≤ n
+pub placed-next : (n : ℕ) (rs : List (List ℕ)) (r : List ℕ) → ((x : List ℕ) → In x rs → length x ≡ 32)
+    → 32 * length rs + 32 ≤ n
     → placed (tableOf n rs) (length rs) r ≡ tableOf n (rs ++ r ∷ [])
 placed-next n rs r w h =
     let l = joined-length rs w in

@@ -35,10 +35,12 @@ unfolding strandBytes
 strand-image b zero s = refl
 strand-image b (suc zero) s = refl
 strand-image b (suc (suc c)) s =
-    ap (λ l. suc b ∷ l) (strand-image (suc b) (suc c) s) ∙ ap (λ n. n ∷ strandBytes n (suc c) (slotByte s)) (sym (add-one b))
+    ap (λ l. suc b ∷ l) (strand-image (suc b) (suc c) s) ∙ ap (λ n. n ∷ strandBytes n (suc c) (slotByte s))
+    (sym (add-one b))
 
 -- counters vs of at most twelve nodes, of which those below k are a shape's, and the table fs of their first cells
-module _ (vs fs : List ℕ) (k : ℕ) (first : FirstCells vs fs) (same : length fs ≡ length vs) (few : length vs ≤ 12) (below : k ≤ length vs) where
+module _ (vs fs : List ℕ) (k : ℕ) (first : FirstCells vs fs) (same : length fs ≡ length vs) (few : length vs ≤ 12)
+    (below : k ≤ length vs) where
   past : (b : ℕ) → 12 ≤ b → placedByte fs b ≡ b
   past b h = let e : ltb b (length fs) ≡ false = le-ltb b (length fs) (omega arith) in rw e
 
@@ -100,18 +102,22 @@ module _ (r vs ps cs : List ℕ) (ready : UnfoldReady r vs ps cs) where
 
   -- and with the table of first cells its image is the unfolded heap's
   module _ (fs : List ℕ) (first : FirstCells vs fs) (same : length fs ≡ length vs) where
-    pub ready-pointers : map (placedByte fs) (take 6 (drop 4 r)) ≡ map valByte (unfoldHeap (shapeOf r) (take (byte r 3) vs) .ptrs)
+    pub ready-pointers : map (placedByte fs) (take 6 (drop 4 r))
+        ≡ map valByte (unfoldHeap (shapeOf r) (take (byte r 3) vs) .ptrs)
     ready-pointers =
         let W = layout-writable r (ready .wide) (ready .isLayout) in
         let e = layout-slots r (ready .wide) (ready .isLayout) in
-        pointers-image vs fs (byte r 3) first same (omega (arith, ready-twelve)) (omega (arith, ready-twelve, ready-few)) (take 6 (drop 4 r))
+        pointers-image vs fs (byte r 3) first same (omega (arith, ready-twelve))
+        (omega (arith, ready-twelve, ready-few)) (take 6 (drop 4 r))
         (λ v q. subst (λ n. SmallVal n v) e (W .pointers v q))
 
-    pub ready-cells : (n : ℕ) → imageBytes n (strandsBytes fs 0 (take (10 + byte r 3 - 10) (drop 10 r)) (take (byte r 3) vs))
+    pub ready-cells : (n : ℕ) → imageBytes n (strandsBytes fs 0 (take (10 + byte r 3 - 10) (drop 10 r))
+        (take (byte r 3) vs))
         ≡ cellBytesOf n (unfoldHeap (shapeOf r) (take (byte r 3) vs))
     ready-cells n =
         let W = layout-writable r (ready .wide) (ready .isLayout) in
         let e = layout-slots r (ready .wide) (ready .isLayout) in
         ap (λ m. imageBytes n (strandsBytes fs 0 (take m (drop 10 r)) (take (byte r 3) vs))) successors-end
-        ∙ ap (imageBytes n) (strands-image vs fs (byte r 3) first same (omega (arith, ready-twelve)) (omega (arith, ready-twelve, ready-few)) 0
+        ∙ ap (imageBytes n) (strands-image vs fs (byte r 3) first same (omega (arith, ready-twelve))
+        (omega (arith, ready-twelve, ready-few)) 0
         (take (byte r 3) (drop 10 r)) (take (byte r 3) vs) (λ s q. subst (λ m. SmallSlot m s) e (W .nexts s q)))

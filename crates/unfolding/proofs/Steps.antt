@@ -1,4 +1,5 @@
--- The steps of the loops that write the image: the first cell of the next node, the next cell of a strand, the next strand.
+-- The steps of the loops that write the image: the first cell of the next node, the next cell of a strand, the next
+-- strand.
 use Prim.Native.Nat.{ℕ, zero, suc, _+_, _-_, _≤_, _<_}
 use mathlib.Core.Path.{_≡_, sym, ap, ap₂, _∙_}
 use mathlib.Core.Bool.{true}
@@ -44,7 +45,8 @@ strand-last i e v h = let p : e - i ≡ 1 = omega arith in rw p
 -- the strand of node n, then the others
 pub strands-step : (fs ss cs : List ℕ) (b n : ℕ) → n < length ss → length ss ≡ length cs
     → strandsBytes fs b (drop n ss) (drop n cs)
-    ≡ strandBytes b (getD cs n 0) (placedByte fs (getD ss n 0)) ++ strandsBytes fs (b + getD cs n 0) (drop (n + 1) ss) (drop (n + 1) cs)
+    ≡ strandBytes b (getD cs n 0) (placedByte fs (getD ss n 0)) ++ strandsBytes fs (b + getD cs n 0) (drop (n + 1) ss)
+    (drop (n + 1) cs)
 unfolding strandsBytes
 strands-step fs ss cs b n h l = ap₂ (strandsBytes fs b) (drop-step ss n h) (drop-step cs n (omega arith))
 
@@ -60,11 +62,13 @@ node-room vs n b m h p e q = (leb-true 1 (getD vs n 0) (all-at (leb 1) vs 0 n p 
 -- cells l with the strand of node n written, as k: the other strands follow
 pub strands-push : (fs ss cs l k : List ℕ) (b n : ℕ) → n < length ss → length ss ≡ length cs
     → take (b + getD cs n 0) k ≡ take b l ++ strandBytes b (getD cs n 0) (placedByte fs (getD ss n 0))
-    → take (b + getD cs n 0) k ++ strandsBytes fs (b + getD cs n 0) (drop (n + 1) ss) (drop (n + 1) cs) ≡ take b l ++ strandsBytes fs b (drop n ss) (drop n cs)
+    → take (b + getD cs n 0) k ++ strandsBytes fs (b + getD cs n 0) (drop (n + 1) ss) (drop (n + 1) cs) ≡ take b l
+    ++ strandsBytes fs b (drop n ss) (drop n cs)
 strands-push fs ss cs l k b n h e w =
     let rest = strandsBytes fs (b + getD cs n 0) (drop (n + 1) ss) (drop (n + 1) cs) in
     let x = strandBytes b (getD cs n 0) (placedByte fs (getD ss n 0)) in
-    ap (λ t. t ++ rest) w ∙ append-assoc (take b l) x rest ∙ ap (λ t. take b l ++ t) (sym (strands-step fs ss cs b n h e))
+    ap (λ t. t ++ rest) w ∙ append-assoc (take b l) x rest
+    ∙ ap (λ t. take b l ++ t) (sym (strands-step fs ss cs b n h e))
 
 -- cells c, of which the first t hold l, with the part behind them filled
 pub image-done : (c l ys : List ℕ) (t n : ℕ) → length c ≡ n → t ≤ n → take t c ≡ l

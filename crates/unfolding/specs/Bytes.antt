@@ -1,4 +1,5 @@
--- The unfolded heap as bytes, over a table fs of the first cell of each node: a value, one strand, all strands. Assumes nothing.
+-- The unfolded heap as bytes, over a table fs of the first cell of each node: a value, one strand, all strands.
+-- Assumes nothing.
 use Prim.Native.Nat.{ℕ, zero, suc, _+_, _-_, _<_}
 use mathlib.Core.Path.{_≡_}
 use mathlib.Core.Bool.{cond}

@@ -65,16 +65,24 @@ module _ (k : ℕ) (w : ℕ → Weight) (F : Fair k (doubles 2 k) w) where
 
   -- the cells of a list, weighed with these counters
   all-weights : (l : List ℕ) → ((c : ℕ) → mem c l ≡ true → c < suc k)
-      → sum (λ c. weigh (doubles 2 k) (w c)) l + count (λ c. isLess (w c)) l ≡ 2 * sum (λ c. flagOf (w c)) l + count (λ c. isOneCell (w c)) l
+      → sum (λ c. weigh (doubles 2 k) (w c)) l + count (λ c. isLess (w c)) l ≡ 2 * sum (λ c. flagOf (w c)) l + count
+      (λ c. isOneCell (w c)) l
   all-weights [] h = refl
-  all-weights (c ∷ l) h = omega (arith, cell-weight c (w c) refl (h c (mem-here c l)), all-weights l (λ d q. h d (mem-there d c l q)))
+  all-weights (c ∷ l) h = omega (
+    arith,
+    cell-weight c (w c) refl (h c (mem-here c l)),
+    all-weights l
+        (λ d q. h d (mem-there d c l q)),
+  )
 
-  all-codes : (l : List ℕ) → sum (λ c. plusBy (w c)) l ≡ sum (λ c. flagOf (w c)) l + 4096 * count (λ c. isOneCell (w c)) l
+  all-codes : (l : List ℕ) → sum (λ c. plusBy (w c)) l ≡ sum (λ c. flagOf (w c)) l + 4096 * count
+      (λ c. isOneCell (w c)) l
   all-codes [] = refl
   all-codes (c ∷ l) = omega (arith, cell-code (w c), all-codes l)
 
   -- with at most one rest, the flags of a segment's update are those of its cells
-  flags-sum : (s : Seg) → NoDup (cells s) → ((c : ℕ) → mem c (cells s) ≡ true → c < suc k) → count (λ c. isLess (w c)) (cells s) ≤ 1
+  flags-sum : (s : Seg) → NoDup (cells s) → ((c : ℕ) → mem c (cells s) ≡ true → c < suc k)
+      → count (λ c. isLess (w c)) (cells s) ≤ 1
       → sum (λ c. flagOf (w c)) (cells s) ≡ bits (updateOf k w s .adds)
   flags-sum s nd h few =
       let len = update-small k (doubles 2 k) (length-doubles 2 k) w F s nd .1 in
@@ -112,7 +120,8 @@ count-one k (c ∷ l) nd =
 
 no-rests : (n k : ℕ) (l : List ℕ) → count (λ c. isLess (weightBy false n k c)) l ≡ 0
 no-rests n k [] = refl
-no-rests n k (c ∷ l) = bool-case (eqb c k) (λ e. rw e (omega (arith, no-rests n k l))) (λ e. rw e (omega (arith, no-rests n k l)))
+no-rests n k (c ∷ l) = bool-case (eqb c k) (λ e. rw e (omega (arith, no-rests n k l)))
+    (λ e. rw e (omega (arith, no-rests n k l)))
 
 one-rest : (n k : ℕ) (l : List ℕ) → n < k → NoDup l → count (λ c. isLess (weightBy true n k c)) l ≡ cond (mem k l) 1 0
 one-rest n k l h nd = count-same l ∙ count-one k l nd
@@ -125,15 +134,20 @@ base-rests : (sp : Bool) (n k : ℕ) (l : List ℕ) → (sp ≡ true → n < k) 
     → cond (sp && mem k l) 0 4096 + 4096 * count (λ c. isLess (weightBy sp n k c)) l ≡ 4096
 base-rests true n k l h nd =
     let r = one-rest n k l (h refl) nd in
-    bool-case (mem k l) (λ e. let z = r ∙ ap (λ b. cond b 1 0) e in rw e (omega arith)) (λ e. let z = r ∙ ap (λ b. cond b 1 0) e in rw e (omega arith))
+    bool-case (mem k l) (λ e. let z = r ∙ ap (λ b. cond b 1 0) e in rw e (omega arith)) (λ e. let z =
+    r ∙ ap (λ b. cond b 1 0) e in rw e (omega arith))
 base-rests false n k l h nd = omega (arith, no-rests n k l)
 
 weights-fair : (sp : Bool) (n k : ℕ) → (sp ≡ true → n < k) → Fair k (doubles 2 k) (weightBy sp n k)
-weights-fair true n k h = split-fair k (doubles 2 k) n (h refl) (let e = doubles-at 2 k n (h refl) in omega (arith, pow-pos n))
+weights-fair true n k h = split-fair k (doubles 2 k) n (h refl) (let e = doubles-at 2 k n (h refl) in
+    omega (arith, pow-pos n))
 weights-fair false n k h = whole-fair k (doubles 2 k)
 
 -- the code of a segment's update: 4096 for the constant 0, or 0 where the tail is a cell of it, and what its cells add
-pub segment-update : (sp : Bool) (n k : ℕ) (s : Seg) → (sp ≡ true → n < k) → NoDup (cells s) → ((c : ℕ) → mem c (cells s) ≡ true → c ≤ k)
-    → cond (sp && mem k (cells s)) 0 4096 + sum (λ c. plusBy (weightBy sp n k c)) (cells s) ≡ updateCode (updateOf k (weightBy sp n k) s)
+pub segment-update : (sp : Bool) (n k : ℕ) (s : Seg) → (sp ≡ true → n < k) → NoDup (cells s)
+    → ((c : ℕ) → mem c (cells s) ≡ true → c ≤ k)
+    → cond (sp && mem k (cells s)) 0 4096 + sum (λ c. plusBy (weightBy sp n k c)) (cells s)
+    ≡ updateCode (updateOf k (weightBy sp n k) s)
 segment-update sp n k s h nd below =
-    segment-code k (weightBy sp n k) (weights-fair sp n k h) s (cond (sp && mem k (cells s)) 0 4096) nd (λ c q. omega (arith, below c q)) (base-rests sp n k (cells s) h nd)
+    segment-code k (weightBy sp n k) (weights-fair sp n k h) s (cond (sp && mem k (cells s)) 0 4096) nd
+    (λ c q. omega (arith, below c q)) (base-rests sp n k (cells s) h nd)

@@ -1,4 +1,5 @@
--- Sums over cells, for the loop that adds them up: one cell more, what an entry is after a turn, and how large it can be.
+-- Sums over cells, for the loop that adds them up: one cell more, what an entry is after a turn, and how large it can
+-- be.
 use Prim.Native.Nat.{ℕ, _+_, _*_, _%_, _^_, _≤_, _<_}
 use mathlib.Core.Bool.{Bool, true, false, cond}
 use mathlib.Core.List.{List, [], _∷_}
@@ -23,7 +24,8 @@ pub power-most : (c : ℕ) → c ≤ 11 → 2 ^ c ≤ 4096
 power-most c h = let h12 : c ≤ 12 = omega arith in pow-mono h12
 
 sum-next : (node : List ℕ) (f : ℕ → ℕ) (j : ℕ) (l : List ℕ) (i : ℕ) → i < length l
-    → sumAt node f j (take (i + 1) l) ≡ sumAt node f j (take i l) + cond (eqb (getD node (getD l i 0) 0) j) (f (getD l i 0)) 0
+    → sumAt node f j (take (i + 1) l) ≡ sumAt node f j (take i l) + cond (eqb (getD node (getD l i 0) 0) j)
+    (f (getD l i 0)) 0
 sum-next node f j l i h =
     ap (sumAt node f j) (take-next l i h)
     ∙ sum-append (λ c. cond (eqb (getD node c 0) j) (f c) 0) (take i l) (getD l i 0 ∷ [])
@@ -31,22 +33,27 @@ sum-next node f j l i h =
 
 -- the entries us after i cells of l, bs being those before
 abbrev pub Added : List ℕ → (ℕ → ℕ) → List ℕ → List ℕ → List ℕ → ℕ → Type 0
-Added node f l bs us i = (j : ℕ) → j < length bs → (getD us j 0 ≡ getD bs j 0 + sumAt node f j (take i l)) × (getD us j 0 ≤ 4096 * (i + 1))
+Added node f l bs us i = (j : ℕ) → j < length bs → (getD us j 0 ≡ getD bs j 0 + sumAt node f j (take i l))
+    × (getD us j 0 ≤ 4096 * (i + 1))
 
-pub added-none : (node : List ℕ) (f : ℕ → ℕ) (l bs : List ℕ) → ((j : ℕ) → j < length bs → getD bs j 0 ≤ 4096) → Added node f l bs bs 0
+pub added-none : (node : List ℕ) (f : ℕ → ℕ) (l bs : List ℕ) → ((j : ℕ) → j < length bs → getD bs j 0 ≤ 4096)
+    → Added node f l bs bs 0
 added-none node f l bs h j lt = (omega arith, omega (arith, h j lt))
 
 -- one cell more: its node's entry grows by what it adds
 module _ (node : List ℕ) (f : ℕ → ℕ) (l bs us : List ℕ) (i v : ℕ) (h : i < length l) (same : length us ≡ length bs)
-    (lt : getD node (getD l i 0) 0 < length us) (value : v ≡ f (getD l i 0)) (most : v ≤ 4096) (A : Added node f l bs us i) where
-  pub added-more : Added node f l bs (set us (getD node (getD l i 0) 0) (getD us (getD node (getD l i 0) 0) 0 + v)) (i + 1)
+    (lt : getD node (getD l i 0) 0 < length us) (value : v ≡ f (getD l i 0)) (most : v ≤ 4096)
+    (A : Added node f l bs us i) where
+  pub added-more : Added node f l bs (set us (getD node (getD l i 0) 0) (getD us (getD node (getD l i 0) 0) 0 + v))
+      (i + 1)
   added-more j below =
       let t = getD node (getD l i 0) 0 in
       let n = sum-next node f j l i h in
       let r = A j below in
       eq-case t j
       (λ e.
-      let s = subst (λ x. getD (set us t (getD us t 0 + v)) x 0 ≡ getD us x 0 + v) e (getD-set-same us t (getD us t 0 + v) 0 lt) in
+      let s = subst (λ x. getD (set us t (getD us t 0 + v)) x 0 ≡ getD us x 0 + v) e
+      (getD-set-same us t (getD us t 0 + v) 0 lt) in
       let p : sumAt node f j (take (i + 1) l) ≡ sumAt node f j (take i l) + f (getD l i 0) = rw (eq-eqb t j e) at n in
       let a = r .0 in let b = r .1 in (omega arith, omega arith))
       (λ e.

@@ -26,11 +26,13 @@ use Rattle.update.proofs.Codes.{segment-update}
 module _ (node : List ℕ) (f : ℕ → ℕ) where
   sum-in : (j : ℕ) (l : List ℕ) → ((c : ℕ) → mem c l ≡ true → getD node c 0 ≡ j) → sumAt node f j l ≡ sum f l
   sum-in j [] h = refl
-  sum-in j (c ∷ l) h = rw (eq-eqb (getD node c 0) j (h c (mem-here c l))) (ap (λ n. f c + n) (sum-in j l (λ d q. h d (mem-there d c l q))))
+  sum-in j (c ∷ l) h = rw (eq-eqb (getD node c 0) j (h c (mem-here c l)))
+      (ap (λ n. f c + n) (sum-in j l (λ d q. h d (mem-there d c l q))))
 
   sum-out : (j : ℕ) (l : List ℕ) → ((c : ℕ) → mem c l ≡ true → getD node c 0 ≡ j → ⊥) → sumAt node f j l ≡ 0
   sum-out j [] h = refl
-  sum-out j (c ∷ l) h = rw (ne-eqb (getD node c 0) j (h c (mem-here c l))) (omega (arith, sum-out j l (λ d q. h d (mem-there d c l q))))
+  sum-out j (c ∷ l) h = rw (ne-eqb (getD node c 0) j (h c (mem-here c l)))
+      (omega (arith, sum-out j l (λ d q. h d (mem-there d c l q))))
 
   -- the table numbers these segments from b on
   abbrev From : ℕ → List Seg → Type 0
@@ -43,13 +45,24 @@ module _ (node : List ℕ) (f : ℕ → ℕ) where
   sum-past [] b j lt h = refl
   sum-past (s ∷ ss) b j lt h =
       sum-append (λ c. cond (eqb (getD node c 0) j) (f c) 0) (cells s) (flat ss)
-      ∙ omega (arith, sum-out j (cells s) (λ c q e. omega (arith, h 0 c (omega arith) q)), sum-past ss (suc b) j (omega arith) (from-rest b s ss h))
+      ∙ omega (
+        arith,
+        sum-out j (cells s) (λ c q e. omega (arith, h 0 c (omega arith) q)),
+        sum-past ss (suc b) j
+            (omega arith) (from-rest b s ss h),
+      )
 
-  sum-flat : (ss : List Seg) (b i j : ℕ) → j ≡ b + i → i < length ss → From b ss → sumAt node f j (flat ss) ≡ sum f (cells (segAt ss i))
+  sum-flat : (ss : List Seg) (b i j : ℕ) → j ≡ b + i → i < length ss → From b ss → sumAt node f j (flat ss)
+      ≡ sum f (cells (segAt ss i))
   sum-flat [] b i j e lt h = absurd (omega arith)
   sum-flat (s ∷ ss) b zero j e lt h =
       sum-append (λ c. cond (eqb (getD node c 0) j) (f c) 0) (cells s) (flat ss)
-      ∙ omega (arith, sum-in j (cells s) (λ c q. omega (arith, h 0 c (omega arith) q)), sum-past ss (suc b) j (omega arith) (from-rest b s ss h))
+      ∙ omega (
+        arith,
+        sum-in j (cells s) (λ c q. omega (arith, h 0 c (omega arith) q)),
+        sum-past ss (suc b) j
+            (omega arith) (from-rest b s ss h),
+      )
   sum-flat (s ∷ ss) b (suc i) j e lt h =
       sum-append (λ c. cond (eqb (getD node c 0) j) (f c) 0) (cells s) (flat ss)
       ∙ omega (
@@ -60,7 +73,8 @@ module _ (node : List ℕ) (f : ℕ → ℕ) where
 
 -- ---- the codes
 
--- the cells l cut into the segments ss, with the segment of each cell in the table; at a split, at is an old node and the tail is a cell of l
+-- the cells l cut into the segments ss, with the segment of each cell in the table; at a split, at is an old node and
+-- the tail is a cell of l
 pub record Segmented (l node : List ℕ) (w : Weights) (ss : List Seg) : Type 0 where
   pub isFlat : flat ss ≡ l
   pub different : NoDup l
@@ -74,7 +88,8 @@ module _ (l node : List ℕ) (w : Weights) (ss : List Seg) (S : Segmented l node
   k = w .nodes
 
   -- the tail's segment is the one that the table says
-  tail-in : (j : ℕ) → j < length ss → (b : Bool) → w .split ≡ b → b && eqb (getD node k 0) j ≡ b && mem k (cells (segAt ss j))
+  tail-in : (j : ℕ) → j < length ss → (b : Bool) → w .split ≡ b → b && eqb (getD node k 0) j ≡ b
+      && mem k (cells (segAt ss j))
   tail-in j h false e = refl
   tail-in j h true e = bool-ext (eqb (getD node k 0) j) (mem k (cells (segAt ss j)))
       (λ q.

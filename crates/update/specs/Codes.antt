@@ -9,7 +9,8 @@ use Rattle.model.specs.Base.{mem, sum}
 use Rattle.model.specs.Edges.{Weight, counter, one, less}
 use Rattle.update.specs.declared.Weights.{Weights}
 
--- what cell c stands for, where there are k old nodes: `sp` says that node n is split, into its head and the tail, cell k
+-- what cell c stands for, where there are k old nodes: `sp` says that node n is split, into its head and the tail,
+-- cell k
 abbrev pub weightBy : Bool → ℕ → ℕ → ℕ → Weight
 weightBy true n k c = cond (eqb c n) one (cond (eqb c k) (less n) (counter c))
 weightBy false n k c = cond (eqb c k) one (counter c)
@@ -38,8 +39,8 @@ sumAt m f j l = sum (λ c. cond (eqb (getD m c 0) j) (f c) 0) l
 abbrev pub codeAt : List ℕ → Weights → List ℕ → ℕ → ℕ
 codeAt node w l j = baseAt (w .split) (getD node (w .nodes) 0) j + sumAt node (plusIn w) j l
 
--- each cell of l is at most the number of old nodes and has its node, below m, in the table; at a split, an old node is split and
--- the tail is a cell of l
+-- each cell of l is at most the number of old nodes and has its node, below m, in the table; at a split, an old node
+-- is split and the tail is a cell of l
 pub record CellsReady (l node : List ℕ) (w : Weights) (m : ℕ) : Type 0 where
   pub fewOld : w .nodes ≤ 12
   pub below : (c : ℕ) → mem c l ≡ true → c ≤ w .nodes

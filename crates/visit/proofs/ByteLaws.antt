@@ -26,7 +26,8 @@ pub slot-at : (cs : List ℕ) (c : ℕ) → c < length cs → slotAt cs c ≡ ce
 slot-at cs c h = getD-map cellSlot cs c 0 unused h
 
 pub slot-past : (cs : List ℕ) (c : ℕ) → length cs ≤ c → slotAt cs c ≡ unused
-slot-past cs c h = let l : length (map cellSlot cs) ≤ c = rw (length-map cs cellSlot) h in List·getD-eq-default (map cellSlot cs) unused l
+slot-past cs c h = let l : length (map cellSlot cs) ≤ c = rw (length-map cs cellSlot) h in
+    List·getD-eq-default (map cellSlot cs) unused l
 
 pub used-few : (cs : List ℕ) (c : ℕ) → Used (slotAt cs) c → c < length cs
 used-few cs c u = rw (length-map cs cellSlot) at (used-below (map cellSlot cs) c u)
@@ -41,10 +42,12 @@ pub used-byte : (b : ℕ) → inUse (cellSlot b) ≡ not (eqb b 0xfd)
 used-byte b = bool-case (eqb b 0xfd) (λ t. rw t) (λ f. rw f)
 
 -- a value as a test of its byte
-pub named-in : (cs : List ℕ) (v : ℕ) → eqb v 0xfe ≡ false → eqb v 0xff ≡ false → v < length cs → named (slotAt cs) (valOf v) ≡ not (eqb (getD cs v 0) 0xfd)
+pub named-in : (cs : List ℕ) (v : ℕ) → eqb v 0xfe ≡ false → eqb v 0xff ≡ false → v < length cs
+    → named (slotAt cs) (valOf v) ≡ not (eqb (getD cs v 0) 0xfd)
 named-in cs v n m h = rw (n, m, slot-at cs v h) (used-byte (getD cs v 0))
 
-pub named-past : (cs : List ℕ) (v : ℕ) → eqb v 0xfe ≡ false → eqb v 0xff ≡ false → length cs ≤ v → named (slotAt cs) (valOf v) ≡ false
+pub named-past : (cs : List ℕ) (v : ℕ) → eqb v 0xfe ≡ false → eqb v 0xff ≡ false → length cs ≤ v
+    → named (slotAt cs) (valOf v) ≡ false
 named-past cs v n m h = rw (n, m, slot-past cs v h)
 
 pub is-byte : (c v : ℕ) → c < 0xfe → isCell c (valOf v) ≡ eqb c v
@@ -53,10 +56,12 @@ is-byte c v h =
     (λ n. eq-case v 0xff (λ e. rw (e, ne-eqb c 0xff (λ q. omega arith))) (λ m. rw (n, m)))
 
 pub holds-byte : (c v : ℕ) → c < 0xfd → holdsCell c (cellSlot v) ≡ eqb c v
-holds-byte c v h = eq-case v 0xfd (λ e. rw (e, ne-eqb c 0xfd (λ q. omega arith))) (λ n. rw n (is-byte c v (omega arith)))
+holds-byte c v h = eq-case v 0xfd (λ e. rw (e, ne-eqb c 0xfd (λ q. omega arith)))
+    (λ n. rw n (is-byte c v (omega arith)))
 
 -- the value of each pointer of a closed image
-pub pointer-closed : (nx : ℕ → Slot) (ps : List ℕ) (i : ℕ) → AllClosed nx (map valOf ps) → i < length ps → Closed nx (valOf (getD ps i 0))
+pub pointer-closed : (nx : ℕ → Slot) (ps : List ℕ) (i : ℕ) → AllClosed nx (map valOf ps) → i < length ps
+    → Closed nx (valOf (getD ps i 0))
 pointer-closed nx [] i k h = absurd (omega arith)
 pointer-closed nx (p ∷ ps) zero k h = k .0
 pointer-closed nx (p ∷ ps) (suc i) k h = pointer-closed nx ps i (k .1) (omega arith)

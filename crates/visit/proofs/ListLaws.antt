@@ -1,4 +1,5 @@
--- Lists of numbers: elements by place, loops that test each element of a list or each number below n, and a list against the numbers from i on.
+-- Lists of numbers: elements by place, loops that test each element of a list or each number below n, and a list
+-- against the numbers from i on.
 use Prim.Native.Nat.{ℕ, zero, suc, _+_, _-_, _<_, _≤_}
 use native.Mathlib.Nat.{add-zero}
 use native.Mathlib.Numerals.{add-one}
@@ -21,17 +22,21 @@ pub all-pass : {B : Type 0} (p : B → Bool) (f : ℕ → B) (l : List ℕ) (i :
     → all p (map f (drop i l)) ≡ all p (map f (drop (i + 1) l))
 all-pass p f l i h e = ap (all p) (map-step f l i h) ∙ rw e
 
-pub all-fail : {B : Type 0} (p : B → Bool) (f : ℕ → B) (l : List ℕ) (i : ℕ) → i < length l → p (f (getD l i 0)) ≡ false → all p (map f (drop i l)) ≡ false
+pub all-fail : {B : Type 0} (p : B → Bool) (f : ℕ → B) (l : List ℕ) (i : ℕ) → i < length l → p (f (getD l i 0))
+    ≡ false → all p (map f (drop i l)) ≡ false
 all-fail p f l i h e = ap (all p) (map-step f l i h) ∙ rw e
 
-pub all-end : {B : Type 0} (p : B → Bool) (f : ℕ → B) (l : List ℕ) (i : ℕ) → length l ≤ i → all p (map f (drop i l)) ≡ true
+pub all-end : {B : Type 0} (p : B → Bool) (f : ℕ → B) (l : List ℕ) (i : ℕ) → length l ≤ i → all p (map f (drop i l))
+    ≡ true
 all-end p f l i h = ap (all p) (map-end f l i h)
 
 -- the same over the numbers below n
 numbers-step : (i n : ℕ) → i < n → numbers i (n - i) ≡ i ∷ numbers (i + 1) (n - (i + 1))
-numbers-step i n h = let e : n - i ≡ suc (n - (i + 1)) = omega arith in ap (numbers i) e ∙ ap (λ k. i ∷ numbers k (n - (i + 1))) (sym (add-one i))
+numbers-step i n h = let e : n - i ≡ suc (n - (i + 1)) = omega arith in ap (numbers i) e
+    ∙ ap (λ k. i ∷ numbers k (n - (i + 1))) (sym (add-one i))
 
-pub numbers-pass : (p : ℕ → Bool) (i n : ℕ) → i < n → p i ≡ true → all p (numbers i (n - i)) ≡ all p (numbers (i + 1) (n - (i + 1)))
+pub numbers-pass : (p : ℕ → Bool) (i n : ℕ) → i < n → p i ≡ true → all p (numbers i (n - i))
+    ≡ all p (numbers (i + 1) (n - (i + 1)))
 numbers-pass p i n h e = ap (all p) (numbers-step i n h) ∙ rw e
 
 pub numbers-fail : (p : ℕ → Bool) (i n : ℕ) → i < n → p i ≡ false → all p (numbers i (n - i)) ≡ false
@@ -52,9 +57,11 @@ all-both p q [] = refl
 all-both p q (x ∷ l) = ap (λ b. (p x && q x) && b) (all-both p q l) ∙ and-cross (p x) (q x) (all p l) (all q l)
 
 -- two tests that agree on the numbers from i on
-pub numbers-same : (p q : ℕ → Bool) (i n : ℕ) → ((j : ℕ) → i ≤ j → j < i + n → p j ≡ q j) → all p (numbers i n) ≡ all q (numbers i n)
+pub numbers-same : (p q : ℕ → Bool) (i n : ℕ) → ((j : ℕ) → i ≤ j → j < i + n → p j ≡ q j) → all p (numbers i n)
+    ≡ all q (numbers i n)
 numbers-same p q i zero h = refl
-numbers-same p q i (suc n) h = ap₂ _&&_ (h i (omega arith) (omega arith)) (numbers-same p q (suc i) n (λ j lo hi. h j (omega arith) (omega arith)))
+numbers-same p q i (suc n) h = ap₂ _&&_ (h i (omega arith) (omega arith))
+    (numbers-same p q (suc i) n (λ j lo hi. h j (omega arith) (omega arith)))
 
 -- a list whose elements f gives is the numbers from i on where f gives each its own number
 pub numbered-by : (f : ℕ → ℕ) (l : List ℕ) (i : ℕ) → ((j : ℕ) → j < length l → getD l j 0 ≡ f (i + j))

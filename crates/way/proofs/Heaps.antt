@@ -41,13 +41,16 @@ unused-closed h k =
 
 -- ---- the opened heap
 
-pub opened-closed : (sp : Bool) (op n : ℕ) (h : Heap) → ClosedHeap h → (sp ≡ true → Used (next h) n) → closed (openedHeap sp op n h) ≡ true
-opened-closed true op n h c u = closed-test (splitHeap n (length (h .slots)) h) (split-closed n (length (h .slots)) h (u refl) c)
+pub opened-closed : (sp : Bool) (op n : ℕ) (h : Heap) → ClosedHeap h → (sp ≡ true → Used (next h) n)
+    → closed (openedHeap sp op n h) ≡ true
+opened-closed true op n h c u = closed-test (splitHeap n (length (h .slots)) h)
+    (split-closed n (length (h .slots)) h (u refl) c)
 opened-closed false op n h c u =
     bool-case (makesAt op) (λ e. rw e (closed-test (withUnused h) (unused-closed h c))) (λ e. rw e (closed-test h c))
 
 -- new is not split, and its cell is not in use
-new-whole : (a : Action) (sp : Bool) (n : ℕ) (h : Heap) → (sp ≡ true → view a h ≡ oneNode n) → makes a ≡ true → sp ≡ false
+new-whole : (a : Action) (sp : Bool) (n : ℕ) (h : Heap) → (sp ≡ true → view a h ≡ oneNode n) → makes a ≡ true → sp
+    ≡ false
 new-whole a true n h v e = makes-view a h n e (v refl)
 new-whole a false n h v e = refl
 
@@ -68,11 +71,13 @@ module _ (op u w : ℕ) (lt : op < opCount) (sp : Bool) (n : ℕ) (h : Heap)
 
   -- a run on it is one on the way's heap
   pub opened-run : (y : Way) → y .split ≡ sp → y .node .0 ≡ n
-      → carryOut (opOf op u w) (length (h .slots)) (openedHeap sp op n h) ≡ carryOut (opOf op u w) (length (h .slots)) (wayIn y h .heap)
+      → carryOut (opOf op u w) (length (h .slots)) (openedHeap sp op n h) ≡ carryOut (opOf op u w) (length (h .slots))
+      (wayIn y h .heap)
   opened-run y e f = by-split sp e
     where
       by-split : (b : Bool) → y .split ≡ b
-          → carryOut (opOf op u w) (length (h .slots)) (openedHeap b op n h) ≡ carryOut (opOf op u w) (length (h .slots)) (wayIn y h .heap)
+          → carryOut (opOf op u w) (length (h .slots)) (openedHeap b op n h)
+          ≡ carryOut (opOf op u w) (length (h .slots)) (wayIn y h .heap)
       by-split true q = rw (q, f)
       by-split false q = rw q (bool-case (makesAt op)
           (λ m. rw m (run-makes (opOf op u w) h (makes-op op u w lt ∙ m)))

@@ -53,7 +53,8 @@ module _ {l : List ℕ} {d : Decoded} {s : ℕ} {h : Heap} {y : Way} (R : WayRea
   open-ready ps cs six room = record {
     wide = location-wide;
     few = nodes-few;
-    values = subst (λ x. all (valueByte (byte x 3)) (take (6 + byte x 3) (drop 4 x)) ≡ true) (sym (R .isRecord)) (values-pass h writable);
+    values = subst (λ x. all (valueByte (byte x 3)) (take (6 + byte x 3) (drop 4 x)) ≡ true) (sym (R .isRecord))
+        (values-pass h writable);
     six = six;
     room = room;
     isNode = node-below;

@@ -45,7 +45,8 @@ looks-not (release u) h e = clash refl e
 
 -- a statement that looks at no node
 pub view-none : (op u w : ℕ) (h : Heap) → op < opCount → looksAt op ≡ false → noNode ≡ view (action (opOf op u w)) h
-view-none op u w h lt e = looks-not (action (opOf op u w)) h (each-op (λ o. looks (action o)) looksAt u w refl op lt ∙ e)
+view-none op u w h lt e = looks-not (action (opOf op u w)) h (each-op (λ o. looks (action o)) looksAt u w refl op lt
+    ∙ e)
 
 abbrev pub makes : Action → Bool
 makes stay = false
@@ -103,14 +104,17 @@ pub number-goes : (op u w v : ℕ) (h : Heap) → op < opCount → (op ≡ 0 →
     → wayNumber (kind (opOf op u w)) (viewVal (valOf v)) h ≡ length (waysOf (kind (opOf op u w)) (viewVal (valOf v)) h)
 number-goes op u w v h lt z = rw (op-goes op u w lt z)
 
-pub number-stop : (op u w v : ℕ) (h : Heap) → op < opCount → op ≡ 0 → wayNumber (kind (opOf op u w)) (viewVal (valOf v)) h ≡ 0
+pub number-stop : (op u w v : ℕ) (h : Heap) → op < opCount → op ≡ 0
+    → wayNumber (kind (opOf op u w)) (viewVal (valOf v)) h ≡ 0
 number-stop op u w v h lt e = rw (op-stops op u w lt ∙ ap isZero e)
 
 pub node-count : (k : Kind) (v : ℕ) (h : Heap) → v < 0xfe → length (waysOf k (viewVal (valOf v)) h) ≡ 2
 node-count k v h hi = ap (λ x. length (waysOf k x h)) (view-node v hi)
 
-pub plain-count : (k : Kind) (v : ℕ) (h : Heap) → 0xfe ≤ v → v < 256 → length (waysOf k (viewVal (valOf v)) h) ≡ length (picksOf k)
-plain-count k v h lo hi = ap (λ x. length (waysOf k x h)) (view-other v lo hi) ∙ length-map (picksOf k) (λ p. whole [] p h)
+pub plain-count : (k : Kind) (v : ℕ) (h : Heap) → 0xfe ≤ v → v < 256 → length (waysOf k (viewVal (valOf v)) h)
+    ≡ length (picksOf k)
+plain-count k v h lo hi = ap (λ x. length (waysOf k x h)) (view-other v lo hi)
+    ∙ length-map (picksOf k) (λ p. whole [] p h)
 
 -- way j through a node
 pub node-way : (v j : ℕ) (g : Guards) → v < 0xfe → g .first .test ≡ 1 + j → g .first .node .0 ≡ v
@@ -118,13 +122,15 @@ pub node-way : (v j : ℕ) (g : Guards) → v < 0xfe → g .first .test ≡ 1 + 
 node-way v j g hi t n k h lt = rw (view-node v hi) (by-number j (rw (view-node v hi) at lt) t)
   where
     by-number : (i : ℕ) → i < 2 → g .first .test ≡ 1 + i
-        → getElem? (waysOf k (oneNode v) h) i ≡ some (wayBy (eqb i 1) (record { split = eqb i 1; node = record { 0 = v }; pick = 0; guards = g }) h)
+        → getElem? (waysOf k (oneNode v) h) i ≡ some
+        (wayBy (eqb i 1) (record { split = eqb i 1; node = record { 0 = v }; pick = 0; guards = g }) h)
     by-number zero q e = rw (e, n)
     by-number (suc zero) q e = rw (e, n)
     by-number (suc (suc i)) q e = absurd (omega arith)
 
 -- way j by a pick
-pick-at : (k : Kind) (h : Heap) (j : ℕ) → j < length (picksOf k) → getElem? (map (λ p. whole [] p h) (picksOf k)) j ≡ some (whole [] j h)
+pick-at : (k : Kind) (h : Heap) (j : ℕ) → j < length (picksOf k) → getElem? (map (λ p. whole [] p h) (picksOf k)) j
+    ≡ some (whole [] j h)
 pick-at halts h zero lt = refl
 pick-at halts h (suc j) lt = absurd (omega arith)
 pick-at (acts a) h zero lt = refl

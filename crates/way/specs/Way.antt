@@ -30,7 +30,8 @@ wayNumber k v h = cond (isStop k) 0 (length (waysOf k v h))
 
 -- y is way j of a statement that looks at the value v
 abbrev pub IsWay : ℕ → ℕ → declared.Way → Type 0
-IsWay v j y = (k : Kind) (h : Heap) → j < length (waysOf k (viewVal (valOf v)) h) → getElem? (waysOf k (viewVal (valOf v)) h) j ≡ some (wayIn y h)
+IsWay v j y = (k : Kind) (h : Heap) → j < length (waysOf k (viewVal (valOf v)) h)
+    → getElem? (waysOf k (viewVal (valOf v)) h) j ≡ some (wayIn y h)
 
 -- the ops that read, write or free through a pointer
 abbrev pub looksAt : ℕ → Bool

@@ -16,8 +16,13 @@ returns c =
     let a = c .before .before .before .before .before .before .before .args in
     let t = a .target .now in
     let b = faultBytes (byte (a .location .now) 1) (a .fault) in
-    let short : length t ≤ 32 = omega (arith, s .1) in
-    (refl, refl, refl, c .before .before .write-fault .ensures ∙ ap (λ d. b ++ d) (drop-of-length-le t short) ∙ append-nil b)
+    let short : length t ≤ 32 = omega (arith, s .1) in (
+      refl,
+      refl,
+      refl,
+      c .before .before .write-fault .ensures ∙ ap (λ d. b ++ d) (drop-of-length-le t short)
+          ∙ append-nil b,
+    )
 
 pub fault-edge-spec : {M : Type 1} → statement M
 fault-edge-spec =

@@ -1,4 +1,5 @@
--- `edge::keep_edge` meets its contract: the branch is read off the record's pointers; the record and the counters are carried over.
+-- `edge::keep_edge` meets its contract: the branch is read off the record's pointers; the record and the counters are
+-- carried over.
 use borrow.Author.Needs.{needs}
 use Rattle.edge.proofs.keep_edge.Statement.{statement}
 use Rattle.edge.proofs.keep_edge.Tie as tie
@@ -25,20 +26,32 @@ move-to-requires c κs =
     (location-wide (s .ready), s .wide)
 
 shared-slice-read-t19 : tie.Need-shared-slice-read-t19
-shared-slice-read-t19 c = omega (arith, location-wide (c .before .before .before .before .before .before .before .before .before .before .before .before .before .before .before .before .pre .1 .ready))
+shared-slice-read-t19 c = omega (
+  arith,
+  location-wide
+      (c .before .before .before .before .before .before .before .before .before .before .before .before .before .before
+      .before .before .pre .1 .ready),
+)
 
 cast-t9 : tie.Need-cast-t9
-cast-t9 c = omega (arith, nodes-few (c .before .before .before .before .before .before .before .before .before .before .before .before .before .before .before .before .pre .1 .ready))
+cast-t9 c = omega (
+  arith,
+  nodes-few (c .before .before .before .before .before .before .before .before .before .before
+      .before .before .before .before .before .before .pre .1 .ready),
+)
 
 returns : tie.Need-returns
 returns c =
-    let s = c .before .before .before .before .before .before .before .before .before .before .before .before .before .before .before .before .pre in
-    let a = c .before .before .before .before .before .before .before .before .before .before .before .before .before .before .before .before .args in
+    let s = c .before .before .before .before .before .before .before .before .before .before .before .before .before
+    .before .before .before .pre in
+    let a = c .before .before .before .before .before .before .before .before .before .before .before .before .before
+    .before .before .before .args in
     let b = c .before .before .before .before .before .before .before .before .before .before .before .branch-of in
     let t = c .before .before .before .before .before .before .before .before .before .before .next-of in
     let m = c .before .before .before .before .before .before .before .before .move-to in
     let u = c .before .before .before .before .carry-updates in
-    keep-leaves {l = a .location .now} {d = a .d} {y = a .way} (m .last .1 .1 .0) (u .last .0) (t .result .0) (b .result)
+    keep-leaves {l = a .location .now} {d = a .d} {y = a .way} (m .last .1 .1 .0) (u .last .0) (t .result .0)
+    (b .result)
     (s .0) (omega (arith, s .1 .room, u .kept .0)) (b .ensures []) (t .ensures) (m .ensures) (u .ensures)
 
 pub keep-edge-spec : {M : Type 1} → statement M

@@ -1,4 +1,5 @@
--- `edge::one_edge` meets its contract: ops from 8 on keep the heap, a leak that is seen at once is written, and the others are run.
+-- `edge::one_edge` meets its contract: ops from 8 on keep the heap, a leak that is seen at once is written, and the
+-- others are run.
 use mathlib.Core.Path.{refl}
 use borrow.Author.Needs.{needs}
 use Rattle.edge.proofs.one_edge.Statement.{statement}
@@ -10,13 +11,21 @@ use Rattle.way.proofs.Ready.{location-wide}
 use Rattle.model.specs.Machine.{leak}
 
 keep-edge-requires : tie.Need-keep-edge-requires
-keep-edge-requires c κs = (le-leb 8 _ (c .before .before .if1 .taken), c .before .before .before .before .before .before .before .pre)
+keep-edge-requires c κs = (
+  le-leb 8 _ (c .before .before .if1 .taken),
+  c .before .before .before .before .before .before .before .pre,
+)
 
 surely-lost-requires : tie.Need-surely-lost-requires
 surely-lost-requires c κs =
     let p = c .before .before .before .before .before .pre in
     let a = c .before .before .before .before .before .args in
-    record { number = p .number; shape = p .shape; ready = p .ready; changes = changes-op (a .d) (p .ready) (c .if1 .left) }
+    record {
+      number = p .number;
+      shape = p .shape;
+      ready = p .ready;
+      changes = changes-op (a .d) (p .ready) (c .if1 .left);
+    }
 
 fault-edge-requires : tie.Need-fault-edge-requires
 fault-edge-requires c κs =
@@ -25,7 +34,8 @@ fault-edge-requires c κs =
 
 returns-2 : tie.Need-returns-2
 returns-2 c =
-    let lost = c .before .before .before .before .before .surely-lost .ensures (c .before .before .before .before .if2 .taken) in
+    let lost = c .before .before .before .before .before .surely-lost .ensures
+    (c .before .before .before .before .if2 .taken) in
     fault-leaves {f = 3} (λ s h R. (leak, refl, lost s h R)) (c .before .before .fault-edge .ensures)
 
 pub one-edge-spec : {M : Type 1} → statement M

@@ -1,4 +1,5 @@
--- `edge::run_way` meets its contract: the shape is opened, the branch is read off the opened image, and the image is run.
+-- `edge::run_way` meets its contract: the shape is opened, the branch is read off the opened image, and the image is
+-- run.
 use borrow.Author.Needs.{needs}
 use Rattle.edge.proofs.run_way.Statement.{statement}
 use Rattle.edge.proofs.run_way.Tie as tie
@@ -22,7 +23,8 @@ open-way-requires c κs =
 
 branch-of-requires : tie.Need-branch-of-requires
 branch-of-requires c κs =
-    let p = c .before .before .before .before .before .before .before .before .before .before .before .before .before .before .pre in
+    let p = c .before .before .before .before .before .before .before .before .before .before .before .before .before
+    .before .pre in
     let f = p .ready .statement in
     (f .known, f .isU, f .isW, c .before .before .before .before .before .open-way .kept .1 .1 .1 .0 ∙ p .six)
 
@@ -30,18 +32,31 @@ slice-relend-prefix-run : tie.Need-slice-relend-prefix-run
 slice-relend-prefix-run c =
     let o = c .before .before .before .before .before .before .before .open-way in
     let few = o .ensures .1 .1 .0 in
-    omega (arith, o .kept .1 .1 .1 .1 .0, c .before .before .before .before .before .before .before .before .before .before .before .before .before .before .before .before .pre .room)
+    omega (
+      arith,
+      o .kept .1 .1 .1 .1 .0,
+      c .before .before .before .before .before .before .before .before .before
+          .before .before .before .before .before .before .before .pre .room,
+    )
 
 slice-aggregate-run : tie.Need-slice-aggregate-run
 slice-aggregate-run c =
     let o = c .before .before .before .before .before .before .before .before .open-way in
     let few = o .ensures .1 .1 .0 in
-    sym (length-take-le (o .result) (o .last .1 .1 .1 .1 .0) (omega (arith, o .kept .1 .1 .1 .1 .0, c .before .before .before .before .before .before .before .before .before .before .before .before .before .before .before .before .before .pre .room)))
+    sym (length-take-le (o .result) (o .last .1 .1 .1 .1 .0)
+    (omega (
+      arith,
+      o .kept .1 .1 .1 .1 .0,
+      c .before .before .before .before .before .before .before .before .before .before .before .before .before
+          .before .before .before .before .pre .room,
+    )))
 
 run-requires : tie.Need-run-requires
 run-requires c κs =
-    let p = c .before .before .before .before .before .before .before .before .before .before .before .before .before .before .before .before .before .before .before .pre in
-    let a = c .before .before .before .before .before .before .before .before .before .before .before .before .before .before .before .before .before .before .before .args in
+    let p = c .before .before .before .before .before .before .before .before .before .before .before .before .before
+    .before .before .before .before .before .before .pre in
+    let a = c .before .before .before .before .before .before .before .before .before .before .before .before .before
+    .before .before .before .before .before .before .args in
     let o = c .before .before .before .before .before .before .before .before .before .before .open-way in
     let e = o .ensures in
     run-ready (p .ready) (o .last .1 .1 .1 .0) (o .last .1 .1 .1 .1 .0) (o .result) (e .0) (e .1 .0)
@@ -50,14 +65,19 @@ run-requires c κs =
 
 returns : tie.Need-returns
 returns c =
-    let p = c .before .before .before .before .before .before .before .before .before .before .before .before .before .before .before .before .before .before .before .before .before .before .before .before .before .before .before .before .pre in
-    let o = c .before .before .before .before .before .before .before .before .before .before .before .before .before .before .before .before .before .before .before .open-way in
+    let p = c .before .before .before .before .before .before .before .before .before .before .before .before .before
+    .before .before .before .before .before .before .before .before .before .before .before .before .before
+    .before .before .pre in
+    let o = c .before .before .before .before .before .before .before .before .before .before .before .before .before
+    .before .before .before .before .before .before .open-way in
     let e = o .ensures in
-    let b = c .before .before .before .before .before .before .before .before .before .before .before .before .before .branch-of in
+    let b = c .before .before .before .before .before .before .before .before .before .before .before .before .before
+    .branch-of in
     let r = c .before .before .before .before .before .before .before .before .run in
     way-ran (p .ready) (o .last .1 .1 .1 .0) (o .last .1 .1 .1 .1 .0) (o .result) (e .0) (e .1 .0)
     (omega (arith, o .kept .1 .1 .1 .1 .0, p .room)) (e .1 .1 .1)
-    (r .last .1 .1 .0) (r .last .1 .1 .1 .0) (r .last .1 .1 .1 .1 .0) (r .last .1 .1 .1 .1 .1 .0) (b .result) (r .result)
+    (r .last .1 .1 .0) (r .last .1 .1 .1 .0) (r .last .1 .1 .1 .1 .0) (r .last .1 .1 .1 .1 .1 .0) (b .result)
+    (r .result)
     (b .ensures) (r .ensures) (r .kept .1 .1 .1 .0)
 
 pub run-way-spec : {M : Type 1} → statement M

@@ -13,4 +13,5 @@ returns-2 c e = clash e (le-ltb _ _ (c .if1 .left))
 
 pub alone-holds-spec : {M : Type 1} → statement M
 alone-holds-spec =
-    tie.close (tie.spec (λ c. search needs) (λ c. search needs) (λ c. search needs) (λ c. search needs) (λ c κs. search needs) returns returns-2)
+    tie.close (tie.spec (λ c. search needs) (λ c. search needs) (λ c. search needs) (λ c. search needs)
+    (λ c κs. search needs) returns returns-2)

@@ -1,4 +1,5 @@
--- `loss::stands_once` meets its contract: a place passed with the byte makes the count at least 1, two of them at least 2.
+-- `loss::stands_once` meets its contract: a place passed with the byte makes the count at least 1, two of them at
+-- least 2.
 use Prim.Native.Nat.{ℕ, _+_, _-_, _≤_, _<_}
 use mathlib.Core.Path.{_≡_, refl, sym, ap, subst, _∙_}
 use mathlib.Core.Logic.{⊎-elim}
@@ -37,7 +38,8 @@ miss l v i c n C =
     }
 
 abbrev Inv-loop : tie.InvT-loop
-Inv-loop location at end held count₀ i₀ count i = (4 ≤ i) × (i ≤ byte location 3 + 10) × Counted location (byte location at) i count
+Inv-loop location at end held count₀ i₀ count i = (4 ≤ i) × (i ≤ byte location 3 + 10)
+    × Counted location (byte location at) i count
 
 abbrev μ-loop : tie.MeasureT-loop
 μ-loop location at end held count₀ i₀ count i = byte location 3 + 10 - i
@@ -67,7 +69,8 @@ returns c e i a b q =
     let z : loop .count ≡ 1 = eqb-true (loop .count) 1 e in
     eq-case i at (λ t. t) (λ t. absurd (bool-case (ltb i at)
     (λ o. omega (arith, C .two i at a (ltb-true i at o) (omega arith) q refl))
-    (λ o. let d = eqb-false i at t in let g = ltb-false i at o in omega (arith, C .two at i (omega arith) (omega arith) (omega arith) refl q))))
+    (λ o. let d = eqb-false i at t in let g = ltb-false i at o in
+    omega (arith, C .two at i (omega arith) (omega arith) (omega arith) refl q))))
 
 pub stands-once-spec : {M : Type 1} → statement M
 stands-once-spec =
@@ -81,9 +84,18 @@ stands-once-spec =
     (λ c. search needs)
     (λ c. search needs)
     (λ c. search needs)
-    (λ c. (search needs, search needs, record { most = omega arith; one = λ j a b e. absurd (omega arith); two = λ j m a b d e f. absurd (omega arith) }))
+    (λ c. (
+      search needs,
+      search needs,
+      record {
+        most = omega arith;
+        one = λ j a b e. absurd (omega arith);
+        two = λ j m a b d e f. absurd (omega arith);
+      },
+    ))
     (λ c. search needs)
-    (λ c. let s = c .before .before .before .before .before .before .before in record { fits = omega (arith, c .before .before .before .loop .inv .2 .most, s .pre .2) })
+    (λ c. let s = c .before .before .before .before .before .before .before in
+    record { fits = omega (arith, c .before .before .before .loop .inv .2 .most, s .pre .2) })
     (λ c. search needs)
     (λ c. search needs)
     loop-again

@@ -18,17 +18,25 @@ use Rattle.model.proofs.expansion.Writes.{holds-inj, slot-clash, upd-at
 abbrev pub freed : (ℕ → Slot) → ℕ → ℕ → Slot
 freed nx c i = upd (λ j. wipeSlot c (nx j)) c unused i
 
-chain-freed : (nx : ℕ → Slot) (h c : ℕ) (l : List ℕ) (v : Val) → Chain nx c l v → ((d : ℕ) → mem d (c ∷ l) ≡ true → eqb d h ≡ false)
+chain-freed : (nx : ℕ → Slot) (h c : ℕ) (l : List ℕ) (v : Val) → Chain nx c l v
+    → ((d : ℕ) → mem d (c ∷ l) ≡ true → eqb d h ≡ false)
     → Chain (freed nx h) c l (wipe h v)
 chain-freed nx h c [] v ch k = rw (k c (mem-here c []), ch)
-chain-freed nx h c (x ∷ l) v ch k =
-    (rw (k c (mem-here c (x ∷ l)), ch .0, k x (mem-there x c (x ∷ l) (mem-here x l))), chain-freed nx h x l v (ch .1) (λ d m. k d (mem-there d c (x ∷ l) m)))
+chain-freed nx h c (x ∷ l) v ch k = (
+  rw (k c (mem-here c (x ∷ l)), ch .0, k x (mem-there x c (x ∷ l) (mem-here x l))),
+  chain-freed nx h x l v (ch .1)
+      (λ d m. k d (mem-there d c (x ∷ l) m)),
+)
 
-module _ (nw : ℕ → Slot) (sg : ℕ → Seg) (nh : ℕ → Slot) (E : Expands nw sg nh) (n h : ℕ) (single : sg n ≡ seg h []) (u : Used nw n) where
-  f-back : (i : ℕ) → Used (freed nw n) i → (eqb i n ≡ false) × (v : Val) × (nw i ≡ holds v) × (freed nw n i ≡ holds (wipe n v))
-  f-back i w = eq-case i n (λ e. slot-clash (upd-at (λ j. wipeSlot n (nw j)) n unused i e) (w .1)) (λ e. go e (nw i) refl)
+module _ (nw : ℕ → Slot) (sg : ℕ → Seg) (nh : ℕ → Slot) (E : Expands nw sg nh) (n h : ℕ) (single : sg n ≡ seg h [])
+    (u : Used nw n) where
+  f-back : (i : ℕ) → Used (freed nw n) i → (eqb i n ≡ false) × (v : Val) × (nw i ≡ holds v)
+      × (freed nw n i ≡ holds (wipe n v))
+  f-back i w = eq-case i n (λ e. slot-clash (upd-at (λ j. wipeSlot n (nw j)) n unused i e) (w .1))
+      (λ e. go e (nw i) refl)
     where
-      go : eqb i n ≡ false → (s : Slot) → nw i ≡ s → (eqb i n ≡ false) × (v : Val) × (nw i ≡ holds v) × (freed nw n i ≡ holds (wipe n v))
+      go : eqb i n ≡ false → (s : Slot) → nw i ≡ s → (eqb i n ≡ false) × (v : Val) × (nw i ≡ holds v)
+          × (freed nw n i ≡ holds (wipe n v))
       go e unused p = slot-clash (rw (e, p)) (w .1)
       go e (holds v) p = (e, v, p, rw (e, p))
 
@@ -57,11 +65,15 @@ module _ (nw : ℕ → Slot) (sg : ℕ → Seg) (nh : ℕ → Slot) (E : Expands
 
   pub expands-free : Expands (freed nw n) sg (freed nh h)
   expands-free = record {
-    closed = λ i x e. let r = f-back i (x, e) in subst (Closed (freed nw n)) (holds-inj (sym (r .3) ∙ e)) (f-closed (r .1) (E .closed i (r .1) (r .2)));
+    closed = λ i x e. let r = f-back i (x, e) in subst (Closed (freed nw n)) (holds-inj (sym (r .3) ∙ e))
+        (f-closed (r .1) (E .closed i (r .1) (r .2)));
     chain = λ i x e. let r = f-back i (x, e) in
-        subst (Chain (freed nh h) (sg i .first) (sg i .rest)) (sym (f-img (r .1) (E .closed i (r .1) (r .2))) ∙ ap (img sg) (holds-inj (sym (r .3) ∙ e)))
-        (chain-freed nh h (sg i .first) (sg i .rest) (img sg (r .1)) (E .chain i (r .1) (r .2)) (λ d m. f-sep i d (r .0) (r .1, r .2) m));
-    cover = λ c x e. eq-case c h (λ p. slot-clash (upd-at (λ j. wipeSlot h (nh j)) h unused c p) e) (λ p. found c x e p (nh c) refl);
+        subst (Chain (freed nh h) (sg i .first) (sg i .rest)) (sym (f-img (r .1) (E .closed i (r .1) (r .2)))
+        ∙ ap (img sg) (holds-inj (sym (r .3) ∙ e)))
+        (chain-freed nh h (sg i .first) (sg i .rest) (img sg (r .1)) (E .chain i (r .1) (r .2))
+        (λ d m. f-sep i d (r .0) (r .1, r .2) m));
+    cover = λ c x e. eq-case c h (λ p. slot-clash (upd-at (λ j. wipeSlot h (nh j)) h unused c p) e)
+        (λ p. found c x e p (nh c) refl);
     apart = λ i j c a b. E .apart i j c (f-used i a) (f-used j b);
     nodup = λ i a. E .nodup i (f-used i a);
   }
@@ -72,13 +84,15 @@ module _ (nw : ℕ → Slot) (sg : ℕ → Seg) (nh : ℕ → Slot) (E : Expands
       found c x e p (holds y) q =
           let r = E .cover c y q in (
             r .0,
-            f-fwd (r .0) (ne-eqb (r .0) n (λ w. clash (eq-eqb c h (mem-one c h (subst (λ s. mem c (cells s) ≡ true) (ap sg w ∙ single) (r .2)))) p))
+            f-fwd (r .0) (ne-eqb (r .0) n (λ w. clash
+                (eq-eqb c h (mem-one c h (subst (λ s. mem c (cells s) ≡ true) (ap sg w ∙ single) (r .2)))) p))
                 (r .1),
             r .2,
           )
 
 -- a node of two cells or more, split into its head and the rest
-module _ (nw : ℕ → Slot) (sg : ℕ → Seg) (nh : ℕ → Slot) (E : Expands nw sg nh) (n k h t : ℕ) (ts : List ℕ) (longer : sg n ≡ seg h (t ∷ ts))
+module _ (nw : ℕ → Slot) (sg : ℕ → Seg) (nh : ℕ → Slot) (E : Expands nw sg nh) (n k h t : ℕ) (ts : List ℕ)
+    (longer : sg n ≡ seg h (t ∷ ts))
     (u : Used nw n) (fw : nw k ≡ unused) where
   abbrev pub split-next : ℕ → Slot
   split-next = upd (upd nw k (nw n)) n (holds (cell k))
@@ -129,7 +143,8 @@ module _ (nw : ℕ → Slot) (sg : ℕ → Seg) (nh : ℕ → Slot) (E : Expands
   pub s-img : (x : Val) → Closed nw x → img split-sg x ≡ img sg x
   s-img null q = refl
   s-img undef q = refl
-  s-img (cell m) q = cases m (λ p. ap cell (ap first′ (sg-n m p) ∙ sym (ap first′ (ap sg p ∙ longer)))) (λ p. clash (eq-eqb m k p) (not-k m q))
+  s-img (cell m) q = cases m (λ p. ap cell (ap first′ (sg-n m p) ∙ sym (ap first′ (ap sg p ∙ longer))))
+      (λ p. clash (eq-eqb m k p) (not-k m q))
       (λ p r. ap (λ s. cell (s .first)) (sg-off m p r))
     where
       first′ : Seg → ℕ
@@ -143,18 +158,21 @@ module _ (nw : ℕ → Slot) (sg : ℕ → Seg) (nh : ℕ → Slot) (E : Expands
 
   -- a cell of a new node is a cell of the old node that the new one is part of
   own-used : (i : ℕ) → Used split-next i → Used nw (own i)
-  own-used i w = cases i (λ p. rw (ap (λ x. eqb x k) p ∙ not-k n u, p) u) (λ p. rw (eq-eqb i k p) u) (λ p q. rw q (w .0, sym (off i p q) ∙ w .1))
+  own-used i w = cases i (λ p. rw (ap (λ x. eqb x k) p ∙ not-k n u, p) u) (λ p. rw (eq-eqb i k p) u)
+      (λ p q. rw q (w .0, sym (off i p q) ∙ w .1))
 
   own-mem : (i c : ℕ) → mem c (cells (split-sg i)) ≡ true → mem c (cells (sg (own i))) ≡ true
   own-mem i c m = cases i
       (λ p. rw (ap (λ x. eqb x k) p ∙ not-k n u, p, longer)
-      (subst (λ x. mem x (h ∷ t ∷ ts) ≡ true) (sym (mem-one c h (subst (λ s. mem c (cells s) ≡ true) (sg-n i p) m))) (mem-here h (t ∷ ts))))
+      (subst (λ x. mem x (h ∷ t ∷ ts) ≡ true) (sym (mem-one c h (subst (λ s. mem c (cells s) ≡ true) (sg-n i p) m)))
+      (mem-here h (t ∷ ts))))
       (λ p. rw (eq-eqb i k p, longer) (mem-there c h (t ∷ ts) (subst (λ s. mem c (cells s) ≡ true) (sg-k i p) m)))
       (λ p q. rw q (subst (λ s. mem c (cells s) ≡ true) (sg-off i p q) m))
 
   -- the head is not in the rest
   head-tail : (i j c : ℕ) → i ≡ n → j ≡ k → mem c (cells (split-sg i)) ≡ true → mem c (cells (split-sg j)) ≡ true → ⊥
-  head-tail i j c p q a b = clash (subst (λ x. mem x (t ∷ ts) ≡ true) (mem-one c h (subst (λ s. mem c (cells s) ≡ true) (sg-n i p) a))
+  head-tail i j c p q a b = clash (subst (λ x. mem x (t ∷ ts) ≡ true)
+      (mem-one c h (subst (λ s. mem c (cells s) ≡ true) (sg-n i p) a))
       (subst (λ s. mem c (cells s) ≡ true) (sg-k j q) b)) (nd .0)
 
   own-n : (i : ℕ) → i ≡ n → own i ≡ n
@@ -168,15 +186,23 @@ module _ (nw : ℕ → Slot) (sg : ℕ → Seg) (nh : ℕ → Slot) (E : Expands
 
   pub expands-split : Expands split-next split-sg nh
   expands-split = record {
-    closed = λ i x e. cases i (λ p. subst (Closed split-next) (holds-inj (sym (at-n i p) ∙ e)) (u .0, at-k k refl ∙ u .1))
-        (λ p. s-closed x (E .closed n x (sym (at-k i p) ∙ e))) (λ p q. s-closed x (E .closed i x (sym (off i p q) ∙ e)));
+    closed = λ i x e. cases i (λ p. subst (Closed split-next) (holds-inj (sym (at-n i p) ∙ e)) (
+      u .0,
+      at-k k refl
+          ∙ u .1,
+    ))
+        (λ p. s-closed x (E .closed n x (sym (at-k i p) ∙ e)))
+        (λ p q. s-closed x (E .closed i x (sym (off i p q) ∙ e)));
     chain = λ i x e. cases i
         (λ p. let r : x ≡ cell k = holds-inj (sym e ∙ at-n i p) in
-        subst (λ (s : Seg). Chain nh (s .first) (s .rest) (img split-sg x)) (sym (sg-n i p)) (rw (r, sg-k k refl) (ch .0)))
+        subst (λ (s : Seg). Chain nh (s .first) (s .rest) (img split-sg x)) (sym (sg-n i p))
+        (rw (r, sg-k k refl) (ch .0)))
         (λ p. let r : nw n ≡ holds x = sym (at-k i p) ∙ e in let y : u .0 ≡ x = holds-inj (sym (u .1) ∙ r) in
-        subst (λ (s : Seg). Chain nh (s .first) (s .rest) (img split-sg x)) (sym (sg-k i p)) (rw (s-img x (E .closed n x r), ← y) (ch .1)))
+        subst (λ (s : Seg). Chain nh (s .first) (s .rest) (img split-sg x)) (sym (sg-k i p))
+        (rw (s-img x (E .closed n x r), ← y) (ch .1)))
         (λ p q. let r = sym (off i p q) ∙ e in
-        subst (λ (s : Seg). Chain nh (s .first) (s .rest) (img split-sg x)) (sym (sg-off i p q)) (rw (s-img x (E .closed i x r)) (E .chain i x r)));
+        subst (λ (s : Seg). Chain nh (s .first) (s .rest) (img split-sg x)) (sym (sg-off i p q))
+        (rw (s-img x (E .closed i x r)) (E .chain i x r)));
     cover = λ c x e. let r = E .cover c x e in
         eq-case (r .0) n
         (λ p. mem-cases c h (t ∷ ts) (subst (λ s. mem c (cells s) ≡ true) (ap sg p ∙ longer) (r .2))
@@ -184,7 +210,8 @@ module _ (nw : ℕ → Slot) (sg : ℕ → Seg) (nh : ℕ → Slot) (E : Expands
         (λ q. (k, (u .0, at-k k refl ∙ u .1), rw (sg-k k refl) q)))
         (λ p. (r .0, s-fwd (r .0) (r .1), rw (sg-off (r .0) p (not-k (r .0) (r .1))) (r .2)));
     apart = λ i j c a b p q.
-        let e : own i ≡ own j = E .apart (own i) (own j) c (own-used i a) (own-used j b) (own-mem i c p) (own-mem j c q) in
+        let e : own i ≡ own j = E .apart (own i) (own j) c (own-used i a) (own-used j b) (own-mem i c p)
+        (own-mem j c q) in
         cases i
         (λ pi. cases j (λ pj. pi ∙ sym pj) (λ pj. absurd (head-tail i j c pi pj p q))
         (λ nj kj. absurd (eqb-false j n nj (sym (own-off j kj) ∙ sym e ∙ own-n i pi))))
@@ -193,5 +220,6 @@ module _ (nw : ℕ → Slot) (sg : ℕ → Seg) (nh : ℕ → Slot) (E : Expands
         (λ ni ki. cases j (λ pj. absurd (eqb-false i n ni (sym (own-off i ki) ∙ e ∙ own-n j pj)))
         (λ pj. absurd (eqb-false i n ni (sym (own-off i ki) ∙ e ∙ own-k j pj)))
         (λ nj kj. sym (own-off i ki) ∙ e ∙ own-off j kj));
-    nodup = λ i a. cases i (λ p. rw (sg-n i p) (refl, tt)) (λ p. rw (sg-k i p) (nd .1)) (λ p q. rw (sg-off i p q) (E .nodup i (a .0, sym (off i p q) ∙ a .1)));
+    nodup = λ i a. cases i (λ p. rw (sg-n i p) (refl, tt)) (λ p. rw (sg-k i p) (nd .1))
+        (λ p q. rw (sg-off i p q) (E .nodup i (a .0, sym (off i p q) ∙ a .1)));
   }

@@ -1,4 +1,5 @@
--- A list of cells cut before each core cell: each piece is a chain, together they are the list, and each cell stands in one of them.
+-- A list of cells cut before each core cell: each piece is a chain, together they are the list, and each cell stands
+-- in one of them.
 use Prim.Native.Nat.{_<_, suc, zero, ℕ}
 use mathlib.Core.Path.{_∙_, _≡_, ap, refl, subst, sym}
 use mathlib.Core.Logic.{inl, inr}
@@ -94,8 +95,11 @@ module _ (nx : ℕ → Slot) (p : ℕ → Bool) where
   cut-trail c cur [] k t = (k, tt)
   cut-trail c cur (d ∷ l) k t =
       bool-case (p d) (λ e. rw (e, cutFrom) (k, cut-trail d [] l (tt, λ x h. clash h refl) (t .1)))
-      (λ e. rw (e, cutFrom) (cut-trail c (cur ++ d ∷ []) l
-      (linked-snoc c cur d (k .0) (t .0 e), λ x h. mem-append-cases x cur (d ∷ []) h (k .1 x) (λ q. ap p (mem-one x d q) ∙ e))
+      (λ e. rw (e, cutFrom) (cut-trail c (cur ++ d ∷ []) l (
+        linked-snoc c cur d (k .0) (t .0 e),
+        λ x h. mem-append-cases x cur (d ∷ []) h (k .1 x)
+            (λ q. ap p (mem-one x d q) ∙ e),
+      )
       (rw (last-snoc c cur d) (t .1))))
 
   pub cuts-trail : (l : List ℕ) → Trails l → Alls Cuts (cut p l)
@@ -140,32 +144,40 @@ nodup-r (x ∷ s) t nd = nodup-r s t (nd .1)
 pub nodup-apart : (s t : List ℕ) (c : ℕ) → NoDup (s ++ t) → mem c s ≡ true → mem c t ≡ true → ⊥
 nodup-apart [] t c nd h k = clash h refl
 nodup-apart (x ∷ s) t c nd h k =
-    mem-cases c x s h (λ e. clash (mem-append-r x s t (subst (λ z. mem z t ≡ true) e k)) (nd .0)) (λ h′. nodup-apart s t c (nd .1) h′ k)
+    mem-cases c x s h (λ e. clash (mem-append-r x s t (subst (λ z. mem z t ≡ true) e k)) (nd .0))
+    (λ h′. nodup-apart s t c (nd .1) h′ k)
 
 pub mem-flat-in : (ss : List Seg) (s : Seg) (c : ℕ) → In s ss → mem c (cells s) ≡ true → mem c (flat ss) ≡ true
 mem-flat-in [] s c i k = absurd i
-mem-flat-in (t ∷ ss) s c (inl e) k = mem-append-l c (cells t) (flat ss) (subst (λ (x : Seg). mem c (cells x) ≡ true) e k)
+mem-flat-in (t ∷ ss) s c (inl e) k = mem-append-l c (cells t) (flat ss)
+    (subst (λ (x : Seg). mem c (cells x) ≡ true) e k)
 mem-flat-in (t ∷ ss) s c (inr i) k = mem-append-r c (cells t) (flat ss) (mem-flat-in ss s c i k)
 
 pub mem-flat : (ss : List Seg) (n c : ℕ) → n < length ss → mem c (cells (segAt ss n)) ≡ true → mem c (flat ss) ≡ true
 mem-flat ss n c h k = mem-flat-in ss (segAt ss n) c (getD-in ss (seg 0 []) n h) k
 
-pub flat-mem : (ss : List Seg) (c : ℕ) → mem c (flat ss) ≡ true → (n : ℕ) × (n < length ss) × (mem c (cells (segAt ss n)) ≡ true)
+pub flat-mem : (ss : List Seg) (c : ℕ) → mem c (flat ss) ≡ true → (n : ℕ) × (n < length ss)
+    × (mem c (cells (segAt ss n)) ≡ true)
 flat-mem [] c h = clash h refl
-flat-mem (s ∷ ss) c h = mem-append-cases c (cells s) (flat ss) h (λ k. (0, omega arith, k)) (λ k. let r = flat-mem ss c k in (suc (r .0), omega arith, r .2))
+flat-mem (s ∷ ss) c h = mem-append-cases c (cells s) (flat ss) h (λ k. (0, omega arith, k)) (λ k. let r =
+    flat-mem ss c k in (suc (r .0), omega arith, r .2))
 
 pub flat-nodup : (ss : List Seg) (n : ℕ) → NoDup (flat ss) → n < length ss → NoDup (cells (segAt ss n))
 flat-nodup [] n nd h = absurd (omega arith)
 flat-nodup (s ∷ ss) zero nd h = nodup-l (cells s) (flat ss) nd
 flat-nodup (s ∷ ss) (suc n) nd h = flat-nodup ss n (nodup-r (cells s) (flat ss) nd) (omega arith)
 
-pub flat-apart : (ss : List Seg) (n m c : ℕ) → NoDup (flat ss) → n < length ss → m < length ss → mem c (cells (segAt ss n)) ≡ true
+pub flat-apart : (ss : List Seg) (n m c : ℕ) → NoDup (flat ss) → n < length ss → m < length ss
+    → mem c (cells (segAt ss n)) ≡ true
     → mem c (cells (segAt ss m)) ≡ true → n ≡ m
 flat-apart [] n m c nd hn hm k l = absurd (omega arith)
 flat-apart (s ∷ ss) zero zero c nd hn hm k l = refl
-flat-apart (s ∷ ss) zero (suc m) c nd hn hm k l = absurd (nodup-apart (cells s) (flat ss) c nd k (mem-flat ss m c (omega arith) l))
-flat-apart (s ∷ ss) (suc n) zero c nd hn hm k l = absurd (nodup-apart (cells s) (flat ss) c nd l (mem-flat ss n c (omega arith) k))
-flat-apart (s ∷ ss) (suc n) (suc m) c nd hn hm k l = ap suc (flat-apart ss n m c (nodup-r (cells s) (flat ss) nd) (omega arith) (omega arith) k l)
+flat-apart (s ∷ ss) zero (suc m) c nd hn hm k l =
+    absurd (nodup-apart (cells s) (flat ss) c nd k (mem-flat ss m c (omega arith) l))
+flat-apart (s ∷ ss) (suc n) zero c nd hn hm k l =
+    absurd (nodup-apart (cells s) (flat ss) c nd l (mem-flat ss n c (omega arith) k))
+flat-apart (s ∷ ss) (suc n) (suc m) c nd hn hm k l =
+    ap suc (flat-apart ss n m c (nodup-r (cells s) (flat ss) nd) (omega arith) (omega arith) k l)
 
 abbrev pub Head : List Seg → ℕ → Type 0
 Head ss c = (m : ℕ) × (m < length ss) × (segAt ss m .first ≡ c)
@@ -180,6 +192,11 @@ node-head (s ∷ ss) c h =
     rest zero k q e = absurd (eqb-false c (s .first) e (sym q))
     rest (suc m) k q e = (m, omega arith, q)
 
-pub core-of-pointed : (h : Heap) (vs : List Val) → ((c : ℕ) → pointed c vs ≡ true → core h c ≡ true) → AllCore (next h) (core h) vs
+pub core-of-pointed : (h : Heap) (vs : List Val) → ((c : ℕ) → pointed c vs ≡ true → core h c ≡ true)
+    → AllCore (next h) (core h) vs
 core-of-pointed h [] k = tt
-core-of-pointed h (v ∷ vs) k = ((λ c e. k c (rw (e, eqb-same c))), core-of-pointed h vs (λ c q. k c (or-r (isCell c v) (pointed c vs) q)))
+core-of-pointed h (v ∷ vs) k = (
+  (λ c e. k c (rw (e, eqb-same c))),
+  core-of-pointed h vs
+      (λ c q. k c (or-r (isCell c v) (pointed c vs) q)),
+)

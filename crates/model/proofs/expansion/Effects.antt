@@ -32,14 +32,16 @@ next-put h c s = fun-ext (λ i. getD-put (h .slots) c s i)
 
 pub next-free : (h : Heap) (c : ℕ) → next (freeCell c h) ≡ freed (next h) c
 next-free h c =
-    fun-ext (λ i. getD-put (map (wipeSlot c) (h .slots)) c unused i ∙ ap (λ s. cond (eqb i c) unused s) (List·getD-map (wipeSlot c) (h .slots) i unused))
+    fun-ext (λ i. getD-put (map (wipeSlot c) (h .slots)) c unused i
+    ∙ ap (λ s. cond (eqb i c) unused s) (List·getD-map (wipeSlot c) (h .slots) i unused))
 
 pub closed-ptr : (nx : ℕ → Slot) (vs : List Val) (u : ℕ) → AllClosed nx vs → Closed nx (getD vs u undef)
 closed-ptr nx [] u k = tt
 closed-ptr nx (v ∷ vs) zero k = k .0
 closed-ptr nx (v ∷ vs) (suc u) k = closed-ptr nx vs u (k .1)
 
-closed-set : (nx : ℕ → Slot) (vs : List Val) (u : ℕ) (v : Val) → AllClosed nx vs → Closed nx v → AllClosed nx (set vs u v)
+closed-set : (nx : ℕ → Slot) (vs : List Val) (u : ℕ) (v : Val) → AllClosed nx vs → Closed nx v
+    → AllClosed nx (set vs u v)
 closed-set nx [] u v k q = tt
 closed-set nx (x ∷ vs) zero v k q = (q, k .1)
 closed-set nx (x ∷ vs) (suc u) v k q = (k .0, closed-set nx vs u v (k .1) q)
@@ -64,34 +66,43 @@ module _ (W : Heap) (sg : ℕ → Seg) (H : Heap) (X : Expansion W sg H) where
     body = subst₂ (λ a b. Expands a sg b) (sym (next-put W n (holds v))) (sym (next-put H h (holds (img sg v))))
         (expands-write (next W) sg (next H) (X .body) n h single u v k);
     closed = subst (λ a. AllClosed a (W .ptrs)) (sym (next-put W n (holds v)))
-        (closed-up (next W) (upd (next W) n (holds v)) (W .ptrs) (w-closed (next W) sg (next H) (X .body) n h single u v k) (X .closed));
+        (closed-up (next W) (upd (next W) n (holds v)) (W .ptrs) (w-closed (next W) sg (next H) (X .body) n h single u
+        v k) (X .closed));
     ptrs = X .ptrs;
   }
 
-  exp-new : (n h : ℕ) → next W n ≡ unused → next H h ≡ unused → Expansion (putSlot n (holds undef) W) (upd sg n (seg h [])) (putSlot h (holds undef) H)
+  exp-new : (n h : ℕ) → next W n ≡ unused → next H h ≡ unused → Expansion (putSlot n (holds undef) W)
+      (upd sg n (seg h [])) (putSlot h (holds undef) H)
   exp-new n h fw fh = record {
-    body = subst₂ (λ a b. Expands a (upd sg n (seg h [])) b) (sym (next-put W n (holds undef))) (sym (next-put H h (holds undef)))
+    body = subst₂ (λ a b. Expands a (upd sg n (seg h [])) b) (sym (next-put W n (holds undef)))
+        (sym (next-put H h (holds undef)))
         (expands-new (next W) sg (next H) (X .body) n h fw fh);
     closed = subst (λ a. AllClosed a (W .ptrs)) (sym (next-put W n (holds undef)))
-        (closed-up (next W) (upd (next W) n (holds undef)) (W .ptrs) (n-closed (next W) sg (next H) (X .body) n h fw fh) (X .closed));
-    ptrs = X .ptrs ∙ sym (map-closed (next W) (img (upd sg n (seg h []))) (img sg) (W .ptrs) (n-img (next W) sg (next H) (X .body) n h fw fh) (X .closed));
+        (closed-up (next W) (upd (next W) n (holds undef)) (W .ptrs) (n-closed (next W) sg (next H) (X .body) n h fw
+        fh) (X .closed));
+    ptrs = X .ptrs ∙ sym (map-closed (next W) (img (upd sg n (seg h []))) (img sg) (W .ptrs)
+        (n-img (next W) sg (next H) (X .body) n h fw fh) (X .closed));
   }
 
   exp-free : (n h : ℕ) → sg n ≡ seg h [] → Used (next W) n → Expansion (freeCell n W) sg (freeCell h H)
   exp-free n h single u = record {
-    body = subst₂ (λ a b. Expands a sg b) (sym (next-free W n)) (sym (next-free H h)) (expands-free (next W) sg (next H) (X .body) n h single u);
+    body = subst₂ (λ a b. Expands a sg b) (sym (next-free W n)) (sym (next-free H h))
+        (expands-free (next W) sg (next H) (X .body) n h single u);
     closed = subst (λ a. AllClosed a (map (wipe n) (W .ptrs))) (sym (next-free W n))
-        (closed-map (next W) (freed (next W) n) (wipe n) (W .ptrs) (f-closed (next W) sg (next H) (X .body) n h single u) (X .closed));
+        (closed-map (next W) (freed (next W) n) (wipe n) (W .ptrs) (f-closed (next W) sg (next H) (X .body) n h single
+        u) (X .closed));
     ptrs = ap (map (wipe h)) (X .ptrs) ∙ map-map (wipe h) (img sg) (W .ptrs)
         ∙ sym (map-map (img sg) (wipe n) (W .ptrs)
-        ∙ map-closed (next W) (λ x. img sg (wipe n x)) (λ x. wipe h (img sg x)) (W .ptrs) (f-img (next W) sg (next H) (X .body) n h single u) (X .closed));
+        ∙ map-closed (next W) (λ x. img sg (wipe n x)) (λ x. wipe h (img sg x)) (W .ptrs)
+        (f-img (next W) sg (next H) (X .body) n h single u) (X .closed));
   }
 
   pub exp-split : (n k h t : ℕ) (ts : List ℕ) → sg n ≡ seg h (t ∷ ts) → Used (next W) n → next W k ≡ unused
       → Expansion (splitHeap n k W) (upd (upd sg k (seg t ts)) n (seg h [])) H
   exp-split n k h t ts longer u fw =
       let e : next (splitHeap n k W) ≡ upd (upd (next W) k (next W n)) n (holds (cell k)) =
-      next-put (putSlot k (next W n) W) n (holds (cell k)) ∙ ap (λ f. upd f n (holds (cell k))) (next-put W k (next W n)) in
+      next-put (putSlot k (next W n) W) n (holds (cell k))
+      ∙ ap (λ f. upd f n (holds (cell k))) (next-put W k (next W n)) in
       record {
         body = subst (λ a. Expands a (upd (upd sg k (seg t ts)) n (seg h [])) (next H)) (sym e)
             (expands-split (next W) sg (next H) (X .body) n k h t ts longer u fw);
@@ -130,7 +141,8 @@ module _ (W : Heap) (sg : ℕ → Seg) (H : Heap) (X : Expansion W sg H) where
       (chain-last (next H) (sg n .first) (sg n .rest) (img sg (k .0)) (X .body .chain n (k .0) (k .1))) in
       rw (e, k .1, p) (both-ok (exp-ptr W sg H X u (k .0) (X .body .closed n (k .0) (k .1))))
 
-  release-alike : (v w : Val) → w ≡ img sg v → Closed (next W) v → Alone (viewVal v) sg → Alike sg (freeVal v W) (freeVal w H)
+  release-alike : (v w : Val) → w ≡ img sg v → Closed (next W) v → Alone (viewVal v) sg
+      → Alike sg (freeVal v W) (freeVal w H)
   release-alike null w e k o = rw e (both-ok X)
   release-alike undef w e k o = rw e both-bad
   release-alike (cell n) w e k o = rw e (both-ok (exp-free W sg H X n (sg n .first) (one-cell n o) k))
@@ -140,7 +152,8 @@ module _ (W : Heap) (sg : ℕ → Seg) (H : Heap) (X : Expansion W sg H) where
       → Alike (sg-after a k c sg) (perform a k W) (perform a c H)
   effect-alike stay k c o fw fh = both-ok X
   effect-alike (point u s) k c o fw fh = rw (value-img s) (both-ok (exp-ptr W sg H X u (valueOf s W) (value-closed s)))
-  effect-alike (follow u w) k c o fw fh = follow-alike u (ptr W w) (ptr H w) (ptr-img W sg H X w) (ptr-closed W sg H X w) o
+  effect-alike (follow u w) k c o fw fh = follow-alike u (ptr W w) (ptr H w) (ptr-img W sg H X w)
+      (ptr-closed W sg H X w) o
   effect-alike (link u s) k c o fw fh =
       rw (value-img s)
       (link-alike (ptr W u) (ptr H u) (ptr-img W sg H X u) (ptr-closed W sg H X u) o (valueOf s W) (value-closed s))
@@ -152,4 +165,5 @@ module _ (W : Heap) (sg : ℕ → Seg) (H : Heap) (X : Expansion W sg H) where
       both-ok (subst (λ v. Expansion (setPtr u (cell k) W′) sg′ (setPtr u v H′))
       (ap (λ (s : Seg). cell (s .first)) (upd-at sg k (seg c []) k refl))
       (exp-ptr W′ sg′ H′ N u (cell k) (undef, getD-put (W .slots) k (holds undef) k ∙ rw (eqb-same k))))
-  effect-alike (release u) k c o fw fh = release-alike (ptr W u) (ptr H u) (ptr-img W sg H X u) (ptr-closed W sg H X u) o
+  effect-alike (release u) k c o fw fh = release-alike (ptr W u) (ptr H u) (ptr-img W sg H X u)
+      (ptr-closed W sg H X u) o

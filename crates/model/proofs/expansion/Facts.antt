@@ -38,24 +38,32 @@ closed-named nx undef k = refl
 
 all-named : (nx : ℕ → Slot) (vs : List Val) → all (named nx) vs ≡ true → AllClosed nx vs
 all-named nx [] h = tt
-all-named nx (v ∷ vs) h = (named-closed nx v (and-l (named nx v) (all (named nx) vs) h), all-named nx vs (and-r (named nx v) (all (named nx) vs) h))
+all-named nx (v ∷ vs) h = (
+  named-closed nx v (and-l (named nx v) (all (named nx) vs) h),
+  all-named nx vs
+      (and-r (named nx v) (all (named nx) vs) h),
+)
 
 named-all : (nx : ℕ → Slot) (vs : List Val) → AllClosed nx vs → all (named nx) vs ≡ true
 named-all nx [] k = refl
 named-all nx (v ∷ vs) k = and-both (named nx v) (all (named nx) vs) (closed-named nx v (k .0)) (named-all nx vs (k .1))
 
-slots-named : (nx : ℕ → Slot) (ss : List Slot) → all (slotNamed nx) ss ≡ true → (n : ℕ) (v : Val) → getD ss n unused ≡ holds v → Closed nx v
+slots-named : (nx : ℕ → Slot) (ss : List Slot) → all (slotNamed nx) ss ≡ true → (n : ℕ) (v : Val) → getD ss n unused
+    ≡ holds v → Closed nx v
 slots-named nx [] h n v e = slot-clash refl e
-slots-named nx (s ∷ ss) h zero v e = named-closed nx v (subst (λ x. slotNamed nx x ≡ true) e (and-l (slotNamed nx s) (all (slotNamed nx) ss) h))
+slots-named nx (s ∷ ss) h zero v e = named-closed nx v
+    (subst (λ x. slotNamed nx x ≡ true) e (and-l (slotNamed nx s) (all (slotNamed nx) ss) h))
 slots-named nx (s ∷ ss) h (suc n) v e = slots-named nx ss (and-r (slotNamed nx s) (all (slotNamed nx) ss) h) n v e
 
 slot-named : (nx : ℕ → Slot) (s : Slot) → ((v : Val) → s ≡ holds v → Closed nx v) → slotNamed nx s ≡ true
 slot-named nx unused k = refl
 slot-named nx (holds v) k = closed-named nx v (k v refl)
 
-named-slots : (nx : ℕ → Slot) (ss : List Slot) → ((n : ℕ) (v : Val) → getD ss n unused ≡ holds v → Closed nx v) → all (slotNamed nx) ss ≡ true
+named-slots : (nx : ℕ → Slot) (ss : List Slot) → ((n : ℕ) (v : Val) → getD ss n unused ≡ holds v → Closed nx v)
+    → all (slotNamed nx) ss ≡ true
 named-slots nx [] k = refl
-named-slots nx (s ∷ ss) k = and-both (slotNamed nx s) (all (slotNamed nx) ss) (slot-named nx s (k 0)) (named-slots nx ss (λ n. k (suc n)))
+named-slots nx (s ∷ ss) k = and-both (slotNamed nx s) (all (slotNamed nx) ss) (slot-named nx s (k 0))
+    (named-slots nx ss (λ n. k (suc n)))
 
 -- the test `closed`
 pub test-closed : (h : Heap) → closed h ≡ true → ClosedHeap h
@@ -65,23 +73,27 @@ test-closed h e = (
 )
 
 pub closed-test : (h : Heap) → ClosedHeap h → closed h ≡ true
-closed-test h k = and-both (all (named (next h)) (h .ptrs)) (all (slotNamed (next h)) (h .slots)) (named-all (next h) (h .ptrs) (k .0))
+closed-test h k = and-both (all (named (next h)) (h .ptrs)) (all (slotNamed (next h)) (h .slots))
+    (named-all (next h) (h .ptrs) (k .0))
     (named-slots (next h) (h .slots) (k .1))
 
 -- the test of each cell in use
-each-used : (p : ℕ → Bool) (i : ℕ) (ss : List Slot) → ((j : ℕ) → Used (λ x. getD ss x unused) j → p (i + j) ≡ true) → eachUsed p i ss ≡ true
+each-used : (p : ℕ → Bool) (i : ℕ) (ss : List Slot) → ((j : ℕ) → Used (λ x. getD ss x unused) j → p (i + j) ≡ true)
+    → eachUsed p i ss ≡ true
 each-used p i [] h = refl
 each-used p i (unused ∷ ss) h = each-used p (suc i) ss (λ j u. subst (λ x. p x ≡ true) (omega arith) (h (suc j) u))
 each-used p i (holds v ∷ ss) h = and-both (p i) (eachUsed p (suc i) ss)
     (subst (λ x. p x ≡ true) (omega arith) (h 0 (v, refl)))
     (each-used p (suc i) ss (λ j u. subst (λ x. p x ≡ true) (omega arith) (h (suc j) u)))
 
-used-each : (p : ℕ → Bool) (i : ℕ) (ss : List Slot) → eachUsed p i ss ≡ true → (j : ℕ) → Used (λ x. getD ss x unused) j → p (i + j) ≡ true
+used-each : (p : ℕ → Bool) (i : ℕ) (ss : List Slot) → eachUsed p i ss ≡ true → (j : ℕ)
+    → Used (λ x. getD ss x unused) j → p (i + j) ≡ true
 used-each p i [] h j u = slot-clash refl (u .1)
 used-each p i (unused ∷ ss) h zero u = slot-clash refl (u .1)
 used-each p i (unused ∷ ss) h (suc j) u = subst (λ x. p x ≡ true) (omega arith) (used-each p (suc i) ss h j u)
 used-each p i (holds v ∷ ss) h zero u = subst (λ x. p x ≡ true) (omega arith) (and-l (p i) (eachUsed p (suc i) ss) h)
-used-each p i (holds v ∷ ss) h (suc j) u = subst (λ x. p x ≡ true) (omega arith) (used-each p (suc i) ss (and-r (p i) (eachUsed p (suc i) ss) h) j u)
+used-each p i (holds v ∷ ss) h (suc j) u = subst (λ x. p x ≡ true) (omega arith)
+    (used-each p (suc i) ss (and-r (p i) (eachUsed p (suc i) ss) h) j u)
 
 -- the test `kept`
 pub kept-test : (h : Heap) → Kept h → kept h ≡ true

@@ -1,4 +1,5 @@
--- The fold carries over: an expansion folds to the same shape, with the sizes added up, and has lost a cell when the other has.
+-- The fold carries over: an expansion folds to the same shape, with the sizes added up, and has lost a cell when the
+-- other has.
 use Prim.Native.Nat.{_+_, suc, ℕ}
 use mathlib.Core.Path.{_∙_, _≡_, ap, ap₂, refl, subst, sym}
 use mathlib.Core.Bool.{Bool, cond, false, true}
@@ -17,9 +18,11 @@ use Rattle.model.specs.Notions.{Chain, Expansion, cat, img, total, AllCl
 use Rattle.model.proofs.visits.Order.{toured, tours-same}
 use Rattle.model.proofs.visits.Walks.{closed-map, map-closed}
 
-pub chain-used : (nx : ℕ → Slot) (c : ℕ) (l : List ℕ) (v : Val) (d : ℕ) → Chain nx c l v → mem d (c ∷ l) ≡ true → Used nx d
+pub chain-used : (nx : ℕ → Slot) (c : ℕ) (l : List ℕ) (v : Val) (d : ℕ) → Chain nx c l v → mem d (c ∷ l) ≡ true
+    → Used nx d
 chain-used nx c [] v d ch h = (v, ap nx (mem-one d c h) ∙ ch)
-chain-used nx c (x ∷ l) v d ch h = mem-cases d c (x ∷ l) h (λ e. (cell x, ap nx e ∙ ch .0)) (λ k. chain-used nx x l v d (ch .1) k)
+chain-used nx c (x ∷ l) v d ch h = mem-cases d c (x ∷ l) h (λ e. (cell x, ap nx e ∙ ch .0))
+    (λ k. chain-used nx x l v d (ch .1) k)
 
 -- each cell of a list is used
 abbrev pub Alls : (Seg → Type 0) → List Seg → Type 0
@@ -37,13 +40,15 @@ cut-used nx p c cur (d ∷ l) us ul =
           (λ n k. ul n (mem-there n d l k)),
     ))
     (λ e. rw (e, cutFrom) (cut-used nx p c (cur ++ d ∷ []) l
-    (λ n k. mem-append-cases n (c ∷ cur) (d ∷ []) k (us n) (λ q. ul n (subst (λ x. mem x (d ∷ l) ≡ true) (sym (mem-one n d q)) (mem-here d l))))
+    (λ n k. mem-append-cases n (c ∷ cur) (d ∷ []) k (us n)
+    (λ q. ul n (subst (λ x. mem x (d ∷ l) ≡ true) (sym (mem-one n d q)) (mem-here d l))))
     (λ n k. ul n (mem-there n d l k))))
 
 abbrev pub grow : (ℕ → Seg) → Seg → Seg
 grow sg s = seg (sg (s .first) .first) (sg (s .first) .rest ++ cat sg (s .rest))
 
-cut-inner : (p : ℕ → Bool) (c : ℕ) (cur t l : List ℕ) → ((d : ℕ) → mem d t ≡ true → p d ≡ false) → cutFrom p c cur (t ++ l) ≡ cutFrom p c (cur ++ t) l
+cut-inner : (p : ℕ → Bool) (c : ℕ) (cur t l : List ℕ) → ((d : ℕ) → mem d t ≡ true → p d ≡ false)
+    → cutFrom p c cur (t ++ l) ≡ cutFrom p c (cur ++ t) l
 cut-inner p c cur [] l h = rw (append-nil cur)
 cut-inner p c cur (d ∷ t) l h =
     rw (h d (mem-here d t), cutFrom) (cut-inner p c (cur ++ d ∷ []) t l (λ x k. h x (mem-there x d t k))
@@ -53,7 +58,8 @@ last-append : (c d : ℕ) (t u : List ℕ) → lastFrom c (t ++ d ∷ u) ≡ las
 last-append c d [] u = refl
 last-append c d (x ∷ t) u = last-append x d t u
 
-last-cat : (sg : ℕ → Seg) (n : ℕ) (l : List ℕ) → lastFrom (sg n .first) (sg n .rest ++ cat sg l) ≡ last (sg (lastFrom n l))
+last-cat : (sg : ℕ → Seg) (n : ℕ) (l : List ℕ) → lastFrom (sg n .first) (sg n .rest ++ cat sg l)
+    ≡ last (sg (lastFrom n l))
 last-cat sg n [] = rw (append-nil (sg n .rest))
 last-cat sg n (m ∷ l) = last-append (sg n .first) (sg m .first) (sg n .rest) (sg m .rest ++ cat sg l) ∙ last-cat sg m l
 
@@ -73,11 +79,13 @@ module _ (pw ph : ℕ → Bool) (sg : ℕ → Seg) where
       ∙ ap (λ z. cutFrom ph (sg m .first) z (cat sg l)) (sym (append-nil (sg m .rest)))
       ∙ cut-cat m [] l (λ x k. hh x (mem-there x m l k)) (λ x d k. hi x d (mem-there x m l k)))))
       (λ e. rw (hh m (mem-here m l) ∙ e, e, cutFrom)
-      (cut-inner ph (sg n .first) (sg n .rest ++ cat sg cur ++ sg m .first ∷ []) (sg m .rest) (cat sg l) (λ d k. hi m d (mem-here m l) k)
+      (cut-inner ph (sg n .first) (sg n .rest ++ cat sg cur ++ sg m .first ∷ []) (sg m .rest) (cat sg l)
+      (λ d k. hi m d (mem-here m l) k)
       ∙ ap (λ z. cutFrom ph (sg n .first) z (cat sg l)) (simp (append-assoc, cat-snoc))
       ∙ cut-cat n (cur ++ m ∷ []) l (λ x k. hh x (mem-there x m l k)) (λ x d k. hi x d (mem-there x m l k))))
 
-  cuts : (l : List ℕ) → ((m : ℕ) → mem m l ≡ true → ph (sg m .first) ≡ pw m) → ((m d : ℕ) → mem m l ≡ true → mem d (sg m .rest) ≡ true → ph d ≡ false)
+  cuts : (l : List ℕ) → ((m : ℕ) → mem m l ≡ true → ph (sg m .first) ≡ pw m)
+      → ((m d : ℕ) → mem m l ≡ true → mem d (sg m .rest) ≡ true → ph d ≡ false)
       → cut ph (cat sg l) ≡ map (grow sg) (cut pw l)
   cuts [] hh hi = refl
   cuts (n ∷ l) hh hi =
@@ -91,7 +99,8 @@ length-cat sg (n ∷ l) = length-append (cells (sg n)) (cat sg l) ∙ ap (λ x. 
 
 sizes : (sg : ℕ → Seg) (ss : List Seg) → map size (map (grow sg) ss) ≡ map (λ (s : Seg). total sg (cells s)) ss
 sizes sg ss = map-map size (grow sg) ss
-    ∙ map-same (λ (s : Seg). length (cat sg (cells s))) (λ (s : Seg). total sg (cells s)) ss (λ s i. length-cat sg (cells s))
+    ∙ map-same (λ (s : Seg). length (cat sg (cells s))) (λ (s : Seg). total sg (cells s)) ss
+    (λ s i. length-cat sg (cells s))
 
 module _ (W : Heap) (sg : ℕ → Seg) (H : Heap) (X : Expansion W sg H) where
   small-closed : ClosedHeap W
@@ -101,7 +110,8 @@ module _ (W : Heap) (sg : ℕ → Seg) (H : Heap) (X : Expansion W sg H) where
   img-closed null k = tt
   img-closed undef k = tt
   img-closed (cell n) k =
-      chain-used (next H) (sg n .first) (sg n .rest) (img sg (k .0)) (sg n .first) (X .body .chain n (k .0) (k .1)) (mem-here (sg n .first) (sg n .rest))
+      chain-used (next H) (sg n .first) (sg n .rest) (img sg (k .0)) (sg n .first) (X .body .chain n (k .0) (k .1))
+      (mem-here (sg n .first) (sg n .rest))
 
   next-closed : (c : ℕ) (v : Val) → next H c ≡ holds v → Closed (next H) v
   next-closed c null e = tt
@@ -121,23 +131,27 @@ module _ (W : Heap) (sg : ℕ → Seg) (H : Heap) (X : Expansion W sg H) where
   pub order-cat : order H ≡ cat sg (order W)
   order-cat =
       tours-same (next H) (toured H large-closed .tours)
-      (rw (X .ptrs) (lift-tour (next W) sg (next H) (X .body) (λ n k. clash k refl) (X .closed) (toured W small-closed .tours) .0))
+      (rw (X .ptrs) (lift-tour (next W) sg (next H) (X .body) (λ n k. clash k refl) (X .closed)
+      (toured W small-closed .tours) .0))
 
   pub segments-grow : segments H ≡ map (grow sg) (segments W)
   segments-grow = rw order-cat
       (cuts (core W) (core H) sg (order W) (λ m k. core-head W sg H X m (toured W small-closed .used m k))
       (λ m d k h. core-inner W sg H X m d (toured W small-closed .used m k) h))
 
-  node-grow : (n : ℕ) (ss : List Seg) → Used (next W) n → Alls (λ s. AllUsed (next W) (cells s)) ss → node (map (grow sg) ss) (sg n .first) ≡ node ss n
+  node-grow : (n : ℕ) (ss : List Seg) → Used (next W) n → Alls (λ s. AllUsed (next W) (cells s)) ss
+      → node (map (grow sg) ss) (sg n .first) ≡ node ss n
   node-grow n [] u us = refl
   node-grow n (s ∷ ss) u us = ap₂ (λ b k. cond b 0 (suc k))
       (bool-ext (eqb (sg n .first) (sg (s .first) .first)) (eqb n (s .first))
-      (λ e. eq-eqb n (s .first) (first-inj (next W) sg (next H) (X .body) n (s .first) u (us .0 (s .first) (mem-here (s .first) (s .rest)))
+      (λ e. eq-eqb n (s .first) (first-inj (next W) sg (next H) (X .body) n (s .first) u
+      (us .0 (s .first) (mem-here (s .first) (s .rest)))
       (eqb-true (sg n .first) (sg (s .first) .first) e)))
       (λ e. eq-eqb (sg n .first) (sg (s .first) .first) (ap (λ x. sg x .first) (eqb-true n (s .first) e))))
       (node-grow n ss u (us .1))
 
-  val-grow : (v : Val) (ss : List Seg) → Closed (next W) v → Alls (λ s. AllUsed (next W) (cells s)) ss → nodeVal (map (grow sg) ss) (img sg v) ≡ nodeVal ss v
+  val-grow : (v : Val) (ss : List Seg) → Closed (next W) v → Alls (λ s. AllUsed (next W) (cells s)) ss
+      → nodeVal (map (grow sg) ss) (img sg v) ≡ nodeVal ss v
   val-grow null ss k us = refl
   val-grow undef ss k us = refl
   val-grow (cell n) ss k us = ap cell (node-grow n ss k us)
@@ -155,17 +169,21 @@ module _ (W : Heap) (sg : ℕ → Seg) (H : Heap) (X : Expansion W sg H) where
       let k = mem-last-used (next W) (s .first) (s .rest) u in
       let e : next H (last (grow sg s)) ≡ holds (img sg (k .0)) = ap (next H) (last-cat sg (s .first) (s .rest))
       ∙ chain-last (next H) (sg m .first) (sg m .rest) (img sg (k .0)) (X .body .chain m (k .0) (k .1)) in
-      ap (nodeSlot (map (grow sg) ss)) e ∙ ap holds (val-grow (k .0) ss (X .body .closed m (k .0) (k .1)) us) ∙ sym (ap (nodeSlot ss) (k .1))
+      ap (nodeSlot (map (grow sg) ss)) e ∙ ap holds (val-grow (k .0) ss (X .body .closed m (k .0) (k .1)) us)
+      ∙ sym (ap (nodeSlot ss) (k .1))
 
   slots-grow : (r ss : List Seg) → Alls (λ s. AllUsed (next W) (cells s)) r → Alls (λ s. AllUsed (next W) (cells s)) ss
-      → map (λ (s : Seg). nodeSlot (map (grow sg) ss) (next H (last s))) (map (grow sg) r) ≡ map (λ (s : Seg). nodeSlot ss (next W (last s))) r
+      → map (λ (s : Seg). nodeSlot (map (grow sg) ss) (next H (last s))) (map (grow sg) r)
+      ≡ map (λ (s : Seg). nodeSlot ss (next W (last s))) r
   slots-grow [] ss u us = refl
   slots-grow (s ∷ r) ss u us = ap₂ _∷_ (slot-grow s ss (u .0) us) (slots-grow r ss (u .1) us)
 
-  pub segments-used : (p : ℕ → Bool) (l : List ℕ) → AllUsed (next W) l → Alls (λ s. AllUsed (next W) (cells s)) (cut p l)
+  pub segments-used : (p : ℕ → Bool) (l : List ℕ) → AllUsed (next W) l → Alls (λ s. AllUsed (next W) (cells s))
+      (cut p l)
   segments-used p [] us = tt
   segments-used p (c ∷ l) us =
-      cut-used (next W) p c [] l (λ n k. us n (subst (λ x. mem x (c ∷ l) ≡ true) (sym (mem-one n c k)) (mem-here c l))) (λ n k. us n (mem-there n c l k))
+      cut-used (next W) p c [] l (λ n k. us n (subst (λ x. mem x (c ∷ l) ≡ true) (sym (mem-one n c k))
+      (mem-here c l))) (λ n k. us n (mem-there n c l k))
 
   pub fold-same : shape H ≡ shape W
   fold-same =
@@ -184,7 +202,8 @@ module _ (W : Heap) (sg : ℕ → Seg) (H : Heap) (X : Expansion W sg H) where
   kept-down k n u =
       let q = mem-of-cat sg (sg n .first) (order W) (rw order-cat at (k (sg n .first) (img-closed (cell n) u))) in
       subst (λ x. mem x (order W) ≡ true)
-      (sym (X .body .apart n (q .0) (sg n .first) u (toured W small-closed .used (q .0) (q .1)) (mem-here (sg n .first) (sg n .rest)) (q .2))) (q .1)
+      (sym (X .body .apart n (q .0) (sg n .first) u (toured W small-closed .used (q .0) (q .1))
+      (mem-here (sg n .first) (sg n .rest)) (q .2))) (q .1)
 
   pub counters-grow : counters H ≡ map (λ (s : Seg). total sg (cells s)) (segments W)
   counters-grow = rw segments-grow (sizes sg (segments W))

@@ -43,10 +43,12 @@ pub effect-leaves : (a : Action) (n : ℕ) (h : Heap) → ClosedHeap h → Leave
 effect-leaves stay n h cl = stays
 effect-leaves (point u s) n h cl = points u (valueOf s h)
 effect-leaves (follow u w) n h cl =
-    through-leaves (follow u w) n h (ptr h w) (closed-ptr (next h) (h .ptrs) w (cl .0)) (λ d. setPtr u (held (next h d)) h)
+    through-leaves (follow u w) n h (ptr h w) (closed-ptr (next h) (h .ptrs) w (cl .0))
+    (λ d. setPtr u (held (next h d)) h)
     (λ c k. points u (held (next h c)))
 effect-leaves (link u s) n h cl =
-    through-leaves (link u s) n h (ptr h u) (closed-ptr (next h) (h .ptrs) u (cl .0)) (λ d. putSlot d (holds (valueOf s h)) h)
+    through-leaves (link u s) n h (ptr h u) (closed-ptr (next h) (h .ptrs) u (cl .0))
+    (λ d. putSlot d (holds (valueOf s h)) h)
     (λ c k. links c (holds (valueOf s h)) k)
 effect-leaves (make u) n h cl = makes u refl
 effect-leaves (release u) n h cl = free-leaves (release u) n h (ptr h u) (closed-ptr (next h) (h .ptrs) u (cl .0))
@@ -93,11 +95,13 @@ abbrev pub Short : ℕ → Effect → Type 0
 Short b (done h) = length (h .slots) ≤ b
 Short b (fault f) = Unit {0}
 
-pub leaves-short : (a : Action) (n b : ℕ) (h : Heap) → length (h .slots) ≤ b → n < b → (e : Effect) → Leaves a n h e → Short b e
+pub leaves-short : (a : Action) (n b : ℕ) (h : Heap) → length (h .slots) ≤ b → n < b → (e : Effect) → Leaves a n h e
+    → Short b e
 leaves-short a n b h l q e (fails z) = tt
 leaves-short a n b h l q e stays = l
 leaves-short a n b h l q e (points u v) = l
-leaves-short a n b h l q e (links c s k) = let z = used-below (h .slots) c k in length-put (h .slots) c s b l (omega arith)
+leaves-short a n b h l q e (links c s k) = let z = used-below (h .slots) c k in
+    length-put (h .slots) c s b l (omega arith)
 leaves-short a n b h l q e (makes u z) = length-put (h .slots) n (holds undef) b l q
 leaves-short a n b h l q e (frees c k) =
     let z = used-below (h .slots) c k in
@@ -114,7 +118,8 @@ abbrev pub SlotsAre : ℕ → Effect → Type 0
 SlotsAre n (done h) = length (h .slots) ≡ n
 SlotsAre n (fault f) = Unit {0}
 
-pub leaves-slots : (a : Action) (n : ℕ) (h : Heap) → pastEnd a n (length (h .slots)) ≡ false → (e : Effect) → Leaves a n h e
+pub leaves-slots : (a : Action) (n : ℕ) (h : Heap) → pastEnd a n (length (h .slots)) ≡ false → (e : Effect)
+    → Leaves a n h e
     → SlotsAre (length (h .slots)) e
 leaves-slots a n h p e (fails z) = tt
 leaves-slots a n h p e stays = refl

@@ -17,7 +17,8 @@ abbrev pub splitNext : (ℕ → Slot) → ℕ → ℕ → ℕ → Slot
 splitNext nx n k = upd (upd nx k (nx n)) n (holds (cell k))
 
 pub next-split : (n k : ℕ) (h : Heap) → next (splitHeap n k h) ≡ splitNext (next h) n k
-next-split n k h = next-put (putSlot k (next h n) h) n (holds (cell k)) ∙ ap (λ f. upd f n (holds (cell k))) (next-put h k (next h n))
+next-split n k h = next-put (putSlot k (next h n) h) n (holds (cell k))
+    ∙ ap (λ f. upd f n (holds (cell k))) (next-put h k (next h n))
 
 module _ (nx : ℕ → Slot) (n k : ℕ) (u : Used nx n) where
   pub tail-in : Used (splitNext nx n k) k
@@ -34,17 +35,23 @@ module _ (nx : ℕ → Slot) (n k : ℕ) (u : Used nx n) where
   still-closed null q = tt
   still-closed undef q = tt
 
-  slots-closed : ((i : ℕ) (v : Val) → nx i ≡ holds v → Closed nx v) → (i : ℕ) (v : Val) → splitNext nx n k i ≡ holds v → Closed (splitNext nx n k) v
+  slots-closed : ((i : ℕ) (v : Val) → nx i ≡ holds v → Closed nx v) → (i : ℕ) (v : Val) → splitNext nx n k i ≡ holds v
+      → Closed (splitNext nx n k) v
   slots-closed c i v q =
       eq-case i n
-      (λ e. subst (Closed (splitNext nx n k)) (holds-inj (sym (upd-at (upd nx k (nx n)) n (holds (cell k)) i e) ∙ q)) tail-in)
+      (λ e. subst (Closed (splitNext nx n k)) (holds-inj (sym (upd-at (upd nx k (nx n)) n (holds (cell k)) i e) ∙ q))
+      tail-in)
       (λ e. let a = sym (upd-off (upd nx k (nx n)) n (holds (cell k)) i e) ∙ q in
-      eq-case i k (λ f. still-closed v (c n v (sym (upd-at nx k (nx n) i f) ∙ a))) (λ f. still-closed v (c i v (sym (upd-off nx k (nx n) i f) ∙ a))))
+      eq-case i k (λ f. still-closed v (c n v (sym (upd-at nx k (nx n) i f) ∙ a)))
+      (λ f. still-closed v (c i v (sym (upd-off nx k (nx n) i f) ∙ a))))
 
 pub split-closed : (n k : ℕ) (h : Heap) → Used (next h) n → ClosedHeap h → ClosedHeap (splitHeap n k h)
 split-closed n k h u c =
-    subst (λ nx. AllClosed nx (h .ptrs) × ((i : ℕ) (v : Val) → nx i ≡ holds v → Closed nx v)) (sym (next-split n k h))
-    (closed-up (next h) (splitNext (next h) n k) (h .ptrs) (still-closed (next h) n k u) (c .0), slots-closed (next h) n k u (c .1))
+    subst (λ nx. AllClosed nx (h .ptrs) × ((i : ℕ) (v : Val) → nx i ≡ holds v → Closed nx v)) (sym (next-split n k h)) (
+      closed-up (next h) (splitNext (next h) n k) (h .ptrs) (still-closed (next h) n k u) (c .0),
+      slots-closed (next h)
+          n k u (c .1),
+    )
 
 -- ---- the tail
 
@@ -66,7 +73,8 @@ view-is null n e = no-view e
 view-is undef n e = no-view e
 
 -- a cell in use stays so unless it is freed
-effect-used : (a : Action) (x n k : ℕ) (h : Heap) → view a h ≡ oneNode n → eqb k n ≡ false → Used (next h) k → InUse k (perform a x h)
+effect-used : (a : Action) (x n k : ℕ) (h : Heap) → view a h ≡ oneNode n → eqb k n ≡ false → Used (next h) k
+    → InUse k (perform a x h)
 effect-used stay x n k h a d u = no-view a
 effect-used (point i s) x n k h a d u = no-view a
 effect-used (follow i j) x n k h a d u = rw (view-is (ptr h j) n a) u
@@ -79,9 +87,11 @@ keep-used : (k : ℕ) (e : Effect) → InUse k e → InUse k (keep e)
 keep-used k (fault f) u = tt
 keep-used k (done g) u = bool-case (kept g) (λ q. rw q u) (λ q. rw q tt)
 
-pub tail-used : (op : Op) (x n k : ℕ) (h g : Heap) → view (action op) (splitHeap n k h) ≡ oneNode n → eqb k n ≡ false → Used (next h) n
+pub tail-used : (op : Op) (x n k : ℕ) (h g : Heap) → view (action op) (splitHeap n k h) ≡ oneNode n → eqb k n ≡ false
+    → Used (next h) n
     → carryOut op x (splitHeap n k h) ≡ done g → Used (next g) k
 tail-used op x n k h g a d u e =
     subst (InUse k) e
     (keep-used k (perform (action op) x (splitHeap n k h))
-    (effect-used (action op) x n k (splitHeap n k h) a d (subst (λ nx. Used nx k) (sym (next-split n k h)) (tail-in (next h) n k u))))
+    (effect-used (action op) x n k (splitHeap n k h) a d (subst (λ nx. Used nx k) (sym (next-split n k h))
+    (tail-in (next h) n k u))))

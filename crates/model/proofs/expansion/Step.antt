@@ -1,4 +1,5 @@
--- One step carries over: on a heap and on its expansion the machine faults alike, or goes on alike to heaps of which one expands the other.
+-- One step carries over: on a heap and on its expansion the machine faults alike, or goes on alike to heaps of which
+-- one expands the other.
 use Prim.Native.Nat.{ℕ}
 use mathlib.Core.Path.{_∙_, _≡_, ap, refl}
 use mathlib.Core.Bool.{false, true}
@@ -43,13 +44,15 @@ same-img nw sg nh E (cell c) (cell d) k l =
     (λ e. eq-eqb (sg c .first) (sg d .first) (ap (λ x. sg x .first) (eqb-true c d e)))
 
 module _ (W : Heap) (sg : ℕ → Seg) (H : Heap) (X : Expansion W sg H) where
-  test-same : (v w x y : Val) → x ≡ img sg v → y ≡ img sg w → Closed (next W) v → Closed (next W) w → sameVal x y ≡ sameVal v w
+  test-same : (v w x y : Val) → x ≡ img sg v → y ≡ img sg w → Closed (next W) v → Closed (next W) w → sameVal x y
+      ≡ sameVal v w
   test-same v w x y p q k l = rw (p, q) (same-img (next W) sg (next H) (X .body) v w k l)
 
   pub branch-same : (c : Kind) (p : ℕ) → branchBy c p H ≡ branchBy c p W
   branch-same halts p = refl
   branch-same (acts x) p = refl
-  branch-same (ifNull u) p = ap test (test-same (ptr W u) null (ptr H u) null (ptr-img W sg H X u) refl (ptr-closed W sg H X u) tt)
+  branch-same (ifNull u) p = ap test (test-same (ptr W u) null (ptr H u) null (ptr-img W sg H X u) refl
+      (ptr-closed W sg H X u) tt)
   branch-same (ifSame u w) p =
       ap test (test-same (ptr W u) (ptr W w) (ptr H u) (ptr H w) (ptr-img W sg H X u) (ptr-img W sg H X w)
       (ptr-closed W sg H X u) (ptr-closed W sg H X w))
@@ -60,7 +63,8 @@ pub data Agree (sg : ℕ → Seg) : Answer → Answer → Type 0 where
   fault-alike : {f : Fault} → Agree sg (faulted f) (faulted f)
   went-alike : {b t : ℕ} {W H : Heap} → Expansion W sg H → Kept H → Agree sg (went b t W) (went b t H)
 
-answer-agree : (sg : ℕ → Seg) (st : Stmt) (b : ℕ) (x y : Effect) → After sg x y → Agree sg (answerOf st b x) (answerOf st b y)
+answer-agree : (sg : ℕ → Seg) (st : Stmt) (b : ℕ) (x y : Effect) → After sg x y
+    → Agree sg (answerOf st b x) (answerOf st b y)
 answer-agree sg st b x y fault-both = fault-alike
 answer-agree sg st b x y (done-both X k) = went-alike X k
 
@@ -69,7 +73,8 @@ pub step-go : (st : Stmt) (e : Entry) (h : Heap) → isStop (kind (st .op)) ≡ 
 step-go st e h g a = rw (a, g)
 
 -- the step of an entry d on W and that of an entry e on its expansion H
-pub step-agree : (st : Stmt) (d e : Entry) (W : Heap) (sg : ℕ → Seg) (H : Heap) → Expansion W sg H → isStop (kind (st .op)) ≡ false
+pub step-agree : (st : Stmt) (d e : Entry) (W : Heap) (sg : ℕ → Seg) (H : Heap) → Expansion W sg H
+    → isStop (kind (st .op)) ≡ false
     → accepts (st .op) d W ≡ true → accepts (st .op) e H ≡ true
     → Alone (view (action (st .op)) W) sg
     → Room (action (st .op)) W (d .cellNo) → Room (action (st .op)) H (e .cellNo)
@@ -79,6 +84,7 @@ step-agree st d e W sg H X g aw ah o rw′ rh b =
     let a = action (st .op) in
     let sg′ = sg-after a (d .cellNo) (e .cellNo) sg in
     rw (step-go st d W g aw, step-go st e H g ah, b)
-    (answer-agree sg′ st (branch (st .op) (d .pick) W) (carryOut (st .op) (d .cellNo) W) (carryOut (st .op) (e .cellNo) H)
+    (answer-agree sg′ st (branch (st .op) (d .pick) W) (carryOut (st .op) (d .cellNo) W)
+    (carryOut (st .op) (e .cellNo) H)
     (keep-alike sg′ (perform a (d .cellNo) W) (perform a (e .cellNo) H)
     (effect-alike W sg H X a (d .cellNo) (e .cellNo) o rw′ rh)))

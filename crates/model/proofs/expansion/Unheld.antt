@@ -1,4 +1,5 @@
--- A cell in use that no pointer and no next holds is lost: no walk visits it. And which cells are lost when a pointer or a next is set.
+-- A cell in use that no pointer and no next holds is lost: no walk visits it. And which cells are lost when a pointer
+-- or a next is set.
 use Prim.Native.Nat.{ℕ, zero, suc, _<_}
 use mathlib.Core.Path.{_≡_, refl, sym, ap, subst, _∙_}
 use mathlib.Core.Logic.{inl, inr}
@@ -35,7 +36,8 @@ module _ (nx : ℕ → Slot) (c : ℕ) (none : NoNext nx c) where
   walk-misses (suc f) s undef m d = m
   walk-misses (suc f) s (cell b) m d =
       bool-case (mem b s) (λ e. rw (e, walk) m)
-      (λ e. rw (e, walk) (by-slot (nx b) refl (λ w q. walk-misses f (s ++ b ∷ []) w more (λ i. none b (q ∙ ap holds (sym i))))))
+      (λ e. rw (e, walk) (by-slot (nx b) refl (λ w q. walk-misses f (s ++ b ∷ []) w more
+      (λ i. none b (q ∙ ap holds (sym i))))))
     where
       more : mem c (s ++ b ∷ []) ≡ false
       more = mem-append c s (b ∷ []) ∙ rw (m, ne-eqb c b (λ e. d (ap cell e)))
@@ -45,11 +47,14 @@ module _ (nx : ℕ → Slot) (c : ℕ) (none : NoNext nx c) where
       by-slot unused q g = rw (q, walk) m
       by-slot (holds w) q g = rw (q, walk) (g w q)
 
-  tour-misses : (f : ℕ) (s : List ℕ) (vs : List Val) → mem c s ≡ false → (In (cell c) vs → ⊥) → mem c (tour nx f s vs) ≡ false
+  tour-misses : (f : ℕ) (s : List ℕ) (vs : List Val) → mem c s ≡ false → (In (cell c) vs → ⊥) → mem c (tour nx f s vs)
+      ≡ false
   tour-misses f s [] m d = m
-  tour-misses f s (v ∷ vs) m d = tour-misses f (walk nx f s v) vs (walk-misses f s v m (λ e. d (inl e))) (λ i. d (inr i))
+  tour-misses f s (v ∷ vs) m d = tour-misses f (walk nx f s v) vs (walk-misses f s v m (λ e. d (inl e)))
+      (λ i. d (inr i))
 
-pub unheld-leaks : (h : Heap) (c : ℕ) → Used (next h) c → (In (cell c) (h .ptrs) → ⊥) → NoNext (next h) c → keep (done h) ≡ fault leak
+pub unheld-leaks : (h : Heap) (c : ℕ) → Used (next h) c → (In (cell c) (h .ptrs) → ⊥) → NoNext (next h) c
+    → keep (done h) ≡ fault leak
 unheld-leaks h c u p q =
     let lost : mem c (order h) ≡ false = tour-misses (next h) c q (length (h .slots)) [] (h .ptrs) refl p in
     ap (λ b. cond b (done h) (fault leak)) (not-true (kept h) (λ e. clash (test-kept h e c u) lost))
@@ -76,7 +81,8 @@ split-cases h n b x e f g =
     let q = subst (λ nx. nx b ≡ holds x) (next-split n k h) e in
     eq-case b n (λ d. f d (holds-inj (sym q ∙ upd-at (upd (next h) k (next h n)) n (holds (cell k)) b d)))
     (λ d. let a = sym (upd-off (upd (next h) k (next h n)) n (holds (cell k)) b d) ∙ q in
-    eq-case b k (λ i. g n (sym (upd-at (next h) k (next h n) b i) ∙ a)) (λ i. g b (sym (upd-off (next h) k (next h n) b i) ∙ a)))
+    eq-case b k (λ i. g n (sym (upd-at (next h) k (next h n) b i) ∙ a))
+    (λ i. g b (sym (upd-off (next h) k (next h n) b i) ∙ a)))
 
 module _ (h : Heap) (cl : ClosedHeap h) (n : ℕ) (u : Used (next h) n) where
   abbrev k : ℕ
@@ -120,21 +126,30 @@ module _ (h : Heap) (cl : ClosedHeap h) (n : ℕ) (u : Used (next h) n) where
       (λ d. split-off b d (wipe-slot-back n k (next H b) (sym (upd-off nx n unused b d) ∙ e))) in
       let w = tail-in-use in
       unheld-leaks (freeCell n H) k
-      (subst (λ f. Used f k) (sym (next-free H n)) (wipe n (w .0), upd-off nx n unused k head-other ∙ ap (wipeSlot n) (w .1)))
-      (λ i. let r = in-map (wipe n) (cell k) (h .ptrs) i in no-pointer (subst (λ x. In x (h .ptrs)) (sym (wipe-back n k (r .0) (r .2))) (r .1)))
+      (subst (λ f. Used f k) (sym (next-free H n)) (
+        wipe n (w .0),
+        upd-off nx n unused k head-other
+            ∙ ap (wipeSlot n) (w .1),
+      ))
+      (λ i. let r = in-map (wipe n) (cell k) (h .ptrs) i in
+      no-pointer (subst (λ x. In x (h .ptrs)) (sym (wipe-back n k (r .0) (r .2))) (r .1)))
       (subst (λ f. NoNext f k) (sym (next-free H n)) none)
 
 -- ---- a cell that one pointer alone holds
 
-set-misses : (vs : List Val) (u : ℕ) (x : Val) (c : ℕ) → (cell c ≡ x → ⊥) → ((i : ℕ) → i < length vs → getD vs i undef ≡ cell c → i ≡ u)
+set-misses : (vs : List Val) (u : ℕ) (x : Val) (c : ℕ) → (cell c ≡ x → ⊥)
+    → ((i : ℕ) → i < length vs → getD vs i undef ≡ cell c → i ≡ u)
     → In (cell c) (set vs u x) → ⊥
 set-misses [] u x c d al i = i
 set-misses (y ∷ vs) zero x c d al (inl e) = d e
-set-misses (y ∷ vs) zero x c d al (inr i) = let r = in-getD vs undef (cell c) i in omega (arith, al (suc (r .0)) (omega arith) (r .2))
+set-misses (y ∷ vs) zero x c d al (inr i) = let r = in-getD vs undef (cell c) i in
+    omega (arith, al (suc (r .0)) (omega arith) (r .2))
 set-misses (y ∷ vs) (suc u) x c d al (inl e) = omega (arith, al 0 (omega arith) (sym e))
-set-misses (y ∷ vs) (suc u) x c d al (inr i) = set-misses vs u x c d (λ j lt q. omega (arith, al (suc j) (omega arith) q)) i
+set-misses (y ∷ vs) (suc u) x c d al (inr i) =
+    set-misses vs u x c d (λ j lt q. omega (arith, al (suc j) (omega arith) q)) i
 
-module _ (H : Heap) (u c : ℕ) (w : Used (next H) c) (alone : (i : ℕ) → i < length (H .ptrs) → ptr H i ≡ cell c → i ≡ u) (none : NoNext (next H) c) where
+module _ (H : Heap) (u c : ℕ) (w : Used (next H) c) (alone : (i : ℕ) → i < length (H .ptrs) → ptr H i ≡ cell c → i
+    ≡ u) (none : NoNext (next H) c) where
   pub set-leaks : (x : Val) → (cell c ≡ x → ⊥) → keep (done (setPtr u x H)) ≡ fault leak
   set-leaks x d = unheld-leaks (setPtr u x H) c w (set-misses (H .ptrs) u x c d alone) none
 
@@ -156,9 +171,12 @@ module _ (H : Heap) (u c : ℕ) (w : Used (next H) c) (alone : (i : ℕ) → i <
       (subst (λ nx. NoNext nx c) (sym (next-put H k (holds undef))) empty)
 
 -- splitting a node makes no other cell be held
-pub split-none : (h : Heap) (n c : ℕ) → c < length (h .slots) → NoNext (next h) c → NoNext (next (splitHeap n (length (h .slots)) h)) c
+pub split-none : (h : Heap) (n c : ℕ) → c < length (h .slots) → NoNext (next h) c
+    → NoNext (next (splitHeap n (length (h .slots)) h)) c
 split-none h n c lt none b e =
     split-cases h n b (cell c) e (λ i q. let z : c ≡ length (h .slots) = cc in omega arith) none
 
-pub split-used : (h : Heap) (n c : ℕ) → Used (next h) n → Used (next h) c → Used (next (splitHeap n (length (h .slots)) h)) c
-split-used h n c u w = subst (λ nx. Used nx c) (sym (next-split n (length (h .slots)) h)) (still-used (next h) n (length (h .slots)) u c w)
+pub split-used : (h : Heap) (n c : ℕ) → Used (next h) n → Used (next h) c
+    → Used (next (splitHeap n (length (h .slots)) h)) c
+split-used h n c u w = subst (λ nx. Used nx c) (sym (next-split n (length (h .slots)) h))
+    (still-used (next h) n (length (h .slots)) u c w)

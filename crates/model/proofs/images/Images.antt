@@ -1,5 +1,5 @@
--- What folding and unfolding leave, for all inputs: which refusals they have, that a refusal leaves zeros or what stood, that lengths are kept,
--- and what an accepted fold gives.
+-- What folding and unfolding leave, for all inputs: which refusals they have, that a refusal leaves zeros or what
+-- stood, that lengths are kept, and what an accepted fold gives.
 use Prim.Native.Nat.{_+_, _-_, _≤_, suc, zero, ℕ}
 use Rattle.model.proofs.records.Checks.{accepted-zero, checked-by, none-failed, not-both, pass-none}
 use Rattle.model.specs.Notions.{CheckedBy}
@@ -30,7 +30,8 @@ use Rattle.model.proofs.ways.Ways.{count-length}
 -- ---- the heap image
 
 -- an image is accepted exactly when it is six pointers and at most 240 cells, and a heap
-pub image-accepted : (ps cs : List ℕ) → (refusalImage ps cs ≡ 0) ↔ ((length ps ≡ 6) × (length cs ≤ 240) × IsHeap (heapOf ps cs))
+pub image-accepted : (ps cs : List ℕ) → (refusalImage ps cs ≡ 0) ↔ ((length ps ≡ 6) × (length cs ≤ 240)
+    × IsHeap (heapOf ps cs))
 image-accepted ps cs = (
   (λ z. let p = none-failed (checksImage ps cs) refl z in
       let l = and-l (lengths ps cs) (closed (heapOf ps cs)) (p .0) in (
@@ -40,14 +41,19 @@ image-accepted ps cs = (
       )),
   λ q. let e : (lengths ps cs && closed (heapOf ps cs)) ≡ true =
       and-both (lengths ps cs) (closed (heapOf ps cs))
-      (and-both (eqb (length ps) 6) (leb (length cs) 240) (eq-eqb (length ps) 6 (q .0)) (le-leb (length cs) 240 (q .1))) (q .2 .isClosed) in
+      (and-both (eqb (length ps) 6) (leb (length cs) 240) (eq-eqb (length ps) 6 (q .0))
+      (le-leb (length cs) 240 (q .1))) (q .2 .isClosed) in
       pass-none (checksImage ps cs) (e, (q .2 .isKept, tt)),
 )
 
 -- ---- folding
 
 pub fold-zero : (ps cs : List ℕ) → refusalImage ps cs ≡ 0
-    → foldImage ps cs ≡ record { verdict = isAccepted; recordBytes = shapeRecord (shape (heapOf ps cs)); counts = filled 12 (counters (heapOf ps cs)) }
+    → foldImage ps cs ≡ record {
+      verdict = isAccepted;
+      recordBytes = shapeRecord (shape (heapOf ps cs));
+      counts = filled 12 (counters (heapOf ps cs));
+    }
 unfolding foldImage
 fold-zero ps cs e = rw (e, foldImage)
 
@@ -61,7 +67,8 @@ number-case zero f g = f refl
 number-case (suc m) f g = g m refl
 
 pub fold-verdict : (ps cs : List ℕ) → foldImage ps cs .verdict ≡ verdictBy (refusalImage ps cs)
-fold-verdict ps cs = number-case (refusalImage ps cs) (λ e. ap (λ (f : Folding). f .verdict) (fold-zero ps cs e) ∙ ap verdictBy (sym e))
+fold-verdict ps cs = number-case (refusalImage ps cs) (λ e. ap (λ (f : Folding). f .verdict) (fold-zero ps cs e)
+    ∙ ap verdictBy (sym e))
     (λ n e. ap (λ (f : Folding). f .verdict) (fold-suc ps cs n e) ∙ ap verdictBy (sym e))
 
 -- it is refused by the checks of an image, in their order
@@ -81,14 +88,16 @@ fold-refused ps cs x z = number-case (refusalImage ps cs)
 -- a shape can be written, and has at most twelve counters
 module _ (h : Heap) (x : IsHeap h) (six : length (h .ptrs) ≡ 6) where
   pub fold-writable : Writable (shape h)
-  fold-writable = canon-writable (shape h) (fold-canon h (heap-closed h x) (heap-kept h x)) (length-map (h .ptrs) (nodeVal (segments h)) ∙ six)
+  fold-writable = canon-writable (shape h) (fold-canon h (heap-closed h x) (heap-kept h x))
+      (length-map (h .ptrs) (nodeVal (segments h)) ∙ six)
 
   pub counters-few : length (counters h) ≤ 12
   counters-few = omega (arith, count-length h (heap-closed h x) (heap-kept h x), fold-writable .few)
 
 -- what an accepted fold gives: the record is read back as the shape, and its counters stand first
 pub fold-gives : (ps cs : List ℕ) → foldImage ps cs .verdict ≡ isAccepted
-    → (foldImage ps cs .recordBytes ≡ shapeRecord (shape (heapOf ps cs))) × (foldImage ps cs .counts ≡ filled 12 (counters (heapOf ps cs)))
+    → (foldImage ps cs .recordBytes ≡ shapeRecord (shape (heapOf ps cs)))
+    × (foldImage ps cs .counts ≡ filled 12 (counters (heapOf ps cs)))
     × (shapeOf (foldImage ps cs .recordBytes) ≡ shape (heapOf ps cs)) × (length (counters (heapOf ps cs)) ≤ 12)
 fold-gives ps cs z =
     let e = fold-accepted ps cs z in
@@ -102,15 +111,22 @@ fold-gives ps cs z =
       counters-few h (A .2) six,
     )
 
-pub fold-lengths : (ps cs : List ℕ) → (length (foldImage ps cs .recordBytes) ≡ 32) × (length (foldImage ps cs .counts) ≡ 12)
+pub fold-lengths : (ps cs : List ℕ) → (length (foldImage ps cs .recordBytes) ≡ 32)
+    × (length (foldImage ps cs .counts) ≡ 12)
 fold-lengths ps cs = number-case (refusalImage ps cs)
     (λ e. let A = image-accepted ps cs .0 e in
     let h = heapOf ps cs in
     let six : length (h .ptrs) ≡ 6 = length-map ps valOf ∙ A .0 in (
-      ap (λ (f : Folding). length (f .recordBytes)) (fold-zero ps cs e) ∙ shape-length (shape h) (fold-writable h (A .2) six),
-      ap (λ (f : Folding). length (f .counts)) (fold-zero ps cs e) ∙ filled-length 12 (counters h) (counters-few h (A .2) six),
+      ap (λ (f : Folding). length (f .recordBytes)) (fold-zero ps cs e)
+          ∙ shape-length (shape h) (fold-writable h (A .2) six),
+      ap (λ (f : Folding). length (f .counts)) (fold-zero ps cs e)
+          ∙ filled-length 12 (counters h) (counters-few h (A .2) six),
     ))
-    (λ n e. (ap (λ (f : Folding). length (f .recordBytes)) (fold-suc ps cs n e), ap (λ (f : Folding). length (f .counts)) (fold-suc ps cs n e)))
+    (λ n e. (
+      ap (λ (f : Folding). length (f .recordBytes)) (fold-suc ps cs n e),
+      ap
+          (λ (f : Folding). length (f .counts)) (fold-suc ps cs n e),
+    ))
 
 -- ---- unfolding
 
@@ -128,28 +144,35 @@ pub unfold-suc : (r vs ps cs : List ℕ) (n : ℕ) → refusalUnfold r vs (lengt
 unfolding unfoldImage
 unfold-suc r vs ps cs n e = rw (e, unfoldImage)
 
-pub unfold-verdict : (r vs ps cs : List ℕ) → unfoldImage r vs ps cs .verdict ≡ verdictBy (refusalUnfold r vs (length ps) (length cs))
+pub unfold-verdict : (r vs ps cs : List ℕ) → unfoldImage r vs ps cs .verdict
+    ≡ verdictBy (refusalUnfold r vs (length ps) (length cs))
 unfold-verdict r vs ps cs = number-case (refusalUnfold r vs (length ps) (length cs))
     (λ e. ap (λ (f : Unfolding). f .verdict) (unfold-zero r vs ps cs e) ∙ ap verdictBy (sym e))
     (λ n e. ap (λ (f : Unfolding). f .verdict) (unfold-suc r vs ps cs n e) ∙ ap verdictBy (sym e))
 
 -- it is refused by its checks, in their order
-pub unfold-checked : (r vs ps cs : List ℕ) → CheckedBy (checksUnfold r vs (length ps) (length cs)) (unfoldImage r vs ps cs .verdict)
+pub unfold-checked : (r vs ps cs : List ℕ) → CheckedBy (checksUnfold r vs (length ps) (length cs))
+    (unfoldImage r vs ps cs .verdict)
 unfold-checked r vs ps cs =
-    checked-by (checksUnfold r vs (length ps) (length cs)) (unfoldImage r vs ps cs .verdict) refl (unfold-verdict r vs ps cs)
+    checked-by (checksUnfold r vs (length ps) (length cs)) (unfoldImage r vs ps cs .verdict) refl
+    (unfold-verdict r vs ps cs)
 
-pub unfold-granted : (r vs ps cs : List ℕ) → unfoldImage r vs ps cs .verdict ≡ isAccepted → refusalUnfold r vs (length ps) (length cs) ≡ 0
-unfold-granted r vs ps cs z = accepted-zero (refusalUnfold r vs (length ps) (length cs)) (sym (unfold-verdict r vs ps cs) ∙ z)
+pub unfold-granted : (r vs ps cs : List ℕ) → unfoldImage r vs ps cs .verdict ≡ isAccepted
+    → refusalUnfold r vs (length ps) (length cs) ≡ 0
+unfold-granted r vs ps cs z = accepted-zero (refusalUnfold r vs (length ps) (length cs))
+    (sym (unfold-verdict r vs ps cs) ∙ z)
 
 pub unfold-refused : (r vs ps cs : List ℕ) (x : Refusal) → unfoldImage r vs ps cs .verdict ≡ isRefused x
     → (unfoldImage r vs ps cs .ptrBytes ≡ ps) × (unfoldImage r vs ps cs .cellBytes ≡ cs)
 unfold-refused r vs ps cs x z = number-case (refusalUnfold r vs (length ps) (length cs))
     (λ e. not-both (unfoldImage r vs ps cs .verdict) x (unfold-verdict r vs ps cs ∙ ap verdictBy e) z)
-    (λ n e. let q = unfold-suc r vs ps cs n e in (ap (λ (f : Unfolding). f .ptrBytes) q, ap (λ (f : Unfolding). f .cellBytes) q))
+    (λ n e. let q = unfold-suc r vs ps cs n e in
+    (ap (λ (f : Unfolding). f .ptrBytes) q, ap (λ (f : Unfolding). f .cellBytes) q))
 
 -- when an unfolding is accepted: 13 for the lengths, then 8, 9 and 15
 pub unfold-accepted : (r vs : List ℕ) (np nc : ℕ) → (refusalUnfold r vs np nc ≡ 0)
-    ↔ ((np ≡ 6) × (nc ≤ 240) × (length r ≡ 32) × (layoutH r ≡ true) × (canonical (shapeOf r) ≡ true) × (countersFit (byte r 3) vs nc ≡ true))
+    ↔ ((np ≡ 6) × (nc ≤ 240) × (length r ≡ 32) × (layoutH r ≡ true) × (canonical (shapeOf r) ≡ true)
+    × (countersFit (byte r 3) vs nc ≡ true))
 unfold-accepted r vs np nc = (
   (λ z. let p = none-failed (checksUnfold r vs np nc) refl z in (
     eqb-true np 6 (and-l (eqb np 6) (leb nc 240) (p .0)),
@@ -190,7 +213,8 @@ strands-short vs b (s ∷ ss) (c ∷ cs) = omega (
 )
 
 -- the pointers and the cells keep their lengths
-pub unfold-lengths : (r vs ps cs : List ℕ) → (length (unfoldImage r vs ps cs .ptrBytes) ≡ length ps) × (length (unfoldImage r vs ps cs .cellBytes) ≡ length cs)
+pub unfold-lengths : (r vs ps cs : List ℕ) → (length (unfoldImage r vs ps cs .ptrBytes) ≡ length ps)
+    × (length (unfoldImage r vs ps cs .cellBytes) ≡ length cs)
 unfold-lengths r vs ps cs = number-case (refusalUnfold r vs (length ps) (length cs))
     (λ e.
     let A = unfold-accepted r vs (length ps) (length cs) .0 e in
@@ -199,9 +223,16 @@ unfold-lengths r vs ps cs = number-case (refusalUnfold r vs (length ps) (length 
     let q = unfold-zero r vs ps cs e in
     let room : sum (λ v. v) vs ≤ length cs = counters-fit k vs (length cs) (A .5) .3 in
     let few : length (map slotByte (g .slots)) ≤ length cs =
-    omega (arith, length-map (g .slots) slotByte, strands-short (take k vs) 0 (shapeOf r .slots) (take k vs), sum-take k vs) in
+    omega (
+      arith,
+      length-map (g .slots) slotByte,
+      strands-short (take k vs) 0 (shapeOf r .slots) (take k vs),
+      sum-take
+          k vs,
+    ) in
     let ptrs6 : length (map valByte (g .ptrs)) ≡ 6 =
-    length-map (g .ptrs) valByte ∙ length-map (shapeOf r .ptrs) (spread (take k vs)) ∙ layout-pointers r (A .2) (A .3) in (
+    length-map (g .ptrs) valByte ∙ length-map (shapeOf r .ptrs) (spread (take k vs))
+    ∙ layout-pointers r (A .2) (A .3) in (
       ap (λ (f : Unfolding). length (f .ptrBytes)) q ∙ ptrs6 ∙ sym (A .0),
       ap (λ (f : Unfolding). length (f .cellBytes)) q ∙ omega (
         arith,
@@ -209,4 +240,5 @@ unfold-lengths r vs ps cs = number-case (refusalUnfold r vs (length ps) (length 
         length-replicate {A = ℕ} (length cs - length (map slotByte (g .slots))) 0xfd,
       ),
     ))
-    (λ n e. let q = unfold-suc r vs ps cs n e in (ap (λ (f : Unfolding). length (f .ptrBytes)) q, ap (λ (f : Unfolding). length (f .cellBytes)) q))
+    (λ n e. let q = unfold-suc r vs ps cs n e in
+    (ap (λ (f : Unfolding). length (f .ptrBytes)) q, ap (λ (f : Unfolding). length (f .cellBytes)) q))

@@ -24,7 +24,8 @@ pub verdict-one : (a b : Ended) → verdictOf a ≡ verdictOf b → a ≡ b
 verdict-one ended.Accepted ended.Accepted e = refl
 verdict-one ended.Accepted (ended.Refused n p) e = never (cc)
 verdict-one (ended.Refused n p) ended.Accepted e = never (cc)
-verdict-one (ended.Refused n p) (ended.Refused m q) e = let x = refused-inj e in λ i. ended.Refused (x i .number) (x i .place)
+verdict-one (ended.Refused n p) (ended.Refused m q) e = let x = refused-inj e in
+    λ i. ended.Refused (x i .number) (x i .place)
 
 pub step-one : (a b : Stepped) → stepAnswerOf a ≡ stepAnswerOf b → a ≡ b
 step-one (stepped.Went b n) (stepped.Went c m) e =
@@ -50,9 +51,12 @@ step-one (stepped.Refused n p) (stepped.Refused m q) e =
     λ i. stepped.Refused (x i .number) (x i .place)
 
 pub outcome-one : (a b : Translated) (ls es : List ℕ) → outcomeOf a ls es ≡ outcomeOf b ls es → a ≡ b
-outcome-one (translated.Listed l e) (translated.Listed m f) ls es q = λ i. translated.Listed (q i .tables .locCount) (q i .tables .edgeCount)
-outcome-one (translated.Listed l e) (translated.Refused n p) ls es q = not-both isAccepted (refusal n p) refl (ap (λ (o : Outcome). o .verdict) q)
-outcome-one (translated.Refused n p) (translated.Listed l e) ls es q = not-both isAccepted (refusal n p) refl (sym (ap (λ (o : Outcome). o .verdict) q))
+outcome-one (translated.Listed l e) (translated.Listed m f) ls es q =
+    λ i. translated.Listed (q i .tables .locCount) (q i .tables .edgeCount)
+outcome-one (translated.Listed l e) (translated.Refused n p) ls es q =
+    not-both isAccepted (refusal n p) refl (ap (λ (o : Outcome). o .verdict) q)
+outcome-one (translated.Refused n p) (translated.Listed l e) ls es q =
+    not-both isAccepted (refusal n p) refl (sym (ap (λ (o : Outcome). o .verdict) q))
 outcome-one (translated.Refused n p) (translated.Refused m r) ls es q =
     let x : refusal n p ≡ refusal m r = refused-inj (ap (λ (o : Outcome). o .verdict) q) in
     λ i. translated.Refused (x i .number) (x i .place)

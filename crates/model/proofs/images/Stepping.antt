@@ -1,4 +1,5 @@
--- What a plain step on a heap image leaves, for all inputs: its refusals; that a refusal, a fault and a stop leave the heap; that lengths are kept.
+-- What a plain step on a heap image leaves, for all inputs: its refusals; that a refusal, a fault and a stop leave the
+-- heap; that lengths are kept.
 use Prim.Native.Nat.{suc, ℕ, _≤_}
 use mathlib.Core.Path.{_∙_, _≡_, ap, refl, subst, sym}
 use mathlib.Core.Logic.{_⊎_, inl, inr}
@@ -21,12 +22,15 @@ use Rattle.model.proofs.expansion.Kinds.{PtrsAre, SlotsAre, effect-leav
 -- how a step can end: refused by its checks, or answered by the machine, which then takes the entry
 abbrev pub StepCases : List ℕ → ℕ → ℕ → List ℕ → List ℕ → Type 0
 StepCases r p c ps cs =
-    ((n : ℕ) × (firstFailed (checksStep r (entry p c) ps cs) ≡ suc n) × (stepImage r p c ps cs ≡ stays (noStep (refusal (suc n) 0)) ps cs))
-    ⊎ ((firstFailed (checksStep r (entry p c) ps cs) ≡ 0) × (stepImage r p c ps cs ≡ answered (step (stmtOf r) (entry p c) (heapOf ps cs)) ps cs))
+    ((n : ℕ) × (firstFailed (checksStep r (entry p c) ps cs) ≡ suc n)
+    × (stepImage r p c ps cs ≡ stays (noStep (refusal (suc n) 0)) ps cs))
+    ⊎ ((firstFailed (checksStep r (entry p c) ps cs) ≡ 0)
+    × (stepImage r p c ps cs ≡ answered (step (stmtOf r) (entry p c) (heapOf ps cs)) ps cs))
 
 pub step-cases : (r : List ℕ) (p c : ℕ) (ps cs : List ℕ) → StepCases r p c ps cs
 unfolding stepImage
-step-cases r p c ps cs = number-case (firstFailed (checksStep r (entry p c) ps cs)) (λ e. inr (e, rw (e, stepImage))) (λ n e. inl (n, e, rw (e, stepImage)))
+step-cases r p c ps cs = number-case (firstFailed (checksStep r (entry p c) ps cs)) (λ e. inr (e, rw (e, stepImage)))
+    (λ n e. inl (n, e, rw (e, stepImage)))
 
 -- an entry that fits: at new, its cell is one of the image, and the machine takes it
 pub step-fits : (r : List ℕ) (e : Entry) (ps cs : List ℕ) → firstFailed (checksStep r e ps cs) ≡ 0
@@ -39,7 +43,8 @@ step-fits r e ps cs z =
     let d = pastEnd (action k) (e .cellNo) (length (h .slots)) in
     let q = none-failed (checksStep r e ps cs) refl z in
     let w = pass-after xs (unless 16 (entryFits k e h) ∷ []) q .0 in
-    let p = pass-before (checksImage ps cs) (unless 4 (eqb (length r) 32 && isS r) ∷ checksS 64 r) (pass-before xs (unless 16 (entryFits k e h) ∷ []) q) in
+    let p = pass-before (checksImage ps cs) (unless 4 (eqb (length r) 32 && isS r) ∷ checksS 64 r)
+    (pass-before xs (unless 16 (entryFits k e h) ∷ []) q) in
     (pass-none (checksImage ps cs) p, not-true d (and-l (not d) (accepts k e h) w), and-r (not d) (accepts k e h) w)
 
 -- ---- the refusals
@@ -49,7 +54,8 @@ answered-verdict : (st : Stmt) (e : Entry) (ps cs : List ℕ) → accepts (st .o
     → stepVerdict (answered (step st e (heapOf ps cs)) ps cs .answer) ≡ isAccepted
 answered-verdict st e ps cs a =
     bool-case (isStop (kind (st .op))) (λ z. rw (a, z))
-    (λ z. rw (a, z) (by-effect (branch (st .op) (e .pick) (heapOf ps cs)) (carryOut (st .op) (e .cellNo) (heapOf ps cs))))
+    (λ z. rw (a, z) (by-effect (branch (st .op) (e .pick) (heapOf ps cs))
+    (carryOut (st .op) (e .cellNo) (heapOf ps cs))))
   where
     by-effect : (b : ℕ) (x : Effect) → stepVerdict (answered (answerOf st b x) ps cs .answer) ≡ isAccepted
     by-effect b (fault f) = refl
@@ -59,7 +65,8 @@ step-verdict : (r : List ℕ) (p c : ℕ) (ps cs : List ℕ)
     → stepVerdict (stepImage r p c ps cs .answer) ≡ verdictBy (firstFailed (checksStep r (entry p c) ps cs))
 step-verdict r p c ps cs = by-case (step-cases r p c ps cs)
   where
-    by-case : StepCases r p c ps cs → stepVerdict (stepImage r p c ps cs .answer) ≡ verdictBy (firstFailed (checksStep r (entry p c) ps cs))
+    by-case : StepCases r p c ps cs → stepVerdict (stepImage r p c ps cs .answer)
+        ≡ verdictBy (firstFailed (checksStep r (entry p c) ps cs))
     by-case (inl (n, e, q)) = ap (λ (s : Stepping). stepVerdict (s .answer)) q ∙ ap verdictBy (sym e)
     by-case (inr (e, q)) = ap (λ (s : Stepping). stepVerdict (s .answer)) q
         ∙ answered-verdict (stmtOf r) (entry p c) ps cs (step-fits r (entry p c) ps cs e .2) ∙ ap verdictBy (sym e)
@@ -68,7 +75,8 @@ step-verdict r p c ps cs = by-case (step-cases r p c ps cs)
 pub step-checked : (r : List ℕ) (p c : ℕ) (ps cs : List ℕ)
     → CheckedBy (checksStep r (entry p c) ps cs) (stepVerdict (stepImage r p c ps cs .answer))
 step-checked r p c ps cs =
-    checked-by (checksStep r (entry p c) ps cs) (stepVerdict (stepImage r p c ps cs .answer)) refl (step-verdict r p c ps cs)
+    checked-by (checksStep r (entry p c) ps cs) (stepVerdict (stepImage r p c ps cs .answer)) refl
+    (step-verdict r p c ps cs)
 
 -- ---- what a step answers
 
@@ -77,8 +85,10 @@ pub step-answers : (r : List ℕ) (p c : ℕ) (ps cs : List ℕ) → stepVerdict
     → stepImage r p c ps cs ≡ answered (step (stmtOf r) (entry p c) (heapOf ps cs)) ps cs
 step-answers r p c ps cs z = by-case (step-cases r p c ps cs)
   where
-    by-case : StepCases r p c ps cs → stepImage r p c ps cs ≡ answered (step (stmtOf r) (entry p c) (heapOf ps cs)) ps cs
-    by-case (inl (n, e, q)) = not-both (stepVerdict (stepImage r p c ps cs .answer)) (refusal (suc n) 0) z (ap (λ (s : Stepping). stepVerdict (s .answer)) q)
+    by-case : StepCases r p c ps cs → stepImage r p c ps cs ≡ answered (step (stmtOf r) (entry p c) (heapOf ps cs)) ps
+        cs
+    by-case (inl (n, e, q)) = not-both (stepVerdict (stepImage r p c ps cs .answer)) (refusal (suc n) 0) z
+        (ap (λ (s : Stepping). stepVerdict (s .answer)) q)
     by-case (inr (e, q)) = q
 
 abbrev KnownFault : StepAnswer → Type 0
@@ -99,12 +109,14 @@ answered-known (faulted f) ps cs = number-known f
 answered-known (went b t h) ps cs = tt
 
 -- a fault is 1, 2 or 3
-pub step-faults : (r : List ℕ) (p c : ℕ) (ps cs : List ℕ) (f : ℕ) → stepImage r p c ps cs .answer ≡ toFault f → (1 ≤ f) × (f ≤ 3)
+pub step-faults : (r : List ℕ) (p c : ℕ) (ps cs : List ℕ) (f : ℕ) → stepImage r p c ps cs .answer ≡ toFault f
+    → (1 ≤ f) × (f ≤ 3)
 step-faults r p c ps cs f e = subst KnownFault e (by-case (step-cases r p c ps cs))
   where
     by-case : StepCases r p c ps cs → KnownFault (stepImage r p c ps cs .answer)
     by-case (inl (n, z, q)) = subst (λ (s : Stepping). KnownFault (s .answer)) (sym q) tt
-    by-case (inr (z, q)) = subst (λ (s : Stepping). KnownFault (s .answer)) (sym q) (answered-known (step (stmtOf r) (entry p c) (heapOf ps cs)) ps cs)
+    by-case (inr (z, q)) = subst (λ (s : Stepping). KnownFault (s .answer)) (sym q)
+        (answered-known (step (stmtOf r) (entry p c) (heapOf ps cs)) ps cs)
 
 -- ---- what stays
 
@@ -117,13 +129,15 @@ answered-stays stopped ps cs h = (refl, refl)
 answered-stays (faulted f) ps cs h = (refl, refl)
 answered-stays (went b t k) ps cs h = absurd h
 
-pub step-stays : (r : List ℕ) (p c : ℕ) (ps cs : List ℕ) → Halted (stepImage r p c ps cs .answer) → Stays ps cs (stepImage r p c ps cs)
+pub step-stays : (r : List ℕ) (p c : ℕ) (ps cs : List ℕ) → Halted (stepImage r p c ps cs .answer)
+    → Stays ps cs (stepImage r p c ps cs)
 step-stays r p c ps cs h = by-case (step-cases r p c ps cs)
   where
     by-case : StepCases r p c ps cs → Stays ps cs (stepImage r p c ps cs)
     by-case (inl (n, e, q)) = subst (Stays ps cs) (sym q) (refl, refl)
     by-case (inr (e, q)) = subst (Stays ps cs) (sym q)
-        (answered-stays (step (stmtOf r) (entry p c) (heapOf ps cs)) ps cs (subst (λ (s : Stepping). Halted (s .answer)) q h))
+        (answered-stays (step (stmtOf r) (entry p c) (heapOf ps cs)) ps cs
+        (subst (λ (s : Stepping). Halted (s .answer)) q h))
 
 -- ---- lengths
 
@@ -139,7 +153,8 @@ answer-lengths st e ps cs cl q =
     (λ a. bool-case (isStop (kind (st .op))) (λ z. rw (a, z) (refl, refl)) (λ z. rw (a, z) by-run))
     (λ a. rw a (refl, refl))
   where
-    by-effect : (b : ℕ) (x : Effect) → PtrsAre (length (heapOf ps cs .ptrs)) x → SlotsAre (length (heapOf ps cs .slots)) x
+    by-effect : (b : ℕ) (x : Effect) → PtrsAre (length (heapOf ps cs .ptrs)) x
+        → SlotsAre (length (heapOf ps cs .slots)) x
         → SameLengths ps cs (answered (answerOf st b x) ps cs)
     by-effect b (fault f) u v = (refl, refl)
     by-effect b (done h) u v = (
@@ -148,14 +163,16 @@ answer-lengths st e ps cs cl q =
     )
 
     by-run : SameLengths ps cs
-        (answered (answerOf st (branch (st .op) (e .pick) (heapOf ps cs)) (carryOut (st .op) (e .cellNo) (heapOf ps cs))) ps cs)
+        (answered (answerOf st (branch (st .op) (e .pick) (heapOf ps cs))
+        (carryOut (st .op) (e .cellNo) (heapOf ps cs))) ps cs)
     by-run =
         let h = heapOf ps cs in
         let a = action (st .op) in
         let n = e .cellNo in
         let x = perform a n h in
         let L = effect-leaves a n h cl in
-        by-effect (branch (st .op) (e .pick) h) (keep x) (keep-any (PtrsAre (length (h .ptrs))) (λ f. tt) x (leaves-ptrs a n h x L))
+        by-effect (branch (st .op) (e .pick) h) (keep x) (keep-any (PtrsAre (length (h .ptrs))) (λ f. tt) x
+        (leaves-ptrs a n h x L))
         (keep-any (SlotsAre (length (h .slots))) (λ f. tt) x (leaves-slots a n h q x L))
 
 pub step-lengths : (r : List ℕ) (p c : ℕ) (ps cs : List ℕ) → SameLengths ps cs (stepImage r p c ps cs)
@@ -166,4 +183,5 @@ step-lengths r p c ps cs = by-case (step-cases r p c ps cs)
     by-case (inr (e, q)) =
         let w = step-fits r (entry p c) ps cs e in
         subst (SameLengths ps cs) (sym q)
-        (answer-lengths (stmtOf r) (entry p c) ps cs (heap-closed (heapOf ps cs) (image-accepted ps cs .0 (w .0) .2)) (w .1))
+        (answer-lengths (stmtOf r) (entry p c) ps cs (heap-closed (heapOf ps cs) (image-accepted ps cs .0 (w .0) .2))
+        (w .1))

@@ -1,5 +1,5 @@
--- What a listing holds: the starting shapes first, every reachable location once and no other, every edge of each location in order, and
--- each new target takes the next number.
+-- What a listing holds: the starting shapes first, every reachable location once and no other, every edge of each
+-- location in order, and each new target takes the next number.
 use Prim.Native.Nat.{_<_, _≤_, suc, zero, ℕ}
 use mathlib.Core.Path.{_∙_, _≡_, ap, refl, subst, sym}
 use mathlib.Core.Logic.{inl, inr, ⊎-elim}
@@ -24,7 +24,8 @@ use Rattle.model.proofs.shapes.Same.{Prefix, prefix-getD, prefix-in, pr
 
 -- ---- lists
 
-joined-numbers : {A : Type 0} (f : ℕ → List A) (n : ℕ) → joined (map f (numbers 0 (suc n))) ≡ joined (map f (numbers 0 n)) ++ f n
+joined-numbers : {A : Type 0} (f : ℕ → List A) (n : ℕ) → joined (map f (numbers 0 (suc n)))
+    ≡ joined (map f (numbers 0 n)) ++ f n
 joined-numbers f n =
     ap (λ z. joined (map f z)) (numbers-snoc 0 n ∙ ap (λ z. numbers 0 n ++ z ∷ []) (omega arith))
     ∙ ap joined (map-append f (numbers 0 n) (n ∷ [])) ∙ joined-snoc (map f (numbers 0 n)) (f n)
@@ -37,8 +38,10 @@ edge-number : (i : ℕ) (t : Listing) (e : Edge) (ls : List Loc) → Prefix (add
 edge-number i t e ls q =
     let a = add-place (t .locs) (e .to) in
     let b = edge-locs i t e in
-    let c : placeOf (sameLoc (e .to)) (addEdge i t e .locs) ≡ placeOf (sameLoc (e .to)) (t .locs) = ap (placeOf (sameLoc (e .to))) b ∙ a in
-    let d : placeOf (sameLoc (e .to)) (addEdge i t e .locs) < length (addEdge i t e .locs) = rw (c, b) (add-found (t .locs) (e .to)) in
+    let c : placeOf (sameLoc (e .to)) (addEdge i t e .locs) ≡ placeOf (sameLoc (e .to)) (t .locs) =
+    ap (placeOf (sameLoc (e .to))) b ∙ a in
+    let d : placeOf (sameLoc (e .to)) (addEdge i t e .locs) < length (addEdge i t e .locs) =
+    rw (c, b) (add-found (t .locs) (e .to)) in
     sym c ∙ sym (prefix-place (sameLoc (e .to)) (addEdge i t e .locs) ls q d)
 
 extend-linked : (i : ℕ) (es : List Edge) (t : Listing) (ls : List Loc) → Prefix (extend i es t .locs) ls
@@ -46,9 +49,11 @@ extend-linked : (i : ℕ) (es : List Edge) (t : Listing) (ls : List Loc) → Pre
 extend-linked i [] t ls q = sym (append-nil (t .links))
 extend-linked i (e ∷ es) t ls q =
     extend-linked i es (addEdge i t e) ls q
-    ∙ append-assoc (t .links) (record { from = i; dest = placeOf (sameLoc (e .to)) (t .locs); edge = e } ∷ []) (map (linkOf i ls) es)
+    ∙ append-assoc (t .links) (record { from = i; dest = placeOf (sameLoc (e .to)) (t .locs); edge = e } ∷ [])
+    (map (linkOf i ls) es)
     ∙ ap (λ j. t .links ++ record { from = i; dest = j; edge = e } ∷ map (linkOf i ls) es)
-    (edge-number i t e ls (prefix-trans (addEdge i t e .locs) (extend i (e ∷ es) t .locs) ls (extend-prefix i es (addEdge i t e)) q))
+    (edge-number i t e ls (prefix-trans (addEdge i t e .locs) (extend i (e ∷ es) t .locs) ls
+    (extend-prefix i es (addEdge i t e)) q))
 
 -- ---- the order of the locations
 
@@ -61,14 +66,18 @@ adds-distinct ls [] k h = sym (append-nil ls)
 adds-distinct ls (m ∷ ms) k h =
     let e = not-true (any (sameLoc m) ls) (λ q. h m (inl refl) (any-loc ls m q)) in
     rw e (adds-distinct (ls ++ m ∷ []) ms (k .1)
-    (λ l a b. in-append-cases l ls (m ∷ []) b (h l (inr a)) (λ w. ⊎-elim (λ (q : l ≡ m). k .0 (subst (λ z. In z ms) q a)) (λ (z : ⊥). z) w))
+    (λ l a b. in-append-cases l ls (m ∷ []) b (h l (inr a))
+    (λ w. ⊎-elim (λ (q : l ≡ m). k .0 (subst (λ z. In z ms) q a)) (λ (z : ⊥). z) w))
     ∙ append-assoc ls (m ∷ []) ms)
 
-extend-order : (i : ℕ) (es : List Edge) (t : Listing) → extend i es t .locs ≡ addLocs (t .locs) (map (λ (e : Edge). e .to) es)
+extend-order : (i : ℕ) (es : List Edge) (t : Listing) → extend i es t .locs
+    ≡ addLocs (t .locs) (map (λ (e : Edge). e .to) es)
 extend-order i [] t = refl
-extend-order i (e ∷ es) t = extend-order i es (addEdge i t e) ∙ ap (λ z. addLocs z (map (λ (d : Edge). d .to) es)) (edge-locs i t e)
+extend-order i (e ∷ es) t = extend-order i es (addEdge i t e) ∙ ap (λ z. addLocs z (map (λ (d : Edge). d .to) es))
+    (edge-locs i t e)
 
-extend-targets : (i : ℕ) (es : List Edge) (t : Listing) → map linkTarget (extend i es t .links) ≡ map linkTarget (t .links) ++ map (λ (e : Edge). e .to) es
+extend-targets : (i : ℕ) (es : List Edge) (t : Listing) → map linkTarget (extend i es t .links)
+    ≡ map linkTarget (t .links) ++ map (λ (e : Edge). e .to) es
 extend-targets i [] t = sym (append-nil (map linkTarget (t .links)))
 extend-targets i (e ∷ es) t = extend-targets i es (addEdge i t e)
     ∙ ap (λ z. z ++ map (λ (d : Edge). d .to) es)
@@ -80,7 +89,8 @@ extend-targets i (e ∷ es) t = extend-targets i es (addEdge i t e)
 -- only a location of the list has edges
 pub edge-below : (sts : List Stmt) (ls : List Loc) (i : ℕ) (e : Edge) → In e (edgesOf sts (locAt ls i)) → i < length ls
 edge-below sts ls i e h = bool-case (ltb i (length ls)) (λ q. ltb-true i (length ls) q)
-    (λ q. absurd (subst (λ l. In e (edgesOf sts l)) (List·getD-eq-default ls (failed 0 leak) (ltb-false i (length ls) q)) h))
+    (λ q. absurd (subst (λ l. In e (edgesOf sts l))
+    (List·getD-eq-default ls (failed 0 leak) (ltb-false i (length ls) q)) h))
 
 starts-distinct : (hs : List Heap) → Distinct hs → Distinct (map (at 0) hs)
 starts-distinct [] k = tt
@@ -103,9 +113,11 @@ module _ (sts : List Stmt) (hs : List Heap) where
 
   explored-distinct : Distinct hs → (i : ℕ) → Distinct (explored sts hs i .locs)
   explored-distinct k zero = starts-distinct hs k
-  explored-distinct k (suc i) = extend-distinct i (edgesOf sts (locAt (explored sts hs i .locs) i)) (explored sts hs i) (explored-distinct k i)
+  explored-distinct k (suc i) = extend-distinct i (edgesOf sts (locAt (explored sts hs i .locs) i))
+      (explored sts hs i) (explored-distinct k i)
 
-  explored-order : (i : ℕ) → explored sts hs i .locs ≡ addLocs (map (at 0) hs) (map linkTarget (explored sts hs i .links))
+  explored-order : (i : ℕ) → explored sts hs i .locs
+      ≡ addLocs (map (at 0) hs) (map linkTarget (explored sts hs i .links))
   explored-order zero = refl
   explored-order (suc i) =
       let t = explored sts hs i in
@@ -118,10 +130,12 @@ module _ (sts : List Stmt) (hs : List Heap) where
   loc-later i n h =
       let ls = explored sts hs i .locs in
       bool-case (ltb i (length ls))
-      (λ q. prefix-getD ls (explored sts hs n .locs) (failed 0 leak) i (explored-prefix sts hs i n h) (ltb-true i (length ls) q))
+      (λ q. prefix-getD ls (explored sts hs n .locs) (failed 0 leak) i (explored-prefix sts hs i n h)
+      (ltb-true i (length ls) q))
       (λ q. ap (λ (t : Listing). locAt (t .locs) i) (explored-end sts hs i n (ltb-false i (length ls) q) h))
 
-  explored-linked : (n i : ℕ) → i ≤ n → explored sts hs i .links ≡ joined (map (linksFrom sts (explored sts hs n .locs)) (numbers 0 i))
+  explored-linked : (n i : ℕ) → i ≤ n → explored sts hs i .links
+      ≡ joined (map (linksFrom sts (explored sts hs n .locs)) (numbers 0 i))
   explored-linked n zero h = refl
   explored-linked n (suc i) h =
       let t = explored sts hs i in
@@ -131,15 +145,19 @@ module _ (sts : List Stmt) (hs : List Heap) where
       ∙ ap (λ z. z ++ linksFrom sts ls i) (explored-linked n i (omega arith))
       ∙ sym (joined-numbers (linksFrom sts ls) i)
 
-  explored-complete : (n : ℕ) → n ≡ length (explored sts hs n .locs) → (l : Loc) → Reached sts hs l → In l (explored sts hs n .locs)
+  explored-complete : (n : ℕ) → n ≡ length (explored sts hs n .locs) → (l : Loc) → Reached sts hs l
+      → In l (explored sts hs n .locs)
   explored-complete n c l (from-start {h = h} k) =
-      prefix-in (map (at 0) hs) (explored sts hs n .locs) (at 0 h) (explored-prefix sts hs 0 n (omega arith)) (map-in (at 0) h hs k)
+      prefix-in (map (at 0) hs) (explored sts hs n .locs) (at 0 h) (explored-prefix sts hs 0 n (omega arith))
+      (map-in (at 0) h hs k)
   explored-complete n c l (by-edge {l = m} e r k) =
       let q = in-getD (explored sts hs n .locs) (failed 0 leak) m (explored-complete n c m r) in
       let i = q .0 in
       let z : m ≡ locAt (explored sts hs i .locs) i = sym (q .2) ∙ loc-later i n (omega arith) in
-      prefix-in (explored sts hs (suc i) .locs) (explored sts hs n .locs) (e .to) (explored-prefix sts hs (suc i) n (omega arith))
-      (extend-has i (edgesOf sts (locAt (explored sts hs i .locs) i)) (explored sts hs i) e (subst (λ x. In e (edgesOf sts x)) z k))
+      prefix-in (explored sts hs (suc i) .locs) (explored sts hs n .locs) (e .to)
+      (explored-prefix sts hs (suc i) n (omega arith))
+      (extend-has i (edgesOf sts (locAt (explored sts hs i .locs) i)) (explored sts hs i) e
+      (subst (λ x. In e (edgesOf sts x)) z k))
 
 explored-exact : (r : Routine) (n : ℕ) → Distinct (r .starts) → n ≡ length (explored (r .stmts) (r .starts) n .locs)
     → Exact r (explored (r .stmts) (r .starts) n)
@@ -152,15 +170,18 @@ explored-exact r n k e =
       distinct = explored-distinct sts hs k n;
       sound = explored-sound sts hs n;
       complete = explored-complete sts hs n e;
-      links = explored-linked sts hs n n (omega arith) ∙ ap (λ z. joined (map (linksFrom sts (explored sts hs n .locs)) (numbers 0 z))) e;
+      links = explored-linked sts hs n n (omega arith)
+          ∙ ap (λ z. joined (map (linksFrom sts (explored sts hs n .locs)) (numbers 0 z))) e;
       order =
           explored-order sts hs n
-          ∙ ap (λ z. addLocs z (map linkTarget (explored sts hs n .links))) (sym (adds-distinct [] (map (at 0) hs) (starts-distinct hs k) (λ l a b. b)))
+          ∙ ap (λ z. addLocs z (map linkTarget (explored sts hs n .links)))
+          (sym (adds-distinct [] (map (at 0) hs) (starts-distinct hs k) (λ l a b. b)))
           ∙ sym (adds-append [] (map (at 0) hs) (map linkTarget (explored sts hs n .links)));
     }
 
 -- A listing holds exactly the reachable locations and all their edges, in the order of the exploration.
-pub listing-exact : (r : Routine) (cl ce : ℕ) (t : Listing) → Distinct (r .starts) → listing r cl ce ≡ listed t → Exact r t
+pub listing-exact : (r : Routine) (cl ce : ℕ) (t : Listing) → Distinct (r .starts) → listing r cl ce ≡ listed t
+    → Exact r t
 listing-exact r cl ce t k p =
     let w = listing-whole r cl ce t p in
     subst (Exact r) (sym (w .0)) (explored-exact r (length (t .locs)) k (ap (λ (u : Listing). length (u .locs)) (w .0)))
@@ -184,16 +205,19 @@ link-good r t x k h =
     let c = in-map (linkOf i ls) k (edgesOf sts (locAt ls i)) (subst (In k) (b .2) (a .2)) in
     let e = c .0 in
     let lt = edge-below sts ls i e (c .1) in
-    let d = loc-place ls (e .to) (x .complete (e .to) (by-edge e (x .sound (locAt ls i) (getD-in ls (failed 0 leak) i lt)) (c .1))) in
+    let d = loc-place ls (e .to) (x .complete (e .to)
+    (by-edge e (x .sound (locAt ls i) (getD-in ls (failed 0 leak) i lt)) (c .1))) in
     subst (LinkGood sts t) (sym (c .2)) (record { from-below = lt; dest-below = d .0; dest-is = d .1; edge-of = c .1 })
 
 -- each edge of each location has a link
-pub edge-listed : (r : Routine) (t : Listing) → Exact r t → (i : ℕ) (e : Edge) → In e (edgesOf (r .stmts) (locAt (t .locs) i))
+pub edge-listed : (r : Routine) (t : Listing) → Exact r t → (i : ℕ) (e : Edge)
+    → In e (edgesOf (r .stmts) (locAt (t .locs) i))
     → In (linkOf i (t .locs) e) (t .links)
 edge-listed r t x i e h =
     let ls = t .locs in
     let lt = edge-below (r .stmts) ls i e h in
     subst (In (linkOf i ls e)) (sym (x .links))
     (joined-in (linkOf i ls e) (linksFrom (r .stmts) ls i) (map (linksFrom (r .stmts) ls) (numbers 0 (length ls)))
-    (map-in (linksFrom (r .stmts) ls) i (numbers 0 (length ls)) (numbers-in 0 (length ls) i (omega arith) (omega arith)))
+    (map-in (linksFrom (r .stmts) ls) i (numbers 0 (length ls))
+    (numbers-in 0 (length ls) i (omega arith) (omega arith)))
     (map-in (linkOf i ls) e (edgesOf (r .stmts) (locAt ls i)) h))

@@ -1,4 +1,5 @@
--- Every checked routine has a full listing: its locations have different records, of 32 numbers below a bound, and so there are finitely many.
+-- Every checked routine has a full listing: its locations have different records, of 32 numbers below a bound, and so
+-- there are finitely many.
 use Prim.Native.Nat.{_+_, _-_, _<_, _^_, _≤_, suc, zero, ℕ}
 use mathlib.Core.Path.{_∙_, _≡_, refl, subst, sym}
 use mathlib.Core.Logic.{inl, inr}
@@ -66,8 +67,10 @@ loc-below c (at s h) b k W x (inr (inr (inr (inr i)))) =
     let f = W .few in
     in-append-cases x (ps ++ ss) (replicate (28 - length (ps ++ ss)) 0) i
     (λ j. in-append-cases x ps ss j
-    (λ q. let r = in-map valByte x (h .ptrs) q in omega (arith, r .2, val-byte n (r .0) (omega arith) (W .pointers (r .0) (r .1))))
-    (λ q. let r = in-map slotByte x (h .slots) q in omega (arith, r .2, slot-byte n (r .0) (omega arith) (W .nexts (r .0) (r .1)))))
+    (λ q. let r = in-map valByte x (h .ptrs) q in
+    omega (arith, r .2, val-byte n (r .0) (omega arith) (W .pointers (r .0) (r .1))))
+    (λ q. let r = in-map slotByte x (h .slots) q in
+    omega (arith, r .2, slot-byte n (r .0) (omega arith) (W .nexts (r .0) (r .1)))))
     (λ j. omega (arith, zero-in x (28 - length (ps ++ ss)) j))
 loc-below c (failed s f) b k W x (inl e) = omega arith
 loc-below c (failed s f) b k W x (inr (inl e)) = omega arith
@@ -76,10 +79,12 @@ loc-below c (failed s f) b k W x (inr (inr (inr i))) = omega (arith, zero-in x 2
 
 -- ---- finitely many locations
 
-distinct-map : {A B : Type 0} (f : A → B) (l : List A) → ((x y : A) → In x l → In y l → f x ≡ f y → x ≡ y) → Distinct l → Distinct (map f l)
+distinct-map : {A B : Type 0} (f : A → B) (l : List A) → ((x y : A) → In x l → In y l → f x ≡ f y → x ≡ y)
+    → Distinct l → Distinct (map f l)
 distinct-map f [] h d = tt
 distinct-map f (x ∷ l) h d = (
-  (λ i. let r = in-map f (f x) l i in d .0 (subst (λ z. In z l) (sym (h x (r .0) (inl refl) (inr (r .1)) (r .2))) (r .1))),
+  (λ i. let r = in-map f (f x) l i in d .0 (subst (λ z. In z l) (sym (h x (r .0) (inl refl) (inr (r .1)) (r .2)))
+      (r .1))),
   distinct-map f l (λ y z i j. h y z (inr i) (inr j)) (d .1),
 )
 
@@ -97,14 +102,16 @@ module _ (c : ℕ) (b : 256 ≤ c) (ls : List Loc) (d : Distinct ls) (g : (l : L
   locs-few : length ls ≤ c ^ 32
   locs-few =
       let f : Loc → ℕ = λ l. codeOf c (locRecord l) in
-      let k = distinct-map f ls (λ l m i j e. location-injective l m (good-writable l (g l i .0)) (good-writable m (g m j .0))
+      let k = distinct-map f ls (λ l m i j e. location-injective l m (good-writable l (g l i .0))
+      (good-writable m (g m j .0))
       (code-injective c (locRecord l) (locRecord m) (digits l i) (digits m j) (wide l i ∙ sym (wide m j)) e)) d in
       omega (
         arith,
         length-map ls f,
         pigeon (c ^ 32) (map f ls) (distinct-nodup (map f ls) k)
             (λ n q. let r = in-map f n ls (mem-in n (map f ls) q) in
-            subst (λ z. z < c ^ 32) (sym (r .2)) (subst (λ w. f (r .0) < c ^ w) (wide (r .0) (r .1)) (code-below c (locRecord (r .0)) (digits (r .0) (r .1))))),
+            subst (λ z. z < c ^ 32) (sym (r .2)) (subst (λ w. f (r .0) < c ^ w) (wide (r .0) (r .1))
+            (code-below c (locRecord (r .0)) (digits (r .0) (r .1))))),
       )
 
 -- ---- the statements that edges lead to
@@ -124,7 +131,11 @@ radix-byte sts = omega arith
 
 radix-target : (sts : List Stmt) (s : ℕ) → stmtAt sts s .firstTarget + stmtAt sts s .secondTarget < radix sts
 unfolding radix
-radix-target sts s = omega (arith, sum-at (λ (st : Stmt). st .firstTarget + st .secondTarget) sts s (record { op = stop; firstTarget = 0; secondTarget = 0 }) refl)
+radix-target sts s = omega (
+  arith,
+  sum-at (λ (st : Stmt). st .firstTarget + st .secondTarget) sts s
+      (record { op = stop; firstTarget = 0; secondTarget = 0 }) refl,
+)
 
 -- the statement that a step goes to is below c
 abbrev GoesBelow : ℕ → Answer → Type 0
@@ -137,24 +148,28 @@ target-below : (c : ℕ) (st : Stmt) (b : ℕ) → st .firstTarget + st .secondT
 target-below c st zero h = omega arith
 target-below c st (suc b) h = omega arith
 
-answer-below : (c : ℕ) (st : Stmt) (b : ℕ) (x : Effect) → st .firstTarget + st .secondTarget < c → GoesBelow c (answerOf st b x)
+answer-below : (c : ℕ) (st : Stmt) (b : ℕ) (x : Effect) → st .firstTarget + st .secondTarget < c
+    → GoesBelow c (answerOf st b x)
 answer-below c st b (fault f) h = tt
 answer-below c st b (done g) h = target-below c st b h
 
-step-below : (c : ℕ) (st : Stmt) (e : Entry) (h : Heap) → st .firstTarget + st .secondTarget < c → GoesBelow c (step st e h)
+step-below : (c : ℕ) (st : Stmt) (e : Entry) (h : Heap) → st .firstTarget + st .secondTarget < c
+    → GoesBelow c (step st e h)
 step-below c st e h q =
     bool-case (accepts (st .op) e h)
     (λ a. bool-case (isStop (kind (st .op))) (λ z. rw (a, z) tt)
     (λ z. rw (a, z) (answer-below c st (branch (st .op) (e .pick) h) (carryOut (st .op) (e .cellNo) h) q)))
     (λ a. rw a tt)
 
-way-below : (c s k : ℕ) (y : Way) (a : Answer) → s < c → GoesBelow c a → (E : Edge) → In E (edgeBy s k y a) → stmtNo (E .to) < c
+way-below : (c s k : ℕ) (y : Way) (a : Answer) → s < c → GoesBelow c a → (E : Edge) → In E (edgeBy s k y a)
+    → stmtNo (E .to) < c
 way-below c s k y refused h g E i = absurd i
 way-below c s k y stopped h g E i = absurd i
 way-below c s k y (faulted f) h g E i = subst (λ (x : Edge). stmtNo (x .to) < c) (sym (in-single E _ i)) h
 way-below c s k y (went b t w) h g E i = subst (λ (x : Edge). stmtNo (x .to) < c) (sym (in-single E _ i)) g
 
-edge-stmt : (sts : List Stmt) (l : Loc) → stmtNo l < radix sts → (E : Edge) → In E (edgesOf sts l) → stmtNo (E .to) < radix sts
+edge-stmt : (sts : List Stmt) (l : Loc) → stmtNo l < radix sts → (E : Edge) → In E (edgesOf sts l)
+    → stmtNo (E .to) < radix sts
 edge-stmt sts (failed s f) h E i = absurd i
 edge-stmt sts (at s h) q E i =
     let st = stmtAt sts s in
@@ -162,7 +177,8 @@ edge-stmt sts (at s h) q E i =
     let j = in-joined E (map (λ z. edgeBy s k z (stepBy st k z)) (ways (st .op) h)) i in
     let w = in-map (λ z. edgeBy s k z (stepBy st k z)) (j .0) (ways (st .op) h) (j .1) in
     let y = w .0 in
-    way-below (radix sts) s k y (stepBy st k y) q (step-below (radix sts) st (record { pick = y .pick; cellNo = k }) (y .heap) (radix-target sts s)) E
+    way-below (radix sts) s k y (stepBy st k y) q (step-below (radix sts) st (record { pick = y .pick; cellNo = k })
+    (y .heap) (radix-target sts s)) E
     (subst (In E) (w .2) (j .2))
 
 -- ---- the exploration ends
@@ -186,7 +202,8 @@ module _ (r : Routine) (G : GoodStarts r) where
       extend-distinct i (edgesOf (r .stmts) (locAt (t .locs) i)) t (explored-once i)
 
 -- an exploration that never has more than b locations ends
-full-within : (r : Routine) (b : ℕ) → ((i : ℕ) → length (explored (r .stmts) (r .starts) i .locs) ≤ b) → (t : Listing) × IsFull r t
+full-within : (r : Routine) (b : ℕ) → ((i : ℕ) → length (explored (r .stmts) (r .starts) i .locs) ≤ b) → (t : Listing)
+    × IsFull r t
 full-within r b h =
     let sts = r .stmts in
     let hs = r .starts in
@@ -202,4 +219,5 @@ full-exists s r e =
     let G = check-good s r e in
     let c = radix (r .stmts) in
     full-within r (c ^ 32)
-    (λ i. locs-few c (radix-byte (r .stmts)) (explored (r .stmts) (r .starts) i .locs) (explored-once r G i) (explored-fits r G i))
+    (λ i. locs-few c (radix-byte (r .stmts)) (explored (r .stmts) (r .starts) i .locs) (explored-once r G i)
+    (explored-fits r G i))

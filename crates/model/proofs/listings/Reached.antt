@@ -1,4 +1,5 @@
--- Every edge of a shape leads to a fault or to a shape with as many pointers, and its updates are small; so every reached location can be written.
+-- Every edge of a shape leads to a fault or to a shape with as many pointers, and its updates are small; so every
+-- reached location can be written.
 use Prim.Native.Nat.{_<_, _≤_, ℕ}
 use mathlib.Core.Path.{_∙_, _≡_, ap, ap₂, refl, subst, sym}
 use mathlib.Core.Logic.{inl, inr}
@@ -37,10 +38,12 @@ made-ptrs s st e h cl x m =
     let g = made-goes (begin s h) st e h x m in
     let a = action (st .op) in
     let y = perform a (e .cellNo) h in
-    by-run (keep y) (keep-any (PtrsAre (length (h .ptrs))) (λ f. tt) y (leaves-ptrs a (e .cellNo) h y (effect-leaves a (e .cellNo) h cl)))
+    by-run (keep y) (keep-any (PtrsAre (length (h .ptrs))) (λ f. tt) y
+    (leaves-ptrs a (e .cellNo) h y (effect-leaves a (e .cellNo) h cl)))
     (rw (step-go st e h (g .0) (g .1)) at m)
   where
-    by-run : (r : Effect) → PtrsAre (length (h .ptrs)) r → made (begin s h) (answerOf st (branch (st .op) (e .pick) h) r) ≡ some x
+    by-run : (r : Effect) → PtrsAre (length (h .ptrs)) r
+        → made (begin s h) (answerOf st (branch (st .op) (e .pick) h) r) ≡ some x
         → length (x .after .heap .ptrs) ≡ length (h .ptrs)
     by-run (done k) p q = ap (λ (y : Advance State). length (y .after .heap .ptrs)) (sym (some-inj q)) ∙ p
     by-run (fault f) p q = ap (λ (y : Advance State). length (y .after .heap .ptrs)) (sym (some-inj q))
@@ -53,7 +56,12 @@ one-met : (k n : ℕ) → n < k → Met k (oneAt n ∷ [])
 one-met k n b = (1, omega arith, rw (eq-eqb (getD (replicate k 1) n 0) 1 (getD-replicate k n 1 0 b)))
 
 more-met : (k n : ℕ) → n < k → Met k (moreAt n ∷ [])
-more-met k n b = (2, omega arith, rw (le-leb 2 (getD (replicate k 2) n 0) (omega (arith, getD-replicate {A = ℕ} k n 2 0 b))))
+more-met k n b = (
+  2,
+  omega arith,
+  rw (le-leb 2 (getD (replicate k 2) n 0)
+      (omega (arith, getD-replicate {A = ℕ} k n 2 0 b))),
+)
 
 ways-met : (kd : Kind) (h : Heap) (v : View) → ClosedView (next h) v → (y : Way) → In y (waysOf kd v h)
     → Met (length (h .slots)) (y .guards)
@@ -61,9 +69,11 @@ ways-met kd h noNode k y i =
     let r = in-map (λ p. whole [] p h) y (picksOf kd) i in
     subst (λ (z : Way). Met (length (h .slots)) (z .guards)) (sym (r .2)) (1, omega arith, refl)
 ways-met kd h (oneNode n) k y (inl e) =
-    subst (λ (z : Way). Met (length (h .slots)) (z .guards)) (sym e) (one-met (length (h .slots)) n (used-below (h .slots) n k))
+    subst (λ (z : Way). Met (length (h .slots)) (z .guards)) (sym e)
+    (one-met (length (h .slots)) n (used-below (h .slots) n k))
 ways-met kd h (oneNode n) k y (inr (inl e)) =
-    subst (λ (z : Way). Met (length (h .slots)) (z .guards)) (sym e) (more-met (length (h .slots)) n (used-below (h .slots) n k))
+    subst (λ (z : Way). Met (length (h .slots)) (z .guards)) (sym e)
+    (more-met (length (h .slots)) n (used-below (h .slots) n k))
 ways-met kd h (oneNode n) k y (inr (inr x)) = absurd x
 
 module _ (s : ℕ) (st : Stmt) (h : Heap) (C : Canon h) (six : length (h .ptrs) ≡ 6) where
@@ -71,7 +81,11 @@ module _ (s : ℕ) (st : Stmt) (h : Heap) (C : Canon h) (six : length (h .ptrs) 
   fit-good x l cs f p = by-status (x .status) f
     where
       by-status : (q : Status) → MatchIn q (x .stmt) (x .heap) l cs → GoodLoc l
-      by-status running m = subst GoodLoc (sym (m .0)) (fold-canon (x .heap) (m .2) (m .3), length-map (x .heap .ptrs) (nodeVal (segments (x .heap))) ∙ p)
+      by-status running m = subst GoodLoc (sym (m .0)) (
+        fold-canon (x .heap) (m .2) (m .3),
+        length-map (x .heap .ptrs)
+            (nodeVal (segments (x .heap))) ∙ p,
+      )
       by-status (past f) m = subst GoodLoc (sym (m .0)) tt
 
   -- each edge of a shape
@@ -100,7 +114,8 @@ module _ (s : ℕ) (st : Stmt) (h : Heap) (C : Canon h) (six : length (h .ptrs) 
       )
 
 -- the edges of a good location
-pub good-edge : (sts : List Stmt) (l : Loc) → GoodLoc l → (E : Edge) → In E (edgesOf sts l) → SmallEdge (nodesOf l) E × GoodLoc (E .to)
+pub good-edge : (sts : List Stmt) (l : Loc) → GoodLoc l → (E : Edge) → In E (edgesOf sts l) → SmallEdge (nodesOf l) E
+    × GoodLoc (E .to)
 good-edge sts (at s h) g E i = shape-edge s (stmtAt sts s) h (g .0) (g .1) E i
 good-edge sts (failed s f) g E i = absurd i
 
@@ -114,7 +129,8 @@ pub good-exclude : (sts : List Stmt) (l : Loc) → GoodLoc l → Pairs Exclude (
 good-exclude sts (at s h) g = edges-exclude s (stmtAt sts s) h (kept-test h (g .0 .kept))
 good-exclude sts (failed s f) g = tt
 
-pub good-cover : (sts : List Stmt) (l : Loc) → GoodLoc l → (cs : List ℕ) → length cs ≡ nodesOf l → Positive cs → (E : Edge) → In E (edgesOf sts l)
+pub good-cover : (sts : List Stmt) (l : Loc) → GoodLoc l → (cs : List ℕ) → length cs ≡ nodesOf l → Positive cs
+    → (E : Edge) → In E (edgesOf sts l)
     → (D : Edge) × In D (edgesOf sts l) × (D .branchNo ≡ E .branchNo) × (guardsOn (D .guards) cs ≡ true)
 good-cover sts (failed s f) g cs len pos E i = absurd i
 good-cover sts (at s h) g cs len pos E i =

@@ -29,12 +29,14 @@ digits-same c x y p q h k e =
     let d = add-mul-div-left x p {y = c} (omega arith) in
     let f = add-mul-div-left y q {y = c} (omega arith) in
     let z : x / c + p ≡ y / c + q = sym d ∙ ap (λ n. n / c) e ∙ f in (
-      sym (add-mul-mod-self-left x c p ∙ mod-eq-of-lt h) ∙ ap (λ n. n % c) e ∙ add-mul-mod-self-left y c q ∙ mod-eq-of-lt k,
+      sym (add-mul-mod-self-left x c p ∙ mod-eq-of-lt h) ∙ ap (λ n. n % c) e ∙ add-mul-mod-self-left y c q
+          ∙ mod-eq-of-lt k,
       omega (arith, z, div-eq-of-lt h, div-eq-of-lt k),
     )
 
 -- different lists of equal length are different numbers
-pub code-injective : (c : ℕ) (l m : List ℕ) → Below c l → Below c m → length l ≡ length m → codeOf c l ≡ codeOf c m → l ≡ m
+pub code-injective : (c : ℕ) (l m : List ℕ) → Below c l → Below c m → length l ≡ length m → codeOf c l ≡ codeOf c m
+    → l ≡ m
 code-injective c [] [] h k n e = refl
 code-injective c [] (y ∷ m) h k n e = absurd (omega arith)
 code-injective c (x ∷ l) [] h k n e = absurd (omega arith)

@@ -70,7 +70,8 @@ mem-append-l c s t h = mem-append c s t ∙ or-l (mem c s) (mem c t) h
 pub mem-append-r : (c : ℕ) (s t : List ℕ) → mem c t ≡ true → mem c (s ++ t) ≡ true
 mem-append-r c s t h = mem-append c s t ∙ or-r (mem c s) (mem c t) h
 
-pub mem-append-cases {ℓ} : {C : Type ℓ} (c : ℕ) (s t : List ℕ) → mem c (s ++ t) ≡ true → (mem c s ≡ true → C) → (mem c t ≡ true → C) → C
+pub mem-append-cases {ℓ} : {C : Type ℓ} (c : ℕ) (s t : List ℕ) → mem c (s ++ t) ≡ true → (mem c s ≡ true → C)
+    → (mem c t ≡ true → C) → C
 mem-append-cases c s t h f g = or-cases (mem c s) (mem c t) (sym (mem-append c s t) ∙ h) f g
 
 pub mem-one : (c d : ℕ) → mem c (d ∷ []) ≡ true → c ≡ d

@@ -20,7 +20,8 @@ in-numbers i (suc n) j (inr q) = let r = in-numbers (suc i) n j q in (omega arit
 
 pub numbers-in : (k n i : ℕ) → k ≤ i → i < k + n → In i (numbers k n)
 numbers-in k zero i h h′ = absurd (omega arith)
-numbers-in k (suc n) i h h′ = eq-case i k (λ e. inl e) (λ e. let ne = eqb-false i k e in inr (numbers-in (suc k) n i (omega arith) (omega arith)))
+numbers-in k (suc n) i h h′ = eq-case i k (λ e. inl e) (λ e. let ne = eqb-false i k e in
+    inr (numbers-in (suc k) n i (omega arith) (omega arith)))
 
 pub numbers-mem : (i n c : ℕ) → mem c (numbers i n) ≡ true → (i ≤ c) × (c < i + n)
 numbers-mem i n c h = in-numbers i n c (mem-in c (numbers i n) h)
@@ -30,7 +31,11 @@ mem-numbers i n c h k = in-mem c (numbers i n) (numbers-in i n c h k)
 
 pub numbers-nodup : (i n : ℕ) → NoDup (numbers i n)
 numbers-nodup i zero = tt
-numbers-nodup i (suc n) = (not-true (mem i (numbers (suc i) n)) (λ h. let r = numbers-mem (suc i) n i h in omega arith), numbers-nodup (suc i) n)
+numbers-nodup i (suc n) = (
+  not-true (mem i (numbers (suc i) n)) (λ h. let r = numbers-mem (suc i) n i h in
+      omega arith),
+  numbers-nodup (suc i) n,
+)
 
 pub length-numbers : (i n : ℕ) → length (numbers i n) ≡ n
 length-numbers i zero = refl
@@ -42,7 +47,11 @@ numbers-snoc k (suc n) = ap (λ z. k ∷ z) (numbers-snoc (suc k) n ∙ ap (λ z
 
 pub pairs-numbers : (R : ℕ → ℕ → Type 0) → ((i j : ℕ) → i < j → R i j) → (i n : ℕ) → Pairs R (numbers i n)
 pairs-numbers R h i zero = tt
-pairs-numbers R h i (suc n) = ((λ j q. h i j (let r = in-numbers (suc i) n j q in omega arith)), pairs-numbers R h (suc i) n)
+pairs-numbers R h i (suc n) = (
+  (λ j q. h i j (let r = in-numbers (suc i) n j q in omega arith)),
+  pairs-numbers R h
+      (suc i) n,
+)
 
 -- a list read place by place
 pub numbers-shift : {A : Type 0} (f : ℕ → A) (i n : ℕ) → map f (numbers (suc i) n) ≡ map (λ j. f (suc j)) (numbers i n)

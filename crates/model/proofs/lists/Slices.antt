@@ -1,4 +1,5 @@
--- Parts of lists: what is left from a place on and what stands before it, with tests, maps and sums of these, for a loop at that place; a part that is lent; a front that is written.
+-- Parts of lists: what is left from a place on and what stands before it, with tests, maps and sums of these, for a
+-- loop at that place; a part that is lent; a front that is written.
 use Prim.Native.Nat.{_+_, _-_, _<_, _≤_, suc, zero, ℕ}
 use mathlib.Core.Path.{_∙_, _≡_, ap, ap₂, sym}
 use mathlib.Core.Bool.{Bool, _&&_, true}
@@ -20,9 +21,11 @@ pub take-next : (l : List ℕ) (i : ℕ) → i < length l → take (i + 1) l ≡
 take-next l i h = ap (λ n. take n l) (add-one i) ∙ take-suc l i 0 h
 
 -- lists made of the elements, joined: one more
-pub joined-next : (f : ℕ → List ℕ) (l : List ℕ) (i : ℕ) → i < length l → joined (map f (take (i + 1) l)) ≡ joined (map f (take i l)) ++ f (getD l i 0)
+pub joined-next : (f : ℕ → List ℕ) (l : List ℕ) (i : ℕ) → i < length l → joined (map f (take (i + 1) l))
+    ≡ joined (map f (take i l)) ++ f (getD l i 0)
 joined-next f l i h =
-    ap (λ x. joined (map f x)) (take-next l i h) ∙ ap joined (map-append f (take i l) (getD l i 0 ∷ [])) ∙ joined-snoc (map f (take i l)) (f (getD l i 0))
+    ap (λ x. joined (map f x)) (take-next l i h) ∙ ap joined (map-append f (take i l) (getD l i 0 ∷ []))
+    ∙ joined-snoc (map f (take i l)) (f (getD l i 0))
 
 -- the part from a on, as a lent part has it
 pub part-from : (l : List ℕ) (a : ℕ) → take (length l - a) (drop a l) ≡ drop a l
@@ -42,8 +45,10 @@ pub put-next : (t s w v : List ℕ) (a n : ℕ) → length s ≡ length t → a 
 put-next t s w v a n k h e =
     let r = drop a t in
     let l : length w ≡ a = omega (arith, ap length e, length-append w r, length-drop a t) in
-    let d : drop (a + n) (w ++ r) ≡ drop (a + n) t = ap (λ m. drop (m + n) (w ++ r)) (sym l) ∙ drop-append-add w r n ∙ drop-drop n a t in
-    ap (λ x. take a x ++ (v ++ drop (a + n) x)) e ∙ ap₂ (λ x y. x ++ (v ++ y)) (take-at w r a l) d ∙ sym (append-assoc w v (drop (a + n) t))
+    let d : drop (a + n) (w ++ r) ≡ drop (a + n) t = ap (λ m. drop (m + n) (w ++ r)) (sym l) ∙ drop-append-add w r n
+    ∙ drop-drop n a t in
+    ap (λ x. take a x ++ (v ++ drop (a + n) x)) e ∙ ap₂ (λ x y. x ++ (v ++ y)) (take-at w r a l) d
+    ∙ sym (append-assoc w v (drop (a + n) t))
 
 -- and w is what stands before place a
 pub front-is : (t s w : List ℕ) (a : ℕ) → length s ≡ length t → a ≤ length t → s ≡ w ++ drop a t → take a s ≡ w
@@ -52,14 +57,16 @@ front-is t s w a k h e =
     ap (take a) e ∙ take-at w r a (omega (arith, ap length e, length-append w r, length-drop a t))
 
 -- one turn of a loop that tests each element, and its end
-pub all-step : (p : ℕ → Bool) (l : List ℕ) (i : ℕ) → i < length l → all p (drop i l) ≡ p (getD l i 0) && all p (drop (i + 1) l)
+pub all-step : (p : ℕ → Bool) (l : List ℕ) (i : ℕ) → i < length l → all p (drop i l) ≡ p (getD l i 0)
+    && all p (drop (i + 1) l)
 all-step p l i h = ap (all p) (drop-step l i h)
 
 pub all-end : (p : ℕ → Bool) (l : List ℕ) (i : ℕ) → length l ≤ i → all p (drop i l) ≡ true
 all-end p l i h = ap (all p) (drop-of-length-le l h)
 
 -- and of one that reads each
-pub map-step : {B : Type 0} (f : ℕ → B) (l : List ℕ) (i : ℕ) → i < length l → map f (drop i l) ≡ f (getD l i 0) ∷ map f (drop (i + 1) l)
+pub map-step : {B : Type 0} (f : ℕ → B) (l : List ℕ) (i : ℕ) → i < length l → map f (drop i l) ≡ f (getD l i 0)
+    ∷ map f (drop (i + 1) l)
 map-step f l i h = ap (map f) (drop-step l i h)
 
 pub map-end : {B : Type 0} (f : ℕ → B) (l : List ℕ) (i : ℕ) → length l ≤ i → map f (drop i l) ≡ []
@@ -68,13 +75,15 @@ map-end f l i h = ap (map f) (drop-of-length-le l h)
 -- ---- stores
 
 -- a list s whose first elements are f of those of vs, and whose others are those of t: one store more
-pub map-fill : {A B : Type 0} (f : A → B) (vs : List A) (t s : List B) (d : A) (i : ℕ) (x : B) → i < length vs → i < length t
+pub map-fill : {A B : Type 0} (f : A → B) (vs : List A) (t s : List B) (d : A) (i : ℕ) (x : B) → i < length vs
+    → i < length t
     → s ≡ map f (take i vs) ++ drop i t → x ≡ f (getD vs i d) → set s i x ≡ map f (take (i + 1) vs) ++ drop (i + 1) t
 map-fill f vs t s d i x h k e q =
     let p = map f (take i vs) in
     let n : length p ≡ i = length-map (take i vs) f ∙ length-take-le i vs (omega arith) in
     ap (λ l. set l i x) (e ∙ ap (λ l. p ++ l) (drop-cons t i x k)) ∙ set-at p (getD t i x) (drop (suc i) t) x i n
-    ∙ rw add-one (sym (ap (λ l. map f l ++ drop (suc i) t) (take-suc vs i d h) ∙ ap (λ l. l ++ drop (suc i) t) (map-append f (take i vs) (getD vs i d ∷ []))
+    ∙ rw add-one (sym (ap (λ l. map f l ++ drop (suc i) t) (take-suc vs i d h)
+    ∙ ap (λ l. l ++ drop (suc i) t) (map-append f (take i vs) (getD vs i d ∷ []))
     ∙ append-assoc p (f (getD vs i d) ∷ []) (drop (suc i) t) ∙ ap (λ y. p ++ y ∷ drop (suc i) t) (sym q)))
 
 -- one element more of rec copied over the front of part

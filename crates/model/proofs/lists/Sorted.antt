@@ -40,7 +40,8 @@ shapes i (r ∷ rs) e = bool-case (isH r)
       all-h = and-both (isH r) (all isH rs) h (q .all-h);
       count-h = rw h (omega (arith, q .count-h));
     })
-    (λ h. let z : badKind true i (r ∷ rs) ≡ some i = rw (h, badKind) (rw (and-false (isS r), badKind)) in some-none (sym e ∙ z))
+    (λ h. let z : badKind true i (r ∷ rs) ≡ some i = rw (h, badKind) (rw (and-false (isS r), badKind)) in
+    some-none (sym e ∙ z))
 
 shapes-sorted : (rs : List (List ℕ)) → Shapes rs → Sorted rs
 shapes-sorted rs q = record {

@@ -1,4 +1,5 @@
--- The promises of demand 2 about edges, listings, places, records and expansions. Each is a type; its proof under it cites a law.
+-- The promises of demand 2 about edges, listings, places, records and expansions. Each is a type; its proof under it
+-- cites a law.
 use Prim.Native.Nat.{_+_, _-_, _<_, _≤_, ℕ}
 use mathlib.Core.Path.{_≡_, refl}
 use mathlib.Core.Logic.{_↔_, _⊎_}
@@ -36,15 +37,19 @@ use Rattle.model.proofs.records.Statements.{record-back, statement-back
 
 -- "bits 12 and 13 the constant (−1, 0 or 1) plus one"; one update for each new node, with a flag for each old one
 abbrev pub EdgesSmall : Type 0
-EdgesSmall = (s : List ℕ) (r : Routine) → check s ≡ good r → (l : Loc) → Reached (r .stmts) (r .starts) l → (E : Edge) → In E (edgesOf (r .stmts) l)
-    → (length (E .updates) ≡ nodesOf (E .to)) × ((u : Update) → In u (E .updates) → (u .plus ≤ 2) × (length (u .adds) ≡ nodesOf l))
+EdgesSmall = (s : List ℕ) (r : Routine) → check s ≡ good r → (l : Loc) → Reached (r .stmts) (r .starts) l → (E : Edge)
+    → In E (edgesOf (r .stmts) l)
+    → (length (E .updates) ≡ nodesOf (E .to)) × ((u : Update) → In u (E .updates) → (u .plus ≤ 2)
+    × (length (u .adds) ≡ nodesOf l))
 
 pub edges-small : EdgesSmall
-edges-small s r e l p E i = let g = good-edge (r .stmts) l (reached-good r (check-good s r e) l p) E i .0 in (g .number, g .small)
+edges-small s r e l p E i = let g = good-edge (r .stmts) l (reached-good r (check-good s r e) l p) E i .0 in
+    (g .number, g .small)
 
 -- each old counter is added in at most one update of an edge
 abbrev pub CountersOnce : Type 0
-CountersOnce = (s : List ℕ) (r : Routine) → check s ≡ good r → (l : Loc) → Reached (r .stmts) (r .starts) l → (E : Edge) → In E (edgesOf (r .stmts) l)
+CountersOnce = (s : List ℕ) (r : Routine) → check s ≡ good r → (l : Loc) → Reached (r .stmts) (r .starts) l
+    → (E : Edge) → In E (edgesOf (r .stmts) l)
     → Pairs AddApart (E .updates)
 
 pub counters-once : CountersOnce
@@ -52,7 +57,8 @@ counters-once s r e l p = good-once (r .stmts) l (reached-good r (check-good s r
 
 -- the guards of the edges of one branch exclude each other, and leave nothing out
 abbrev pub GuardsExclude : Type 0
-GuardsExclude = (s : List ℕ) (r : Routine) → check s ≡ good r → (l : Loc) → Reached (r .stmts) (r .starts) l → Pairs Exclude (edgesOf (r .stmts) l)
+GuardsExclude = (s : List ℕ) (r : Routine) → check s ≡ good r → (l : Loc) → Reached (r .stmts) (r .starts) l
+    → Pairs Exclude (edgesOf (r .stmts) l)
 
 pub guards-exclude : GuardsExclude
 guards-exclude s r e l p = good-exclude (r .stmts) l (reached-good r (check-good s r e) l p)
@@ -74,8 +80,9 @@ AcceptedIsChecked = (s : List ℕ) (a b : ℕ) → translate s a b .verdict ≡ 
 pub accepted-is-checked : AcceptedIsChecked
 accepted-is-checked s a b z = let A = is-accepted s a b z in (A .0, A .2)
 
--- "The starting shapes are locations 0 on, in input order. Locations are explored by number; each new target takes the next number; edges stand in
--- the order found." The tables hold every location that is reached, no other, each once, and every edge of each; and the counts are theirs.
+-- "The starting shapes are locations 0 on, in input order. Locations are explored by number; each new target takes the
+-- next number; edges stand in the order found." The tables hold every location that is reached, no other, each once,
+-- and every edge of each; and the counts are theirs.
 abbrev pub ListingExact : Type 0
 ListingExact = (s : List ℕ) (a b : ℕ) (r : Routine) → check s ≡ good r → translate s a b .verdict ≡ isAccepted
     → (t : Listing) × Exact r t × (translate s a b .tables ≡ tablesOf a b t)
@@ -83,24 +90,28 @@ ListingExact = (s : List ℕ) (a b : ℕ) (r : Routine) → check s ≡ good r �
 pub listing-is-exact : ListingExact
 listing-is-exact = accepted-exact
 
--- 11 and 12: a routine is translated exactly when its full listing has places; the full listing is one, whatever the places
+-- 11 and 12: a routine is translated exactly when its full listing has places; the full listing is one, whatever the
+-- places
 abbrev pub FitsIsAccepted : Type 0
 FitsIsAccepted = (s : List ℕ) (a b : ℕ) (r : Routine) (t : Listing) → check s ≡ good r → IsFull r t
-    → (translate s a b .verdict ≡ isAccepted) ↔ ((length (t .locs) ≤ places 1024 a) × (length (t .links) ≤ places 2048 b))
+    → (translate s a b .verdict ≡ isAccepted) ↔ ((length (t .locs) ≤ places 1024 a)
+    × (length (t .links) ≤ places 2048 b))
 
 pub fits-is-accepted : FitsIsAccepted
 fits-is-accepted = fits-accepted
 
 abbrev pub OneListing : Type 0
-OneListing = (s : List ℕ) (r : Routine) → check s ≡ good r → (t : Listing) × IsFull r t × ((u : Listing) → IsFull r u → u ≡ t)
+OneListing = (s : List ℕ) (r : Routine) → check s ≡ good r → (t : Listing) × IsFull r t
+    × ((u : Listing) → IsFull r u → u ≡ t)
 
 pub one-full-listing : OneListing
 one-full-listing s r e = let f = full-exists s r e in (f .0, f .1, λ u k. full-one r u (f .0) k (f .1))
 
--- "for 11 and 12 the number of the location being explored, or, while starting shapes are entered, the number, from 0 among them, of the shape
--- that found no place"; "For each edge, its target's place comes before its own."
+-- "for 11 and 12 the number of the location being explored, or, while starting shapes are entered, the number, from 0
+-- among them, of the shape that found no place"; "For each edge, its target's place comes before its own."
 abbrev pub NoPlaceSays : Type 0
-NoPlaceSays = (s : List ℕ) (a b : ℕ) (r : Routine) (x : Refusal) → check s ≡ good r → translate s a b .verdict ≡ isRefused x
+NoPlaceSays = (s : List ℕ) (a b : ℕ) (r : Routine) (x : Refusal) → check s ≡ good r → translate s a b .verdict
+    ≡ isRefused x
     → ((places 1024 a < length (r .starts)) × (x ≡ refusal 11 (places 1024 a)))
     ⊎ Refused (r .stmts) (r .starts) (places 1024 a) (places 2048 b) x
 
@@ -129,18 +140,27 @@ records-are-distinct = records-distinct
 
 -- every location that is reached can be written
 abbrev pub ReachedWritable : Type 0
-ReachedWritable = (s : List ℕ) (r : Routine) → check s ≡ good r → (l : Loc) → Reached (r .stmts) (r .starts) l → WritableLoc l
+ReachedWritable = (s : List ℕ) (r : Routine) → check s ≡ good r → (l : Loc) → Reached (r .stmts) (r .starts) l
+    → WritableLoc l
 
 pub reached-writable : ReachedWritable
 reached-writable s r e l p = good-writable l (reached-good r (check-good s r e) l p)
 
 -- a location's record has 32 bytes and is read back: statement, fault, node count and shape
 abbrev pub LocationReadBack : Type 0
-LocationReadBack = (n : ℕ) (h : Heap) → Writable h → (length (locRecord (at n h)) ≡ 32) × (byte (locRecord (at n h)) 1 ≡ n)
-    × (byte (locRecord (at n h)) 2 ≡ 0) × (byte (locRecord (at n h)) 3 ≡ length (h .slots)) × (shapeOf (locRecord (at n h)) ≡ h)
+LocationReadBack = (n : ℕ) (h : Heap) → Writable h → (length (locRecord (at n h)) ≡ 32)
+    × (byte (locRecord (at n h)) 1 ≡ n)
+    × (byte (locRecord (at n h)) 2 ≡ 0) × (byte (locRecord (at n h)) 3 ≡ length (h .slots))
+    × (shapeOf (locRecord (at n h)) ≡ h)
 
 pub location-read-back : LocationReadBack
-location-read-back n h W = (location-length n h W, location-statement n h, location-fault n h, location-nodes n h, location-shape n h W)
+location-read-back n h W = (
+  location-length n h W,
+  location-statement n h,
+  location-fault n h,
+  location-nodes n h,
+  location-shape n h W,
+)
 
 -- "For a fault, the statement is the one that faulted and bytes 3 to 31 are zero."
 abbrev pub FaultReadBack : Type 0
@@ -153,18 +173,27 @@ fault-read-back n f = (failed-length n f, failed-statement n f, failed-fault n f
 -- an edge's record has 32 bytes and is read back: branch, ends, guard and updates
 abbrev pub EdgeReadBack : Type 0
 EdgeReadBack = (from to : ℕ) (e : Edge) → length (e .updates) ≤ 12
-    → (length (edgeRecord from to e) ≡ 32) × (byte (edgeRecord from to e) 1 ≡ e .branchNo) × (word (edgeRecord from to e) 2 ≡ from)
+    → (length (edgeRecord from to e) ≡ 32) × (byte (edgeRecord from to e) 1 ≡ e .branchNo)
+    × (word (edgeRecord from to e) 2 ≡ from)
     × (word (edgeRecord from to e) 4 ≡ to) × (byte (edgeRecord from to e) 6 ≡ getD (guardBytes (e .guards)) 0 0)
     × (byte (edgeRecord from to e) 7 ≡ getD (guardBytes (e .guards)) 1 0)
     × (updatesOf (length (e .updates)) (edgeRecord from to e) ≡ map updateCode (e .updates))
 
 pub edge-read-back : EdgeReadBack
-edge-read-back from to e h =
-    (edge-length from to e h, edge-branch from to e, edge-from from to e, edge-to from to e, edge-guard from to e, edge-node from to e, edge-updates from to e)
+edge-read-back from to e h = (
+  edge-length from to e h,
+  edge-branch from to e,
+  edge-from from to e,
+  edge-to from to e,
+  edge-guard from to e,
+  edge-node from to e,
+  edge-updates from to e,
+)
 
 -- "each new counter its constant plus the old counters that it adds", from the code of an update
 abbrev pub UpdateReadBack : Type 0
-UpdateReadBack = (u : Update) (cs : List ℕ) → length (u .adds) ≤ 12 → u .plus ≤ 3 → applied cs (updateCode u) ≡ (flagged (u .adds) cs + u .plus) - 1
+UpdateReadBack = (u : Update) (cs : List ℕ) → length (u .adds) ≤ 12 → u .plus ≤ 3 → applied cs (updateCode u)
+    ≡ (flagged (u .adds) cs + u .plus) - 1
 
 pub update-read-back : UpdateReadBack
 update-read-back = applied-code
@@ -175,7 +204,14 @@ ShapeReadBack = ((h : Heap) → Writable h → (length (shapeRecord h) ≡ 32) �
     × ((r : List ℕ) → length r ≡ 32 → layoutH r ≡ true → Writable (shapeOf r) × (shapeRecord (shapeOf r) ≡ r))
 
 pub shape-read-back : ShapeReadBack
-shape-read-back = ((λ h W. (shape-length h W, shape-shape h W)), λ r l h. (layout-writable r l h, shape-record-back r l h))
+shape-read-back = (
+  (λ h W. (shape-length h W, shape-shape h W)),
+  λ r l h. (
+    layout-writable r l h,
+    shape-record-back r
+        l h,
+  ),
+)
 
 abbrev pub StatementReadBack : Type 0
 StatementReadBack = ((st : Stmt) → UnusedZero st → stmtOf (stmtRecord st) ≡ st)
@@ -225,13 +261,17 @@ expansion-kept = kept-same
 
 -- "with the head split off": a chain of two cells or more is split into its head and the rest
 abbrev pub ExpansionSplit : Type 0
-ExpansionSplit = (W : Heap) (sg : ℕ → Seg) (H : Heap) → Expansion W sg H → (n k h t : ℕ) (ts : List ℕ) → sg n ≡ seg h (t ∷ ts)
-    → inUse (next W n) ≡ true → inUse (next W k) ≡ false → Expansion (splitHeap n k W) (upd (upd sg k (seg t ts)) n (seg h [])) H
+ExpansionSplit = (W : Heap) (sg : ℕ → Seg) (H : Heap) → Expansion W sg H → (n k h t : ℕ) (ts : List ℕ) → sg n
+    ≡ seg h (t ∷ ts)
+    → inUse (next W n) ≡ true → inUse (next W k) ≡ false
+    → Expansion (splitHeap n k W) (upd (upd sg k (seg t ts)) n (seg h [])) H
 
 pub expansion-split : ExpansionSplit
-expansion-split W sg H X n k h t ts e u f = exp-split W sg H X n k h t ts e (used-of (next W n) u) (unused-of (next W k) f)
+expansion-split W sg H X n k h t ts e u f = exp-split W sg H X n k h t ts e (used-of (next W n) u)
+    (unused-of (next W k) f)
 
--- every effect faults alike on both, or finishes in an expansion, where what is read, written or freed is a chain of one cell
+-- every effect faults alike on both, or finishes in an expansion, where what is read, written or freed is a chain of
+-- one cell
 abbrev pub ExpansionEffects : Type 0
 ExpansionEffects = (W : Heap) (sg : ℕ → Seg) (H : Heap) → Expansion W sg H → (op : Op) (k c : ℕ)
     → Alone (view (action op) W) sg → Room (action op) W k → Room (action op) H c

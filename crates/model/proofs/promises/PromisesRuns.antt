@@ -25,5 +25,11 @@ StartsDescribe = (s : List ℕ) (r : Routine) → check s ≡ good r → (i : �
 
 pub starts-describe : StartsDescribe
 starts-describe s r e i sh g cs len pos =
-    let C = check-good s r e .shapes sh (elem-in (r .starts) i sh g) .0 in
-    (unfoldHeap sh cs, record { isHeap = unfold-is-heap sh C cs len pos; shapeIs = shape-unfold sh C cs len pos; countersAre = counters-unfold sh C cs len pos })
+    let C = check-good s r e .shapes sh (elem-in (r .starts) i sh g) .0 in (
+      unfoldHeap sh cs,
+      record {
+        isHeap = unfold-is-heap sh C cs len pos;
+        shapeIs = shape-unfold sh C cs len pos;
+        countersAre = counters-unfold sh C cs len pos;
+      },
+    )

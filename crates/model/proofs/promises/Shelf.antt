@@ -1,4 +1,5 @@
--- "The cases marked P below hold for the definitions, shown together as one table": computed through the whole translator.
+-- "The cases marked P below hold for the definitions, shown together as one table": computed through the whole
+-- translator.
 use mathlib.Core.Path.{_≡_, refl}
 use mathlib.Core.Bool.{true}
 use Rattle.model.specs.Base.{all}

@@ -75,7 +75,8 @@ pub applied-code : (u : Update) (cs : List ℕ) → length (u .adds) ≤ 12 → 
     → applied cs (updateCode u) ≡ (flagged (u .adds) cs + u .plus) - 1
 applied-code u cs h k =
     let b = bits-below (u .adds) h in
-    let m : updateCode u % 4096 ≡ bits (u .adds) = add-mul-mod-self-left (bits (u .adds)) 4096 (u .plus) ∙ mod-eq-of-lt b in
+    let m : updateCode u % 4096 ≡ bits (u .adds) = add-mul-mod-self-left (bits (u .adds)) 4096 (u .plus)
+    ∙ mod-eq-of-lt b in
     let d : updateCode u / 4096 ≡ u .plus = omega arith in
     let p : u .plus % 4 ≡ u .plus = mod-eq-of-lt (omega arith) in
     rw (m, d, p, added-bits (u .adds) cs)
@@ -83,30 +84,41 @@ applied-code u cs h k =
 joined-record : (rs : List (List ℕ)) (z : List ℕ) (i : ℕ) → ((r : List ℕ) → In r rs → length r ≡ 32) → i < length rs
     → take 32 (drop (32 * i) (joined rs ++ z)) ≡ getD rs i []
 joined-record [] z i h k = absurd (omega arith)
-joined-record (r ∷ rs) z zero h k = ap (take 32) (append-assoc r (joined rs) z) ∙ take-at r (joined rs ++ z) 32 (h r (inl refl))
+joined-record (r ∷ rs) z zero h k = ap (take 32) (append-assoc r (joined rs) z)
+    ∙ take-at r (joined rs ++ z) 32 (h r (inl refl))
 joined-record (r ∷ rs) z (suc i) h k =
     let l = h r (inl refl) in
     let e : 32 * suc i ≡ length r + 32 * i = omega arith in
     ap₂ (λ n s. take 32 (drop n s)) e (append-assoc r (joined rs) z)
-    ∙ ap (take 32) (drop-append-add r (joined rs ++ z) (32 * i)) ∙ joined-record rs z i (λ x q. h x (inr q)) (omega arith)
+    ∙ ap (take 32) (drop-append-add r (joined rs ++ z) (32 * i)) ∙ joined-record rs z i (λ x q. h x (inr q))
+    (omega arith)
 
 -- record i of a table is the one that was written at place i
 pub table-record : (n : ℕ) (rs : List (List ℕ)) (i : ℕ) → ((r : List ℕ) → In r rs → length r ≡ 32) → i < length rs
     → recordAt (tableOf n rs) i ≡ getD rs i []
 table-record n rs i h k = joined-record rs (replicate (n - 32 * length rs) 0) i h k
 
-pub records-wide : {A : Type 0} (f : A → List ℕ) (l : List A) → ((x : A) → In x l → length (f x) ≡ 32) → (r : List ℕ) → In r (map f l) → length r ≡ 32
+pub records-wide : {A : Type 0} (f : A → List ℕ) (l : List A) → ((x : A) → In x l → length (f x) ≡ 32) → (r : List ℕ)
+    → In r (map f l) → length r ≡ 32
 records-wide f l h r i = let y = in-map f r l i in ap length (y .2) ∙ h (y .0) (y .1)
 
-pub joined-length : (rs : List (List ℕ)) → ((r : List ℕ) → In r rs → length r ≡ 32) → length (joined rs) ≡ 32 * length rs
+pub joined-length : (rs : List (List ℕ)) → ((r : List ℕ) → In r rs → length r ≡ 32) → length (joined rs)
+    ≡ 32 * length rs
 joined-length [] h = refl
-joined-length (r ∷ rs) h = omega (arith, length-append r (joined rs), h r (inl refl), joined-length rs (λ x q. h x (inr q)))
+joined-length (r ∷ rs) h = omega (
+  arith,
+  length-append r (joined rs),
+  h r (inl refl),
+  joined-length rs
+      (λ x q. h x (inr q)),
+)
 
 pub table-empty : (n : ℕ) → tableOf n [] ≡ replicate n 0
 table-empty n = let e : n - 32 * 0 ≡ n = omega arith in ap (λ m. replicate m 0) e
 
 -- a table keeps its length, and "bytes after the last are zero"
-pub table-length : (n : ℕ) (rs : List (List ℕ)) → ((r : List ℕ) → In r rs → length r ≡ 32) → 32 * length rs ≤ n → length (tableOf n rs) ≡ n
+pub table-length : (n : ℕ) (rs : List (List ℕ)) → ((r : List ℕ) → In r rs → length r ≡ 32) → 32 * length rs ≤ n
+    → length (tableOf n rs) ≡ n
 table-length n rs h k = omega (
   arith,
   length-append (joined rs) (replicate (n - 32 * length rs) 0),
@@ -120,9 +132,15 @@ table-rest n rs h = drop-at (joined rs) (replicate (n - 32 * length rs) 0) (32 *
 
 -- a list made n long by zeros
 pub filled-length : (n : ℕ) (l : List ℕ) → length l ≤ n → length (filled n l) ≡ n
-filled-length n l h = omega (arith, length-append l (replicate (n - length l) 0), length-replicate {A = ℕ} (n - length l) 0)
+filled-length n l h = omega (
+  arith,
+  length-append l (replicate (n - length l) 0),
+  length-replicate {A =
+      ℕ} (n - length l) 0,
+)
 
 -- bytes that are all zero
 pub all-zero : (l : List ℕ) → all isZero l ≡ true → l ≡ replicate (length l) 0
 all-zero [] h = refl
-all-zero (x ∷ l) h = ap₂ _∷_ (eqb-true x 0 (and-l (isZero x) (all isZero l) h)) (all-zero l (and-r (isZero x) (all isZero l) h))
+all-zero (x ∷ l) h = ap₂ _∷_ (eqb-true x 0 (and-l (isZero x) (all isZero l) h))
+    (all-zero l (and-r (isZero x) (all isZero l) h))

@@ -1,4 +1,5 @@
--- What the checks of the input say of an accepted one: its starting shapes are shapes with six pointers, and no two are equal.
+-- What the checks of the input say of an accepted one: its starting shapes are shapes with six pointers, and no two
+-- are equal.
 use Prim.Native.Nat.{_%_, _*_, _/_, suc, zero, ℕ}
 use Rattle.model.proofs.records.Checks.{none-failed}
 use mathlib.Core.Path.{_∙_, _≡_, ap, refl, subst, sym}
@@ -45,44 +46,53 @@ Accepted n earlier (r ∷ rs) = (cond (isS r) (refusalS n r) (refusalH earlier r
 records-accepted : (n i : ℕ) (earlier rs : List (List ℕ)) → badRecord n i earlier rs ≡ none → Accepted n earlier rs
 records-accepted n i earlier [] e = tt
 records-accepted n i earlier (r ∷ rs) e =
-    by-refusal (cond (isS r) (refusalS n r) (refusalH earlier r)) refl (λ z. records-accepted n (suc i) (r ∷ earlier) rs z)
+    by-refusal (cond (isS r) (refusalS n r) (refusalH earlier r)) refl
+    (λ z. records-accepted n (suc i) (r ∷ earlier) rs z)
   where
     by-refusal : (m : ℕ) → cond (isS r) (refusalS n r) (refusalH earlier r) ≡ m
         → (badRecord n (suc i) (r ∷ earlier) rs ≡ none → Accepted n (r ∷ earlier) rs) → Accepted n earlier (r ∷ rs)
     by-refusal zero q rec = (q, rec (rw (q, badRecord) at e))
-    by-refusal (suc m) q rec = let z : badRecord n i earlier (r ∷ rs) ≡ some (refusal (suc m) i) = rw (q, badRecord) in some-none (sym e ∙ z)
+    by-refusal (suc m) q rec = let z : badRecord n i earlier (r ∷ rs) ≡ some (refusal (suc m) i) =
+        rw (q, badRecord) in some-none (sym e ∙ z)
 
-later-accepted : (n m : ℕ) (earlier rs : List (List ℕ)) → Accepted n earlier rs → (e : List (List ℕ)) × Accepted n e (drop m rs)
+later-accepted : (n m : ℕ) (earlier rs : List (List ℕ)) → Accepted n earlier rs → (e : List (List ℕ))
+    × Accepted n e (drop m rs)
 later-accepted n zero earlier rs a = (earlier, a)
 later-accepted n (suc m) earlier [] a = (earlier, a)
 later-accepted n (suc m) earlier (r ∷ rs) a = later-accepted n m (r ∷ earlier) rs (a .1)
 
 -- no later record equals an earlier one
-not-again : (n : ℕ) (earlier rs : List (List ℕ)) (x y : List ℕ) → Accepted n earlier rs → all isH rs ≡ true → In x earlier → In y rs → y ≡ x → ⊥
+not-again : (n : ℕ) (earlier rs : List (List ℕ)) (x y : List ℕ) → Accepted n earlier rs → all isH rs ≡ true
+    → In x earlier → In y rs → y ≡ x → ⊥
 not-again n earlier [] x y a h i j e = j
 not-again n earlier (r ∷ rs) x y a h i (inl p) e =
     let q = rw (not-both r (and-l (isH r) (all isH rs) h)) at (a .0) in
     let z = accepted-h earlier r q .2 in
     let w : In r earlier = subst (λ v. In v earlier) (sym e ∙ p) i in
     clash (any-in (sameList eqb r) earlier r w (same-bytes-refl r)) z
-not-again n earlier (r ∷ rs) x y a h i (inr j) e = not-again n (r ∷ earlier) rs x y (a .1) (and-r (isH r) (all isH rs) h) (inr i) j e
+not-again n earlier (r ∷ rs) x y a h i (inr j) e =
+    not-again n (r ∷ earlier) rs x y (a .1) (and-r (isH r) (all isH rs) h) (inr i) j e
 
-good-h : (n : ℕ) (earlier rs : List (List ℕ)) → Accepted n earlier rs → all isH rs ≡ true → ((r : List ℕ) → In r rs → length r ≡ 32) → (r : List ℕ)
+good-h : (n : ℕ) (earlier rs : List (List ℕ)) → Accepted n earlier rs → all isH rs ≡ true
+    → ((r : List ℕ) → In r rs → length r ≡ 32) → (r : List ℕ)
     → In r rs → GoodH r
 good-h n earlier [] a h w r i = absurd i
 good-h n earlier (x ∷ rs) a h w r (inl e) =
     let q = accepted-h earlier x (rw (not-both x (and-l (isH x) (all isH rs) h)) at (a .0)) in
     subst GoodH (sym e) (record { wide = w x (inl refl); isLayout = q .0; isCanonical = q .1 })
-good-h n earlier (x ∷ rs) a h w r (inr i) = good-h n (x ∷ earlier) rs (a .1) (and-r (isH x) (all isH rs) h) (λ z j. w z (inr j)) r i
+good-h n earlier (x ∷ rs) a h w r (inr i) = good-h n (x ∷ earlier) rs (a .1) (and-r (isH x) (all isH rs) h)
+    (λ z j. w z (inr j)) r i
 
-distinct-h : (n : ℕ) (earlier rs : List (List ℕ)) → Accepted n earlier rs → all isH rs ≡ true → ((r : List ℕ) → In r rs → GoodH r) → Distinct (map shapeOf rs)
+distinct-h : (n : ℕ) (earlier rs : List (List ℕ)) → Accepted n earlier rs → all isH rs ≡ true
+    → ((r : List ℕ) → In r rs → GoodH r) → Distinct (map shapeOf rs)
 distinct-h n earlier [] a h g = tt
 distinct-h n earlier (x ∷ rs) a h g = (
   (λ i. let r = in-map shapeOf (shapeOf x) rs i in
       let gx = g x (inl refl) in
       let gy = g (r .0) (inr (r .1)) in
       not-again n (x ∷ earlier) rs x (r .0) (a .1) (and-r (isH x) (all isH rs) h) (inl refl) (r .1)
-      (sym (shape-record-back (r .0) (gy .wide) (gy .isLayout)) ∙ ap shapeRecord (sym (r .2)) ∙ shape-record-back x (gx .wide) (gx .isLayout))),
+      (sym (shape-record-back (r .0) (gy .wide) (gy .isLayout)) ∙ ap shapeRecord (sym (r .2))
+      ∙ shape-record-back x (gx .wide) (gx .isLayout))),
   distinct-h n (x ∷ earlier) rs (a .1) (and-r (isH x) (all isH rs) h) (λ z j. g z (inr j)),
 )
 
@@ -102,7 +112,8 @@ bad-good {x = x} {r = r} e = absurd (let z : _≡_ {A = ℕ} 0 1 = cc in omega a
 pub good-inj : {q r : Routine} → good q ≡ good r → q ≡ r
 good-inj {q} {r} e = cc
 
-records-good : (n : ℕ) (rs : List (List ℕ)) (r : Routine) → ((x : List ℕ) → In x rs → length x ≡ 32) → all isH (drop n rs) ≡ true
+records-good : (n : ℕ) (rs : List (List ℕ)) (r : Routine) → ((x : List ℕ) → In x rs → length x ≡ 32)
+    → all isH (drop n rs) ≡ true
     → checkRecords n rs ≡ good r → GoodStarts r
 records-good n rs r w h e = by-bad (badRecord n 0 [] rs) refl
   where
@@ -110,19 +121,22 @@ records-good n rs r w h e = by-bad (badRecord n 0 [] rs) refl
     by-bad (some x) q = bad-good (rw (q, checkRecords) at e)
     by-bad none q =
         let a = later-accepted n n [] rs (records-accepted n 0 [] rs q) in
-        let g : (x : List ℕ) → In x (drop n rs) → GoodH x = good-h n (a .0) (drop n rs) (a .1) h (λ x i. w x (in-drop x n rs i)) in
+        let g : (x : List ℕ) → In x (drop n rs) → GoodH x =
+        good-h n (a .0) (drop n rs) (a .1) h (λ x i. w x (in-drop x n rs i)) in
         let k = good-inj (rw (q, checkRecords) at e) in
         subst GoodStarts k (record {
           shapes = λ x i. let m = in-map shapeOf x (drop n rs) i in
               let z = g (m .0) (m .1) in
               subst (λ y. Canon y × (length (y .ptrs) ≡ 6)) (sym (m .2)) (
-                canonical-canon (shapeOf (m .0)) (test-closed (shapeOf (m .0)) (layout-closed (m .0) (z .wide) (z .isLayout))) (z .isCanonical),
+                canonical-canon (shapeOf (m .0))
+                    (test-closed (shapeOf (m .0)) (layout-closed (m .0) (z .wide) (z .isLayout))) (z .isCanonical),
                 layout-pointers (m .0) (z .wide) (z .isLayout),
               );
           distinct = distinct-h n (a .0) (drop n rs) (a .1) h g;
         })
 
-counts-good : (rs : List (List ℕ)) (r : Routine) → ((x : List ℕ) → In x rs → length x ≡ 32) → all isH (drop (count isS rs) rs) ≡ true
+counts-good : (rs : List (List ℕ)) (r : Routine) → ((x : List ℕ) → In x rs → length x ≡ 32)
+    → all isH (drop (count isS rs) rs) ≡ true
     → checkCounts rs ≡ good r → GoodStarts r
 counts-good rs r w h e = bool-case (between 1 64 (count isS rs))
     (λ a. let e1 = rw (a, checkCounts) at e in bool-case (between 1 16 (count isH rs))
@@ -130,7 +144,8 @@ counts-good rs r w h e = bool-case (between 1 64 (count isS rs))
     (λ b. bad-good (rw (b, checkCounts) at e1)))
     (λ a. bad-good (rw (a, checkCounts) at e))
 
-kinds-good : (rs : List (List ℕ)) (r : Routine) → ((x : List ℕ) → In x rs → length x ≡ 32) → checkKinds rs ≡ good r → GoodStarts r
+kinds-good : (rs : List (List ℕ)) (r : Routine) → ((x : List ℕ) → In x rs → length x ≡ 32) → checkKinds rs ≡ good r
+    → GoodStarts r
 kinds-good rs r w e = by-kind (badKind false 0 rs) refl
   where
     by-kind : (o : Option ℕ) → badKind false 0 rs ≡ o → GoodStarts r
@@ -146,4 +161,5 @@ check-good s r e = bool-case (eqb (length s) 0 || not (eqb (length s % 32) 0))
     (whole-part (or-false-r (eqb (length s) 0) (not (eqb (length s % 32) 0)) a))) (rw (a, check) at e))
   where
     whole-part : not (eqb (length s % 32) 0) ≡ false → length s ≡ 32 * (length s / 32)
-    whole-part h = bool-case (eqb (length s % 32) 0) (λ z. let m = eqb-true (length s % 32) 0 z in omega arith) (λ z. clash refl (sym (ap not z) ∙ h))
+    whole-part h = bool-case (eqb (length s % 32) 0) (λ z. let m = eqb-true (length s % 32) 0 z in omega arith)
+        (λ z. clash refl (sym (ap not z) ∙ h))

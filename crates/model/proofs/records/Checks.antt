@@ -26,7 +26,8 @@ others c cs k = and-r (leb 1 (c .number)) (all (λ (x : Row). leb 1 (x .number))
 pub failed-given : (cs : List Row) (m : ℕ) → firstFailed cs ≡ suc m → Given cs (suc m)
 failed-given [] m e = absurd (omega arith)
 failed-given (c ∷ cs) m e =
-    bool-case (c .passes) (λ p. inr (p, failed-given cs m (rw (p, firstFailed) at e))) (λ p. inl (rw (p, firstFailed) at e, p))
+    bool-case (c .passes) (λ p. inr (p, failed-given cs m (rw (p, firstFailed) at e)))
+    (λ p. inl (rw (p, firstFailed) at e, p))
 
 pub given-failed : (cs : List Row) (n : ℕ) → Given cs n → firstFailed cs ≡ n
 given-failed [] n g = absurd g
@@ -47,11 +48,13 @@ pass-none (c ∷ cs) p = rw (p .0, firstFailed) (pass-none cs (p .1))
 pub failed-before : (xs ys : List Row) (m : ℕ) → firstFailed xs ≡ suc m → firstFailed (xs ++ ys) ≡ suc m
 failed-before [] ys m e = absurd (omega arith)
 failed-before (c ∷ xs) ys m e =
-    bool-case (c .passes) (λ p. rw (p, firstFailed) (failed-before xs ys m (rw (p, firstFailed) at e))) (λ p. rw (p, firstFailed) (rw (p, firstFailed) at e))
+    bool-case (c .passes) (λ p. rw (p, firstFailed) (failed-before xs ys m (rw (p, firstFailed) at e)))
+    (λ p. rw (p, firstFailed) (rw (p, firstFailed) at e))
 
 pub failed-after : (xs ys : List Row) → Numbered xs → firstFailed xs ≡ 0 → firstFailed (xs ++ ys) ≡ firstFailed ys
 failed-after [] ys k e = refl
-failed-after (c ∷ xs) ys k e = let q = none-failed (c ∷ xs) k e in rw (q .0, firstFailed) (failed-after xs ys (others c xs k) (pass-none xs (q .1)))
+failed-after (c ∷ xs) ys k e = let q = none-failed (c ∷ xs) k e in
+    rw (q .0, firstFailed) (failed-after xs ys (others c xs k) (pass-none xs (q .1)))
 
 pub pass-before : (xs ys : List Row) → Pass (xs ++ ys) → Pass xs
 pass-before [] ys p = tt
@@ -89,10 +92,17 @@ positive-refused (suc n) p h e = ap (λ x. isRefused (refusal (suc n) x)) (sym e
 
 pub checked-by : (cs : List Row) (v : Verdict) → Numbered cs → v ≡ verdictBy (firstFailed cs) → CheckedBy cs v
 checked-by cs v k e = record {
-  accepts = (λ a. none-failed cs k (accepted-zero (firstFailed cs) (sym e ∙ a)), λ p. e ∙ ap verdictBy (pass-none cs p));
+  accepts = (
+    λ a. none-failed cs k (accepted-zero (firstFailed cs) (sym e ∙ a)),
+    λ p. e
+        ∙ ap verdictBy (pass-none cs p),
+  );
   refuses = λ n p. (
-    (λ r. let q = refused-number (firstFailed cs) n p (sym e ∙ r) in
-        (q .0, (let g : Given cs (firstFailed cs) = rw (q .1 .1) (failed-given cs (q .1 .0) (q .1 .1)) in rw (q .1 .2) at g))),
+    (λ r. let q = refused-number (firstFailed cs) n p (sym e ∙ r) in (
+      q .0,
+      (let g : Given cs (firstFailed cs) = rw (q .1 .1) (failed-given cs (q .1 .0) (q .1 .1)) in
+          rw (q .1 .2) at g),
+    )),
     λ g. e ∙ ap verdictBy (given-failed cs n (g .1)) ∙ positive-refused n p (given-positive cs n k (g .1)) (g .0),
   );
 }

@@ -12,7 +12,8 @@ use Rattle.model.proofs.records.Bytes.{filled-length, word-back}
 use Rattle.model.specs.Notions.{guardsOn, testOn, guardOn}
 use Rattle.model.proofs.lists.Logic.{and-true}
 
-guard-two : (gs : List Guard) (w : List ℕ) → guardBytes gs ++ w ≡ getD (guardBytes gs) 0 0 ∷ getD (guardBytes gs) 1 0 ∷ w
+guard-two : (gs : List Guard) (w : List ℕ) → guardBytes gs ++ w ≡ getD (guardBytes gs) 0 0 ∷ getD (guardBytes gs) 1 0
+    ∷ w
 guard-two [] w = refl
 guard-two (g ∷ gs) w = refl
 
@@ -21,10 +22,12 @@ updateBytes e = joined (map (λ u. twoBytes (updateCode u)) (e .updates))
 
 edge-bytes : (from to : ℕ) (e : Edge)
     → edgeRecord from to e
-    ≡ 0x45 ∷ e .branchNo ∷ from % 256 ∷ from / 256 ∷ to % 256 ∷ to / 256 ∷ getD (guardBytes (e .guards)) 0 0 ∷ getD (guardBytes (e .guards)) 1 0
+    ≡ 0x45 ∷ e .branchNo ∷ from % 256 ∷ from / 256 ∷ to % 256 ∷ to / 256 ∷ getD (guardBytes (e .guards)) 0 0
+    ∷ getD (guardBytes (e .guards)) 1 0
     ∷ filled 24 (updateBytes e)
 edge-bytes from to e =
-    ap (λ w. 0x45 ∷ e .branchNo ∷ from % 256 ∷ from / 256 ∷ to % 256 ∷ to / 256 ∷ w) (guard-two (e .guards) (filled 24 (updateBytes e)))
+    ap (λ w. 0x45 ∷ e .branchNo ∷ from % 256 ∷ from / 256 ∷ to % 256 ∷ to / 256 ∷ w)
+    (guard-two (e .guards) (filled 24 (updateBytes e)))
 
 updates-length : (us : List Update) → length (joined (map (λ u. twoBytes (updateCode u)) us)) ≡ 2 * length us
 updates-length [] = refl
@@ -32,7 +35,8 @@ updates-length (u ∷ us) = omega (arith, updates-length us)
 
 pub edge-length : (from to : ℕ) (e : Edge) → length (e .updates) ≤ 12 → length (edgeRecord from to e) ≡ 32
 edge-length from to e h =
-    let f : length (filled 24 (updateBytes e)) ≡ 24 = filled-length 24 (updateBytes e) (omega (arith, updates-length (e .updates))) in
+    let f : length (filled 24 (updateBytes e)) ≡ 24 =
+    filled-length 24 (updateBytes e) (omega (arith, updates-length (e .updates))) in
     ap length (edge-bytes from to e) ∙ omega arith
 
 pub edge-branch : (from to : ℕ) (e : Edge) → byte (edgeRecord from to e) 1 ≡ e .branchNo
@@ -65,14 +69,18 @@ pub edge-guards : (from to : ℕ) (e : Edge) (cs : List ℕ) → length (e .guar
     → guardsHold cs (guardsOf (edgeRecord from to e)) ≡ guardsOn (e .guards) cs
 edge-guards from to e cs h =
     and-true (guardHolds (byte (edgeRecord from to e) 6) (getD cs (byte (edgeRecord from to e) 7) 0))
-    ∙ ap₂ (λ g d. guardHolds g (getD cs d 0)) (edge-guard from to e) (edge-node from to e) ∙ guards-read (e .guards) cs h
+    ∙ ap₂ (λ g d. guardHolds g (getD cs d 0)) (edge-guard from to e) (edge-node from to e)
+    ∙ guards-read (e .guards) cs h
 
-word-skip : (a b : ℕ) (w : List ℕ) (j n : ℕ) → map (λ i. word (a ∷ b ∷ w) (2 * i)) (numbers (suc j) n) ≡ map (λ i. word w (2 * i)) (numbers j n)
+word-skip : (a b : ℕ) (w : List ℕ) (j n : ℕ) → map (λ i. word (a ∷ b ∷ w) (2 * i)) (numbers (suc j) n)
+    ≡ map (λ i. word w (2 * i)) (numbers j n)
 word-skip a b w j zero = refl
-word-skip a b w j (suc n) = ap₂ _∷_ (ap (word (a ∷ b ∷ w)) (let e : 2 * suc j ≡ suc (suc (2 * j)) = omega arith in e)) (word-skip a b w (suc j) n)
+word-skip a b w j (suc n) = ap₂ _∷_ (ap (word (a ∷ b ∷ w)) (let e : 2 * suc j ≡ suc (suc (2 * j)) = omega arith in e))
+    (word-skip a b w (suc j) n)
 
 words-back : (us : List Update) (z : List ℕ)
-    → map (λ i. word (joined (map (λ u. twoBytes (updateCode u)) us) ++ z) (2 * i)) (numbers 0 (length us)) ≡ map updateCode us
+    → map (λ i. word (joined (map (λ u. twoBytes (updateCode u)) us) ++ z) (2 * i)) (numbers 0 (length us))
+    ≡ map updateCode us
 words-back [] z = refl
 words-back (u ∷ us) z = ap₂ _∷_ (word-back (updateCode u))
     (word-skip _ _ (joined (map (λ u. twoBytes (updateCode u)) us) ++ z) 0 (length us) ∙ words-back us z)
@@ -83,8 +91,10 @@ word-eight a b c d e f g h w n =
     ap (word (a ∷ b ∷ c ∷ d ∷ e ∷ f ∷ g ∷ h ∷ w)) q
 
 -- the updates of an edge, for its new nodes
-pub edge-updates : (from to : ℕ) (e : Edge) → updatesOf (length (e .updates)) (edgeRecord from to e) ≡ map updateCode (e .updates)
+pub edge-updates : (from to : ℕ) (e : Edge) → updatesOf (length (e .updates)) (edgeRecord from to e)
+    ≡ map updateCode (e .updates)
 edge-updates from to e =
     ap (updatesOf (length (e .updates))) (edge-bytes from to e)
-    ∙ ap (λ f. map f (numbers 0 (length (e .updates)))) (fun-ext (λ i. word-eight _ _ _ _ _ _ _ _ (filled 24 (updateBytes e)) (2 * i)))
+    ∙ ap (λ f. map f (numbers 0 (length (e .updates))))
+    (fun-ext (λ i. word-eight _ _ _ _ _ _ _ _ (filled 24 (updateBytes e)) (2 * i)))
     ∙ words-back (e .updates) (replicate (24 - length (updateBytes e)) 0)

@@ -13,7 +13,8 @@ use Rattle.model.specs.Records.{isZero, opCount, opOf, opsBy}
 use Rattle.model.proofs.lists.Lists.{getD-map}
 use Rattle.model.proofs.lists.Numbers.{at-number, length-numbers}
 
-pub each-op : {A : Type 0} (f : Op → A) (g : ℕ → A) (u w : ℕ) → map f (opsBy u w) ≡ map g (numbers 0 opCount) → (op : ℕ) → op < opCount
+pub each-op : {A : Type 0} (f : Op → A) (g : ℕ → A) (u w : ℕ) → map f (opsBy u w) ≡ map g (numbers 0 opCount)
+    → (op : ℕ) → op < opCount
     → f (opOf op u w) ≡ g op
 each-op f g u w e op h =
     sym (List·getD-map f (opsBy u w) op stop) ∙ ap (λ l. getD l op (f stop)) e

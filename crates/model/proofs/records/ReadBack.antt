@@ -31,12 +31,16 @@ closed-small h null k = tt
 closed-small h undef k = tt
 
 canon-count : (h : Heap) → Canon h → length (segments h) ≡ length (h .slots)
-canon-count h C = sym (length-map (segments h) (λ (s : Seg). nodeSlot (segments h) (next h (last s)))) ∙ ap (λ (g : Heap). length (g .slots)) (canon-fold h C)
+canon-count h C = sym (length-map (segments h) (λ (s : Seg). nodeSlot (segments h) (next h (last s))))
+    ∙ ap (λ (g : Heap). length (g .slots)) (canon-fold h C)
 
 canon-used : (h : Heap) → Canon h → (n : ℕ) → n < length (h .slots) → Used (next h) n
 canon-used h C n q =
-    let k : n < length (segments h) = omega (arith, canon-count h C) in
-    (nodeVal (segments h) (end h (C .closed) (C .kept) n k .0), ap (λ (g : Heap). next g n) (sym (canon-fold h C)) ∙ slot-at h (C .closed) (C .kept) n k)
+    let k : n < length (segments h) = omega (arith, canon-count h C) in (
+      nodeVal (segments h) (end h (C .closed) (C .kept) n k .0),
+      ap (λ (g : Heap). next g n) (sym (canon-fold h C))
+          ∙ slot-at h (C .closed) (C .kept) n k,
+    )
 
 -- a shape can be written
 pub canon-writable : (h : Heap) → Canon h → length (h .ptrs) ≡ 6 → Writable h
@@ -47,7 +51,8 @@ canon-writable h C p = record {
   nexts = λ s q.
       let r = in-getD (h .slots) unused s q in
       let u = canon-used h C (r .0) (r .1) in
-      subst (SmallSlot (length (h .slots))) (sym (u .1) ∙ r .2) (closed-small h (u .0) (C .closed .1 (r .0) (u .0) (u .1)));
+      subst (SmallSlot (length (h .slots))) (sym (u .1) ∙ r .2)
+      (closed-small h (u .0) (C .closed .1 (r .0) (u .0) (u .1)));
 }
 
 small-used : (k : ℕ) (s : Slot) → SmallSlot k s → inUse s ≡ true
@@ -75,8 +80,10 @@ module _ (h : Heap) (W : Writable h) where
 
 -- ---- shapes and locations
 
-body-length : (h : Heap) → length (map valByte (h .ptrs) ++ map slotByte (h .slots)) ≡ length (h .ptrs) + length (h .slots)
-body-length h = length-append (map valByte (h .ptrs)) (map slotByte (h .slots)) ∙ ap₂ _+_ (length-map (h .ptrs) valByte) (length-map (h .slots) slotByte)
+body-length : (h : Heap) → length (map valByte (h .ptrs) ++ map slotByte (h .slots))
+    ≡ length (h .ptrs) + length (h .slots)
+body-length h = length-append (map valByte (h .ptrs)) (map slotByte (h .slots))
+    ∙ ap₂ _+_ (length-map (h .ptrs) valByte) (length-map (h .slots) slotByte)
 
 bytes-length : (h : Heap) → Writable h → length (shapeBytes h) ≡ 29
 bytes-length h W =
@@ -97,11 +104,14 @@ shape-back a b c h W =
     let few = W .few in
     let p : map valOf (take 6 ((ps ++ ss) ++ z)) ≡ h .ptrs =
     ap (map valOf) (ap (take 6) (append-assoc ps ss z) ∙ take-at ps (ss ++ z) 6 lp)
-    ∙ map-back valByte valOf (h .ptrs) (λ v q. val-back v (small-up (length (h .slots)) 0xfe v (omega arith) (W .pointers v q))) in
+    ∙ map-back valByte valOf (h .ptrs) (λ v q. val-back v (small-up (length (h .slots)) 0xfe v (omega arith)
+    (W .pointers v q))) in
     let s : map (λ x. holds (valOf x)) (take (length (h .slots)) (drop 6 ((ps ++ ss) ++ z))) ≡ h .slots =
-    ap (λ l. map (λ x. holds (valOf x)) (take (length (h .slots)) l)) (ap (drop 6) (append-assoc ps ss z) ∙ drop-at ps (ss ++ z) 6 lp)
+    ap (λ l. map (λ x. holds (valOf x)) (take (length (h .slots)) l)) (ap (drop 6) (append-assoc ps ss z)
+    ∙ drop-at ps (ss ++ z) 6 lp)
     ∙ ap (map (λ x. holds (valOf x))) (take-at ss z (length (h .slots)) (length-map (h .slots) slotByte))
-    ∙ map-back slotByte (λ x. holds (valOf x)) (h .slots) (λ x q. slot-back (length (h .slots)) x (omega arith) (W .nexts x q)) in
+    ∙ map-back slotByte (λ x. holds (valOf x)) (h .slots) (λ x q. slot-back (length (h .slots)) x (omega arith)
+    (W .nexts x q)) in
     λ i. record { ptrs = p i; slots = s i }
 
 pub shape-length : (h : Heap) → Writable h → length (shapeRecord h) ≡ 32
@@ -157,7 +167,11 @@ fault-injective leak leak e = refl
 
 -- different locations have different records
 pub location-injective : (l m : Loc) → WritableLoc l → WritableLoc m → locRecord l ≡ locRecord m → l ≡ m
-location-injective (at s h) (at t g) W X e = ap₂ at (ap (λ r. byte r 1) e) (sym (location-shape s h W) ∙ ap shapeOf e ∙ location-shape t g X)
-location-injective (at s h) (failed t g) W X e = absurd (let z : 0 ≡ faultNumber g = ap (λ r. byte r 2) e in omega (arith, fault-positive g))
-location-injective (failed s f) (at t g) W X e = absurd (let z : faultNumber f ≡ 0 = ap (λ r. byte r 2) e in omega (arith, fault-positive f))
-location-injective (failed s f) (failed t g) W X e = ap₂ failed (ap (λ r. byte r 1) e) (fault-injective f g (ap (λ r. byte r 2) e))
+location-injective (at s h) (at t g) W X e = ap₂ at (ap (λ r. byte r 1) e) (sym (location-shape s h W) ∙ ap shapeOf e
+    ∙ location-shape t g X)
+location-injective (at s h) (failed t g) W X e = absurd (let z : 0 ≡ faultNumber g = ap (λ r. byte r 2) e in
+    omega (arith, fault-positive g))
+location-injective (failed s f) (at t g) W X e = absurd (let z : faultNumber f ≡ 0 = ap (λ r. byte r 2) e in
+    omega (arith, fault-positive f))
+location-injective (failed s f) (failed t g) W X e =
+    ap₂ failed (ap (λ r. byte r 1) e) (fault-injective f g (ap (λ r. byte r 2) e))

@@ -1,4 +1,5 @@
--- The refusals of an input are those of 01's table, each at its place: what is wrong with a refused input, and that nothing is with an accepted one.
+-- The refusals of an input are those of 01's table, each at its place: what is wrong with a refused input, and that
+-- nothing is with an accepted one.
 use Prim.Native.Nat.{_+_, _<_, _≤_, suc, zero, ℕ}
 use Rattle.model.proofs.records.Checks.{failed-given}
 use Rattle.model.specs.Notions.{Given}
@@ -28,14 +29,16 @@ wrongAfter after rs k = not (isH (getD rs k [])) && not (isS (getD rs k []) && n
 
 abbrev KindCases : Bool → ℕ → List (List ℕ) → Type 0
 KindCases after i rs =
-    ((k : ℕ) × (badKind after i rs ≡ some (i + k)) × (k < length rs) × (wrongAfter after rs k ≡ true) × ((m : ℕ) → m < k → wrongAfter after rs m ≡ false))
+    ((k : ℕ) × (badKind after i rs ≡ some (i + k)) × (k < length rs) × (wrongAfter after rs k ≡ true)
+    × ((m : ℕ) → m < k → wrongAfter after rs m ≡ false))
     ⊎ ((badKind after i rs ≡ none) × ((k : ℕ) → k < length rs → wrongAfter after rs k ≡ false))
 
 or-true : (b : Bool) → b || true ≡ true
 or-true b = or-r b true refl
 
 -- the first record is of a right kind
-kind-more : (after next : Bool) (i : ℕ) (r : List ℕ) (rs : List (List ℕ)) → badKind after i (r ∷ rs) ≡ badKind next (suc i) rs
+kind-more : (after next : Bool) (i : ℕ) (r : List ℕ) (rs : List (List ℕ)) → badKind after i (r ∷ rs)
+    ≡ badKind next (suc i) rs
     → wrongAfter after (r ∷ rs) 0 ≡ false → ((k : ℕ) → wrongAfter after (r ∷ rs) (suc k) ≡ wrongAfter next rs k)
     → KindCases next (suc i) rs → KindCases after i (r ∷ rs)
 kind-more after next i r rs e z h (inl (k, q, lt, w, f)) =
@@ -53,11 +56,19 @@ kind-more after next i r rs e z h (inr (q, f)) = inr (e ∙ q, λ k l. by-place 
 kind-cases : (after : Bool) (i : ℕ) (rs : List (List ℕ)) → KindCases after i rs
 kind-cases after i [] = inr (refl, λ k l. absurd (omega arith))
 kind-cases after i (r ∷ rs) = bool-case (isH r)
-    (λ h. kind-more after true i r rs (rw (h, badKind)) (rw h) (λ k. rw (h, or-true after)) (kind-cases true (suc i) rs))
+    (λ h. kind-more after true i r rs (rw (h, badKind)) (rw h) (λ k. rw (h, or-true after))
+    (kind-cases true (suc i) rs))
     (λ h. bool-case (isS r && not after)
     (λ s. let a : after ≡ false = not-false after (and-r (isS r) (not after) s) in
-    kind-more after false i r rs (rw (h, badKind) (rw (s, badKind))) (rw (h, a, and-l (isS r) (not after) s)) (λ k. rw (h, a)) (kind-cases false (suc i) rs))
-    (λ s. inl (0, rw (h, badKind) (rw (s, badKind) (ap some (omega arith))), omega arith, rw (h, or-false after, s), λ m l. absurd (omega arith))))
+    kind-more after false i r rs (rw (h, badKind) (rw (s, badKind))) (rw (h, a, and-l (isS r) (not after) s))
+    (λ k. rw (h, a)) (kind-cases false (suc i) rs))
+    (λ s. inl (
+      0,
+      rw (h, badKind) (rw (s, badKind) (ap some (omega arith))),
+      omega arith,
+      rw (h, or-false after, s),
+      λ m l. absurd (omega arith),
+    )))
   where
     not-false : (b : Bool) → not b ≡ true → b ≡ false
     not-false true e = clash e refl
@@ -66,11 +77,13 @@ kind-cases after i (r ∷ rs) = bool-case (isH r)
 -- ---- the first record that is refused
 
 abbrev refusedAfter : ℕ → List (List ℕ) → List (List ℕ) → ℕ → ℕ
-refusedAfter n earlier rs k = cond (isS (getD rs k [])) (refusalS n (getD rs k [])) (refusalH (take k rs ++ earlier) (getD rs k []))
+refusedAfter n earlier rs k = cond (isS (getD rs k [])) (refusalS n (getD rs k []))
+    (refusalH (take k rs ++ earlier) (getD rs k []))
 
 abbrev RecordCases : ℕ → ℕ → List (List ℕ) → List (List ℕ) → Type 0
 RecordCases n i earlier rs =
-    ((k m : ℕ) × (badRecord n i earlier rs ≡ some (refusal (suc m) (i + k))) × (k < length rs) × (refusedAfter n earlier rs k ≡ suc m)
+    ((k m : ℕ) × (badRecord n i earlier rs ≡ some (refusal (suc m) (i + k))) × (k < length rs)
+    × (refusedAfter n earlier rs k ≡ suc m)
     × ((j : ℕ) → j < k → refusedAfter n earlier rs j ≡ 0))
     ⊎ ((badRecord n i earlier rs ≡ none) × ((k : ℕ) → k < length rs → refusedAfter n earlier rs k ≡ 0))
 
@@ -83,7 +96,8 @@ any-swap p (y ∷ l) m x = ap (λ z. p y || z) (any-swap p l m x) ∙ swap (p y)
     swap false b c = refl
 
 -- the order of the earlier records does not matter
-earlier-same : (n : ℕ) (earlier rs : List (List ℕ)) (r : List ℕ) (k : ℕ) → refusedAfter n earlier (r ∷ rs) (suc k) ≡ refusedAfter n (r ∷ earlier) rs k
+earlier-same : (n : ℕ) (earlier rs : List (List ℕ)) (r : List ℕ) (k : ℕ) → refusedAfter n earlier (r ∷ rs) (suc k)
+    ≡ refusedAfter n (r ∷ earlier) rs k
 earlier-same n earlier rs r k =
     let x = getD rs k [] in
     ap (λ (b : Bool). cond (isS x) (refusalS n x)
@@ -92,10 +106,20 @@ earlier-same n earlier rs r k =
 
 record-cases : (n i : ℕ) (earlier rs : List (List ℕ)) → RecordCases n i earlier rs
 record-cases n i earlier [] = inr (refl, λ k l. absurd (omega arith))
-record-cases n i earlier (r ∷ rs) = by-first (cond (isS r) (refusalS n r) (refusalH earlier r)) refl (record-cases n (suc i) (r ∷ earlier) rs)
+record-cases n i earlier (r ∷ rs) = by-first (cond (isS r) (refusalS n r) (refusalH earlier r)) refl
+    (record-cases n (suc i) (r ∷ earlier) rs)
   where
-    by-first : (m : ℕ) → cond (isS r) (refusalS n r) (refusalH earlier r) ≡ m → RecordCases n (suc i) (r ∷ earlier) rs → RecordCases n i earlier (r ∷ rs)
-    by-first (suc m) e c = inl (0, m, rw (e, badRecord) (ap (λ p. some (refusal (suc m) p)) (omega arith)), omega arith, e, λ j l. absurd (omega arith))
+    by-first : (m : ℕ) → cond (isS r) (refusalS n r) (refusalH earlier r) ≡ m → RecordCases n (suc i) (r ∷ earlier) rs
+        → RecordCases n i earlier (r ∷ rs)
+    by-first (suc m) e c = inl (
+      0,
+      m,
+      rw (e, badRecord) (ap (λ p. some (refusal (suc m) p)) (omega arith)),
+      omega
+          arith,
+      e,
+      λ j l. absurd (omega arith),
+    )
     by-first zero e (inl (k, m, q, lt, w, f)) =
         inl (
           suc k,
@@ -118,7 +142,8 @@ record-cases n i earlier (r ∷ rs) = by-first (cond (isS r) (refusalS n r) (ref
 -- ---- the whole check
 
 none-earlier : (rs : List (List ℕ)) (k : ℕ) → recordRefusal rs k ≡ refusedAfter (count isS rs) [] rs k
-none-earlier rs k = ap (λ l. cond (isS (getD rs k [])) (refusalS (count isS rs) (getD rs k [])) (refusalH l (getD rs k []))) (sym (append-nil (take k rs)))
+none-earlier rs k = ap (λ l. cond (isS (getD rs k [])) (refusalS (count isS rs) (getD rs k []))
+    (refusalH l (getD rs k []))) (sym (append-nil (take k rs)))
 
 -- a refused input and what is wrong with it, or an accepted one with nothing wrong
 abbrev pub CheckCases : List ℕ → Type 0
@@ -136,7 +161,8 @@ module _ (s : List ℕ) (a : noRecords s ≡ false) where
   kinds-counts : badKind false 0 (recordsOf s) ≡ none → check s ≡ checkCounts (recordsOf s)
   kinds-counts q = check-kinds ∙ rw (q, checkKinds)
 
-  module _ (q : badKind false 0 (recordsOf s) ≡ none) (f : (k : ℕ) → k < length (recordsOf s) → wrongKind (recordsOf s) k ≡ false) where
+  module _ (q : badKind false 0 (recordsOf s) ≡ none) (f : (k : ℕ) → k < length (recordsOf s)
+      → wrongKind (recordsOf s) k ≡ false) where
     counts-records : between 1 64 (count isS (recordsOf s)) ≡ true → between 1 16 (count isH (recordsOf s)) ≡ true
         → check s ≡ checkRecords (count isS (recordsOf s)) (recordsOf s)
     counts-records b c = kinds-counts q ∙ rw (b, checkCounts) (rw (c, checkCounts))
@@ -146,12 +172,21 @@ module _ (s : List ℕ) (a : noRecords s ≡ false) where
     by-record b c (inl (i, m, p, lt, w, g)) = inl (
       refusal (suc m) (0 + i),
       counts-records b c ∙ rw (p, checkRecords),
-      bad-record m i (ap (refusal (suc m)) (zero-add i)) a f b c lt (λ j l. none-earlier (recordsOf s) j ∙ g j l) (none-earlier (recordsOf s) i ∙ w),
+      bad-record m i (ap (refusal (suc m)) (zero-add i)) a f b c lt (λ j l. none-earlier (recordsOf s) j ∙ g j l)
+          (none-earlier (recordsOf s) i ∙ w),
     )
     by-record b c (inr (p, g)) = inr (
       routineOf (recordsOf s),
       counts-records b c ∙ rw (p, checkRecords),
-      record { wide = a; kinds = f; statements = b; shapes = c; records = λ j l. none-earlier (recordsOf s) j ∙ g j l; isRead = refl },
+      record {
+        wide = a;
+        kinds = f;
+        statements = b;
+        shapes = c;
+        records = λ j l. none-earlier (recordsOf s) j
+            ∙ g j l;
+        isRead = refl;
+      },
     )
 
     by-counts : CheckCases s
@@ -162,11 +197,17 @@ module _ (s : List ℕ) (a : noRecords s ≡ false) where
         (λ b. inl (refusal 2 0, kinds-counts q ∙ rw (b, checkCounts), bad-statements refl a f b))
 
   by-kind : KindCases false 0 (recordsOf s) → CheckCases s
-  by-kind (inl (i, q, lt, w, f)) = inl (refusal 4 (0 + i), check-kinds ∙ rw (q, checkKinds), bad-kind i (ap (refusal 4) (zero-add i)) a lt f w)
+  by-kind (inl (i, q, lt, w, f)) = inl (
+    refusal 4 (0 + i),
+    check-kinds
+        ∙ rw (q, checkKinds),
+    bad-kind i (ap (refusal 4) (zero-add i)) a lt f w,
+  )
   by-kind (inr (q, f)) = by-counts q f
 
 pub check-cases : (s : List ℕ) → CheckCases s
-check-cases s = bool-case (noRecords s) (λ a. inl (refusal 1 0, no-records s a, bad-length refl a)) (λ a. by-kind s a (kind-cases false 0 (recordsOf s)))
+check-cases s = bool-case (noRecords s) (λ a. inl (refusal 1 0, no-records s a, bad-length refl a))
+    (λ a. by-kind s a (kind-cases false 0 (recordsOf s)))
 
 bad-inj : {x y : Refusal} → bad x ≡ bad y → x ≡ y
 bad-inj {x} {y} e = cc
@@ -181,7 +222,8 @@ refused-input s x e = ⊎-elim
 pub accepted-input : (s : List ℕ) (r : Routine) → check s ≡ good r → GoodInput s r
 accepted-input s r e = ⊎-elim
     (λ (p : (x : Refusal) × (check s ≡ bad x) × BadInput s x). bad-good (sym (p .1) ∙ e))
-    (λ (p : (q : Routine) × (check s ≡ good q) × GoodInput s q). subst (GoodInput s) (good-inj (sym (p .1) ∙ e)) (p .2)) (check-cases s)
+    (λ (p : (q : Routine) × (check s ≡ good q) × GoodInput s q). subst (GoodInput s) (good-inj (sym (p .1) ∙ e))
+    (p .2)) (check-cases s)
 
 -- an input is not both
 pub bad-not-good : (s : List ℕ) (x : Refusal) (r : Routine) → BadInput s x → GoodInput s r → ⊥
@@ -195,7 +237,8 @@ bad-not-good s x r (bad-record n i e a f b c lt g w) G = let z = G .records i lt
 pub good-accepted : (s : List ℕ) (r : Routine) → GoodInput s r → check s ≡ good r
 good-accepted s r G = ⊎-elim
     (λ (p : (x : Refusal) × (check s ≡ bad x) × BadInput s x). absurd (bad-not-good s (p .0) r (p .2) G))
-    (λ (p : (q : Routine) × (check s ≡ good q) × GoodInput s q). p .1 ∙ ap good (p .2 .isRead ∙ sym (G .isRead))) (check-cases s)
+    (λ (p : (q : Routine) × (check s ≡ good q) × GoodInput s q). p .1 ∙ ap good (p .2 .isRead ∙ sym (G .isRead)))
+    (check-cases s)
 
 -- ---- numbers and places
 
@@ -219,14 +262,16 @@ shape-number earlier r m e = by-check (failed-given (checksH earlier r) m e)
 
 -- 5 to 7 are an S record's, 8 to 10 an H record's
 pub record-number : (rs : List (List ℕ)) (i m : ℕ) → recordRefusal rs i ≡ suc m
-    → ((isS (getD rs i []) ≡ true) × (5 ≤ suc m) × (suc m ≤ 7)) ⊎ ((isS (getD rs i []) ≡ false) × (8 ≤ suc m) × (suc m ≤ 10))
+    → ((isS (getD rs i []) ≡ true) × (5 ≤ suc m) × (suc m ≤ 7)) ⊎ ((isS (getD rs i []) ≡ false) × (8 ≤ suc m)
+    × (suc m ≤ 10))
 record-number rs i m e = bool-case (isS (getD rs i []))
     (λ a. let z = statement-number (count isS rs) (getD rs i []) m (rw a at e) in inl (a, z .0, z .1))
     (λ a. let z = shape-number (take i rs) (getD rs i []) m (rw a at e) in inr (a, z .0, z .1))
 
 -- the number is 1 to 10; for 1, 2 and 3 the place is 0, for the others it is the number of a record
 pub bad-number : (s : List ℕ) (x : Refusal) → BadInput s x
-    → (1 ≤ x .number) × (x .number ≤ 10) × (x .number ≤ 3 → x .place ≡ 0) × (4 ≤ x .number → x .place < length (recordsOf s))
+    → (1 ≤ x .number) × (x .number ≤ 10) × (x .number ≤ 3 → x .place ≡ 0)
+    × (4 ≤ x .number → x .place < length (recordsOf s))
 bad-number s x (bad-length e a) = rw e (omega arith, omega arith, (λ l. refl), λ l. absurd (omega arith))
 bad-number s x (bad-kind i e a lt f w) = rw e (omega arith, omega arith, (λ l. absurd (omega arith)), λ l. lt)
 bad-number s x (bad-statements e a f b) = rw e (omega arith, omega arith, (λ l. refl), λ l. absurd (omega arith))

@@ -43,7 +43,8 @@ laid-of a b c k w l h =
     let few = leb-true k 12 (and-r t3 (leb k 12) h4) in
     let e : 10 + k ≡ suc (suc (suc (suc (6 + k)))) = omega arith in
     let n : length (drop (6 + k) w) ≡ 22 - k = omega (arith, length-drop (6 + k) w) in (
-      (λ i. eqb-true a 0x48 (and-l t1 (isZero b) h2) i ∷ eqb-true b 0 (and-r t1 (isZero b) h2) i ∷ eqb-true c 0 (and-r t2 (isZero c) h3) i ∷ k ∷ w),
+      (λ i. eqb-true a 0x48 (and-l t1 (isZero b) h2) i ∷ eqb-true b 0 (and-r t1 (isZero b) h2) i
+          ∷ eqb-true c 0 (and-r t2 (isZero c) h3) i ∷ k ∷ w),
       record {
         long = l;
         few = few;
@@ -52,7 +53,8 @@ laid-of a b c k w l h =
       },
     )
 
-laid-out : (r : List ℕ) → length r ≡ 32 → layoutH r ≡ true → (w : List ℕ) × (r ≡ 0x48 ∷ 0 ∷ 0 ∷ byte r 3 ∷ w) × Laid (byte r 3) w
+laid-out : (r : List ℕ) → length r ≡ 32 → layoutH r ≡ true → (w : List ℕ) × (r ≡ 0x48 ∷ 0 ∷ 0 ∷ byte r 3 ∷ w)
+    × Laid (byte r 3) w
 laid-out [] l h = absurd (omega arith)
 laid-out (a ∷ []) l h = absurd (omega arith)
 laid-out (a ∷ b ∷ []) l h = absurd (omega arith)
@@ -63,17 +65,21 @@ module _ (k : ℕ) (w : List ℕ) (L : Laid k w) where
   nexts-long : length (take k (drop 6 w)) ≡ k
   nexts-long = length-take-le k (drop 6 w) (omega (arith, length-drop 6 w))
 
-  body-back : map valByte (map valOf (take 6 w)) ++ map slotByte (map (λ b. holds (valOf b)) (take k (drop 6 w))) ≡ take (6 + k) w
+  body-back : map valByte (map valOf (take 6 w)) ++ map slotByte (map (λ b. holds (valOf b)) (take k (drop 6 w)))
+      ≡ take (6 + k) w
   body-back =
-      ap₂ _++_ (map-back valOf valByte (take 6 w) (λ b q. byte-back b)) (map-back (λ b. holds (valOf b)) slotByte (take k (drop 6 w)) (λ b q. byte-back b))
+      ap₂ _++_ (map-back valOf valByte (take 6 w) (λ b q. byte-back b))
+      (map-back (λ b. holds (valOf b)) slotByte (take k (drop 6 w)) (λ b q. byte-back b))
       ∙ sym (take-add 6 k w)
 
   laid-back : shapeRecord (shapeOf (0x48 ∷ 0 ∷ 0 ∷ k ∷ w)) ≡ 0x48 ∷ 0 ∷ 0 ∷ k ∷ w
   laid-back =
       let n : 28 - length (take (6 + k) w) ≡ 22 - k = omega (arith, length-take-le (6 + k) w (omega arith)) in
       let f : filled 28 (take (6 + k) w) ≡ w =
-      ap (λ m. take (6 + k) w ++ replicate m 0) n ∙ ap (λ l. take (6 + k) w ++ l) (sym (L .zeros)) ∙ take-append-drop (6 + k) w in
-      λ i. 0x48 ∷ 0 ∷ 0 ∷ (length-map (take k (drop 6 w)) (λ b. holds (valOf b)) ∙ nexts-long) i ∷ (ap (filled 28) body-back ∙ f) i
+      ap (λ m. take (6 + k) w ++ replicate m 0) n ∙ ap (λ l. take (6 + k) w ++ l) (sym (L .zeros))
+      ∙ take-append-drop (6 + k) w in
+      λ i. 0x48 ∷ 0 ∷ 0 ∷ (length-map (take k (drop 6 w)) (λ b. holds (valOf b)) ∙ nexts-long) i
+      ∷ (ap (filled 28) body-back ∙ f) i
 
   value-ok : (b : ℕ) → In b (take 6 w ++ take k (drop 6 w)) → valueByte k b ≡ true
   value-ok b q = all-in (valueByte k) (take (6 + k) w) b (L .values) (subst (In b) (sym (take-add 6 k w)) q)
@@ -104,20 +110,24 @@ module _ (h : Heap) (W : Writable h) where
     W .six,
   )
 
-  pub values-pass : all (valueByte (length (h .slots))) (take (6 + length (h .slots)) (filled 28 (map valByte (h .ptrs) ++ map slotByte (h .slots)))) ≡ true
+  pub values-pass : all (valueByte (length (h .slots)))
+      (take (6 + length (h .slots)) (filled 28 (map valByte (h .ptrs) ++ map slotByte (h .slots)))) ≡ true
   values-pass =
       let k = length (h .slots) in
       let ps = map valByte (h .ptrs) in
       let ss = map slotByte (h .slots) in
       ap (all (valueByte k)) (take-at (ps ++ ss) (replicate (28 - length (ps ++ ss)) 0) (6 + k) values-length)
       ∙ all-of (valueByte k) (ps ++ ss) (λ b i. in-append-cases b ps ss i
-      (λ j. let r = in-map valByte b (h .ptrs) j in ap (valueByte k) (r .2) ∙ value-passes k (r .0) (W .pointers (r .0) (r .1)))
-      (λ j. let r = in-map slotByte b (h .slots) j in ap (valueByte k) (r .2) ∙ slot-passes k (r .0) (W .nexts (r .0) (r .1))))
+      (λ j. let r = in-map valByte b (h .ptrs) j in ap (valueByte k) (r .2)
+      ∙ value-passes k (r .0) (W .pointers (r .0) (r .1)))
+      (λ j. let r = in-map slotByte b (h .slots) j in ap (valueByte k) (r .2)
+      ∙ slot-passes k (r .0) (W .nexts (r .0) (r .1))))
 
 -- an accepted shape record is what its shape is written as
 module _ (r : List ℕ) (l : length r ≡ 32) (h : layoutH r ≡ true) where
   pub shape-record-back : shapeRecord (shapeOf r) ≡ r
-  shape-record-back = let q = laid-out r l h in subst (λ x. shapeRecord (shapeOf x) ≡ x) (sym (q .1)) (laid-back (byte r 3) (q .0) (q .2))
+  shape-record-back = let q = laid-out r l h in
+      subst (λ x. shapeRecord (shapeOf x) ≡ x) (sym (q .1)) (laid-back (byte r 3) (q .0) (q .2))
 
   -- its shape has six pointers, the slots that byte 3 says, at most twelve, all in use
   pub layout-pointers : length (shapeOf r .ptrs) ≡ 6
@@ -129,7 +139,8 @@ module _ (r : List ℕ) (l : length r ≡ 32) (h : layoutH r ≡ true) where
   pub layout-slots : length (shapeOf r .slots) ≡ byte r 3
   layout-slots =
       let few = layout-few in
-      length-map (take (byte r 3) (drop 10 r)) (λ b. holds (valOf b)) ∙ length-take-le (byte r 3) (drop 10 r) (omega (arith, length-drop 10 r))
+      length-map (take (byte r 3) (drop 10 r)) (λ b. holds (valOf b)) ∙ length-take-le (byte r 3) (drop 10 r)
+      (omega (arith, length-drop 10 r))
 
   -- and it can be written and is closed
   pub layout-writable : Writable (shapeOf r)
@@ -138,7 +149,8 @@ module _ (r : List ℕ) (l : length r ≡ 32) (h : layoutH r ≡ true) where
       let k = byte r 3 in
       let w4 : drop 4 r ≡ q .0 = ap (drop 4) (q .1) in
       let w10 : drop 10 r ≡ drop 6 (q .0) = ap (drop 10) (q .1) in
-      let small : (b : ℕ) → In b (take 6 (q .0) ++ take k (drop 6 (q .0))) → SmallVal (length (shapeOf r .slots)) (valOf b) =
+      let small : (b : ℕ) → In b (take 6 (q .0) ++ take k (drop 6 (q .0)))
+      → SmallVal (length (shapeOf r .slots)) (valOf b) =
       λ b y. subst (λ n. SmallVal n (valOf b)) (sym layout-slots) (value-small k b (value-ok k (q .0) (q .2) b y)) in
       record {
         six = layout-pointers;
@@ -146,11 +158,13 @@ module _ (r : List ℕ) (l : length r ≡ 32) (h : layoutH r ≡ true) where
         pointers = λ v x.
             let y = in-map valOf v (take 6 (drop 4 r)) x in
             subst (SmallVal (length (shapeOf r .slots))) (sym (y .2)) (small (y .0)
-            (in-append-l (y .0) (take 6 (q .0)) (take k (drop 6 (q .0))) (subst (λ m. In (y .0) (take 6 m)) w4 (y .1))));
+            (in-append-l (y .0) (take 6 (q .0)) (take k (drop 6 (q .0)))
+            (subst (λ m. In (y .0) (take 6 m)) w4 (y .1))));
         nexts = λ s x.
             let y = in-map (λ b. holds (valOf b)) s (take k (drop 10 r)) x in
             subst (SmallSlot (length (shapeOf r .slots))) (sym (y .2)) (small (y .0)
-            (in-append-r (y .0) (take 6 (q .0)) (take k (drop 6 (q .0))) (subst (λ m. In (y .0) (take k m)) w10 (y .1))));
+            (in-append-r (y .0) (take 6 (q .0)) (take k (drop 6 (q .0)))
+            (subst (λ m. In (y .0) (take k m)) w10 (y .1))));
       }
 
   pub layout-closed : closed (shapeOf r) ≡ true
@@ -161,12 +175,15 @@ module _ (r : List ℕ) (l : length r ≡ 32) (h : layoutH r ≡ true) where
   byte-used b i e =
       let few = layout-few in
       let n = layout-slots in
-      let z : SmallSlot (length (shapeOf r .slots)) (holds (valOf b)) = layout-writable .nexts _ (map-in (λ x. holds (valOf x)) b (take (byte r 3) (drop 10 r)) i) in
-      let y : 0xfd < length (shapeOf r .slots) = subst (λ x. SmallSlot (length (shapeOf r .slots)) (holds (valOf x))) e z in
+      let z : SmallSlot (length (shapeOf r .slots)) (holds (valOf b)) =
+      layout-writable .nexts _ (map-in (λ x. holds (valOf x)) b (take (byte r 3) (drop 10 r)) i) in
+      let y : 0xfd < length (shapeOf r .slots) = subst (λ x. SmallSlot (length (shapeOf r .slots)) (holds (valOf x)))
+      e z in
       omega arith
 
   pub shape-image : shapeOf r ≡ heapOf (take 6 (drop 4 r)) (take (byte r 3) (drop 10 r))
   shape-image = λ j. record {
     ptrs = map valOf (take 6 (drop 4 r));
-    slots = map-same (λ b. holds (valOf b)) cellSlot (take (byte r 3) (drop 10 r)) (λ b i. rw (ne-eqb b 0xfd (byte-used b i))) j;
+    slots = map-same (λ b. holds (valOf b)) cellSlot (take (byte r 3) (drop 10 r))
+        (λ b i. rw (ne-eqb b 0xfd (byte-used b i))) j;
   }

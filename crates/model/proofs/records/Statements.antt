@@ -1,4 +1,5 @@
--- Statement records: how a statement is written, that it is read back, and that an accepted record is written again as it stood.
+-- Statement records: how a statement is written, that it is read back, and that an accepted record is written again as
+-- it stood.
 use Prim.Native.Nat.{_<_, ℕ}
 use Rattle.model.proofs.records.Checks.{none-failed}
 use Rattle.model.specs.Notions.{Pass}
@@ -63,7 +64,8 @@ passed-s n r e = none-failed (checksS n r) refl e
 
 fields-hold : (r : List ℕ) → fieldsS r ≡ true
     → (pointerField (usesU (byte r 1)) (byte r 2) ≡ true) × (pointerField (usesW (byte r 1)) (byte r 3) ≡ true)
-    × (targetField (usesFirst (byte r 1)) (byte r 4) ≡ true) × (targetField (usesSecond (byte r 1)) (byte r 5) ≡ true) × (all isZero (drop 6 r) ≡ true)
+    × (targetField (usesFirst (byte r 1)) (byte r 4) ≡ true) × (targetField (usesSecond (byte r 1)) (byte r 5) ≡ true)
+    × (all isZero (drop 6 r) ≡ true)
 fields-hold r h =
     let op = byte r 1 in
     let t1 = pointerField (usesU op) (byte r 2) in

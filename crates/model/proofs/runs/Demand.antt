@@ -20,7 +20,8 @@ use Rattle.model.proofs.shapes.Same.{elem-none}
 use Rattle.model.proofs.runs.Whole.{matching}
 
 -- the location of a starting shape
-start-at : (hs : List Heap) (ls : List Loc) → take (length hs) ls ≡ map (at 0) hs → (i : ℕ) (h : Heap) → getElem? hs i ≡ some h
+start-at : (hs : List Heap) (ls : List Loc) → take (length hs) ls ≡ map (at 0) hs → (i : ℕ) (h : Heap) → getElem? hs i
+    ≡ some h
     → (getD ls i (failed 0 leak) ≡ at 0 h) × (i < length ls)
 start-at [] ls e i h g = some-none (sym (elem-none [] i (omega arith)) ∙ g)
 start-at (x ∷ hs) [] e i h g = absurd (let z : _≡_ {A = ℕ} 0 1 = cc in omega arith)
@@ -39,4 +40,12 @@ demand-three s a b z r e i sh h cs g d =
     let q = begin 0 h in
     let c : Config = record { loc = i; values = cs } in
     subst (λ (o : Outcome). Matching (r .stmts) (o .tables) q c) (sym (A .2))
-    (matching r t X G a b q c ((w .0 ∙ ap (at 0) (sym (d .shapeIs)), sym (d .countersAre), heap-closed h (d .isHeap), heap-kept h (d .isHeap)), w .1))
+    (matching r t X G a b q c (
+      (
+        w .0 ∙ ap (at 0) (sym (d .shapeIs)),
+        sym (d .countersAre),
+        heap-closed h (d .isHeap),
+        heap-kept h (d .isHeap),
+      ),
+      w .1,
+    ))

@@ -1,4 +1,5 @@
--- One step against one edge, both ways, on the tables of a listing: each step made is one enabled edge and the only one of its branch.
+-- One step against one edge, both ways, on the tables of a listing: each step made is one enabled edge and the only
+-- one of its branch.
 use Prim.Native.Nat.{_<_, ℕ}
 use mathlib.Core.Path.{_∙_, _≡_, ap, ap₂, refl, subst, subst₂, sym}
 use mathlib.Core.Option.{some}
@@ -45,25 +46,32 @@ module _ (r : Routine) (t : Listing) (X : Exact r t) (G : GoodStarts r) (a b : �
   Apart j k = j .from ≡ k .from → Exclude (j .edge) (k .edge)
 
   from-is : (i : ℕ) (k : Link) → In k (linksFrom sts (t .locs) i) → k .from ≡ i
-  from-is i k q = let m = in-map (linkOf i (t .locs)) k (edgesOf sts (locAt (t .locs) i)) q in ap (λ (x : Link). x .from) (m .2)
+  from-is i k q = let m = in-map (linkOf i (t .locs)) k (edgesOf sts (locAt (t .locs) i)) q in
+      ap (λ (x : Link). x .from) (m .2)
 
   links-apart : Pairs Apart (t .links)
   links-apart = subst (Pairs Apart) (sym (X .links))
       (pairs-joined Apart (linksFrom sts (t .locs)) (numbers 0 (length (t .locs)))
       (λ i q. pairs-map Apart (linkOf i (t .locs)) (edgesOf sts (locAt (t .locs) i))
-      (pairs-mono Exclude (λ x y. Apart (linkOf i (t .locs) x) (linkOf i (t .locs) y)) (edgesOf sts (locAt (t .locs) i)) (λ x y e _. e)
-      (good-exclude sts (locAt (t .locs) i) (loc-good r t X G a b i (omega (arith, in-numbers 0 (length (t .locs)) i q))))))
-      (pairs-numbers _ (λ i j h u v p q e. absurd (let x = from-is i u p in let y = from-is j v q in omega arith)) 0 (length (t .locs))))
+      (pairs-mono Exclude (λ x y. Apart (linkOf i (t .locs) x) (linkOf i (t .locs) y))
+      (edgesOf sts (locAt (t .locs) i)) (λ x y e _. e)
+      (good-exclude sts (locAt (t .locs) i) (loc-good r t X G a b i
+      (omega (arith, in-numbers 0 (length (t .locs)) i q))))))
+      (pairs-numbers _ (λ i j h u v p q e. absurd (let x = from-is i u p in let y = from-is j v q in omega arith)) 0
+      (length (t .locs))))
 
-  pub only-one : (m n : ℕ) (c : Config) (y z : Advance Config) → moveOf T c m ≡ some z → moveOf T c n ≡ some y → z .branchNo ≡ y .branchNo → m ≡ n
+  pub only-one : (m n : ℕ) (c : Config) (y z : Advance Config) → moveOf T c m ≡ some z → moveOf T c n ≡ some y
+      → z .branchNo ≡ y .branchNo → m ≡ n
   only-one m n c y z p q e =
       let M = move-some r t X G a b m c z p in
       let N = move-some r t X G a b n c y q in
       let bm : linkAt t m .edge .branchNo ≡ linkAt t n .edge .branchNo =
       ap (λ (x : Advance Config). x .branchNo) (sym (M .3)) ∙ e ∙ ap (λ (x : Advance Config). x .branchNo) (N .3) in
       eq-case m n (λ s. s) (λ s. let ne = eqb-false m n s in bool-case (ltb m n)
-      (λ l. absurd (pairs-at Apart (t .links) _ m n links-apart (ltb-true m n l) (N .0) (M .1 ∙ sym (N .1)) bm (c .values) (M .2) (N .2)))
-      (λ l. absurd (pairs-at Apart (t .links) _ n m links-apart (let g = ltb-false m n l in omega arith) (M .0) (N .1 ∙ sym (M .1)) (sym bm) (c .values)
+      (λ l. absurd (pairs-at Apart (t .links) _ m n links-apart (ltb-true m n l) (N .0) (M .1 ∙ sym (N .1)) bm
+      (c .values) (M .2) (N .2)))
+      (λ l. absurd (pairs-at Apart (t .links) _ n m links-apart (let g = ltb-false m n l in omega arith) (M .0)
+      (N .1 ∙ sym (M .1)) (sym bm) (c .values)
       (N .2) (M .2))))
 
   -- the state fits the configuration's location
@@ -75,11 +83,14 @@ module _ (r : Routine) (t : Listing) (X : Exact r t) (G : GoodStarts r) (a b : �
   link-place k i = in-getD (t .links) _ k i
 
   pub forward : (q : State) (c : Config) → Both q c → (e : Entry) (x : Advance State) → stepOf sts q e ≡ some x
-      → (n : ℕ) × (y : Advance Config) × (moveOf T c n ≡ some y) × (x .branchNo ≡ y .branchNo) × Both (x .after) (y .after)
+      → (n : ℕ) × (y : Advance Config) × (moveOf T c n ≡ some y) × (x .branchNo ≡ y .branchNo)
+      × Both (x .after) (y .after)
   forward q c B e x p = by-status (q .status) (B .0) p
     where
-      by-status : (f : Status) → MatchIn f (q .stmt) (q .heap) (locAt (t .locs) (c .loc)) (c .values) → stepIn f sts q e ≡ some x
-          → (n : ℕ) × (y : Advance Config) × (moveOf T c n ≡ some y) × (x .branchNo ≡ y .branchNo) × Both (x .after) (y .after)
+      by-status : (f : Status) → MatchIn f (q .stmt) (q .heap) (locAt (t .locs) (c .loc)) (c .values)
+          → stepIn f sts q e ≡ some x
+          → (n : ℕ) × (y : Advance Config) × (moveOf T c n ≡ some y) × (x .branchNo ≡ y .branchNo)
+          × Both (x .after) (y .after)
       by-status (past f) m s = some-none s
       by-status running m s =
           let st = stmtAt sts (q .stmt) in
@@ -92,7 +103,8 @@ module _ (r : Routine) (t : Listing) (X : Exact r t) (G : GoodStarts r) (a b : �
           let k = linkAt t n in
           let ed : k .edge ≡ E = ap (λ (z : Link). z .edge) (P .2) in
           let L = link-facts r t X G a b n (P .1) in
-          let on : guardsOn (k .edge .guards) (c .values) ≡ true = ap₂ (λ (z : Edge) cs. guardsOn (z .guards) cs) ed (m .1) ∙ F .2 in (
+          let on : guardsOn (k .edge .guards) (c .values) ≡ true =
+          ap₂ (λ (z : Edge) cs. guardsOn (z .guards) cs) ed (m .1) ∙ F .2 in (
             n,
             by-link c k,
             move-of r t X G a b n c (P .1) (ap (λ (z : Link). z .from) (P .2)) on,
@@ -104,12 +116,14 @@ module _ (r : Routine) (t : Listing) (X : Exact r t) (G : GoodStarts r) (a b : �
             ),
           )
 
-  pub backward : (q : State) (c : Config) → Both q c → (n : ℕ) (y : Advance Config) → moveOf T c n ≡ some y → (e : Entry) → e .pick ≡ y .branchNo
+  pub backward : (q : State) (c : Config) → Both q c → (n : ℕ) (y : Advance Config) → moveOf T c n ≡ some y
+      → (e : Entry) → e .pick ≡ y .branchNo
       → inUse (next (q .heap) (e .cellNo)) ≡ false
       → (x : Advance State) × (stepOf sts q e ≡ some x) × (x .branchNo ≡ y .branchNo) × Both (x .after) (y .after)
   backward q c B n y p e pk u = by-status (q .status) (B .0)
     where
-      M : (n < length (t .links)) × (linkAt t n .from ≡ c .loc) × (guardsOn (linkAt t n .edge .guards) (c .values) ≡ true) × (y ≡ by-link c (linkAt t n))
+      M : (n < length (t .links)) × (linkAt t n .from ≡ c .loc) × (guardsOn (linkAt t n .edge .guards) (c .values)
+          ≡ true) × (y ≡ by-link c (linkAt t n))
       M = move-some r t X G a b n c y p
 
       L : LinkGood sts t (linkAt t n)
@@ -123,11 +137,16 @@ module _ (r : Routine) (t : Listing) (X : Exact r t) (G : GoodStarts r) (a b : �
       by-status (past f) m = absurd (subst (λ l. In (linkAt t n .edge) (edgesOf sts l)) (m .0) inEdges)
       by-status running m =
           let k = linkAt t n in
-          let F = leave-backward (q .stmt) (stmtAt sts (q .stmt)) (q .heap) (m .2) (m .3) (k .edge) (subst (λ l. In (k .edge) (edgesOf sts l)) (m .0) inEdges)
-          (ap (guardsOn (k .edge .guards)) (sym (m .1)) ∙ M .2) e (pk ∙ ap (λ (z : Advance Config). z .branchNo) (M .3)) u in (
+          let F = leave-backward (q .stmt) (stmtAt sts (q .stmt)) (q .heap) (m .2) (m .3) (k .edge)
+          (subst (λ l. In (k .edge) (edgesOf sts l)) (m .0) inEdges)
+          (ap (guardsOn (k .edge .guards)) (sym (m .1)) ∙ M .2) e
+          (pk ∙ ap (λ (z : Advance Config). z .branchNo) (M .3)) u in (
             F .0,
             sym (made-begin q (step (stmtAt sts (q .stmt)) e (q .heap))) ∙ F .1,
             F .2 ∙ ap (λ (z : Advance Config). z .branchNo) (sym (M .3)),
-            subst (λ (z : Advance Config). Both (F .0 .after) (z .after)) (sym (M .3))
-                (subst₂ (λ l vs. Fit (F .0 .after) l vs) (sym (L .dest-is)) (ap (λ cs. map (worth cs) (k .edge .updates)) (sym (m .1))) (F .3), L .dest-below),
+            subst (λ (z : Advance Config). Both (F .0 .after) (z .after)) (sym (M .3)) (
+              subst₂ (λ l vs. Fit (F .0 .after) l vs) (sym (L .dest-is))
+                  (ap (λ cs. map (worth cs) (k .edge .updates)) (sym (m .1))) (F .3),
+              L .dest-below,
+            ),
           )

@@ -43,15 +43,19 @@ module _ (r : Routine) (t : Listing) (X : Exact r t) (G : GoodStarts r) (a b : �
       → (x : Advance State) × (made (begin s h) (step st e h) ≡ some x)
   some-step s st e h g ac = rw (step-go st e h g ac) (by-run (carryOut (st .op) (e .cellNo) h))
     where
-      by-run : (x : Effect) → (y : Advance State) × (made (begin s h) (answerOf st (branch (st .op) (e .pick) h) x) ≡ some y)
+      by-run : (x : Effect) → (y : Advance State) × (made (begin s h) (answerOf st (branch (st .op) (e .pick) h) x)
+          ≡ some y)
       by-run (done k) = (_, refl)
       by-run (fault f) = (_, refl)
 
   link-in : (i : ℕ) → leaves T i ≡ true → (E : Edge) × In E (edgesOf sts (locAt (t .locs) i))
   link-in i h =
       let q = leaves-link r t X G a b i h in
-      let L = link-facts r t X G a b (q .0) (q .1) in
-      (linkAt t (q .0) .edge, subst (λ j. In (linkAt t (q .0) .edge) (edgesOf sts (locAt (t .locs) j))) (q .2) (L .edge-of))
+      let L = link-facts r t X G a b (q .0) (q .1) in (
+        linkAt t (q .0) .edge,
+        subst (λ j. In (linkAt t (q .0) .edge) (edgesOf sts (locAt (t .locs) j))) (q .2)
+            (L .edge-of),
+      )
 
   in-leaves : (i : ℕ) (E : Edge) → In E (edgesOf sts (locAt (t .locs) i)) → leaves T i ≡ true
   in-leaves i E h =
@@ -66,7 +70,8 @@ module _ (r : Routine) (t : Listing) (X : Exact r t) (G : GoodStarts r) (a b : �
     where
       by-status : (f : Status) → MatchIn f (q .stmt) (q .heap) (locAt (t .locs) (c .loc)) (c .values)
           → leaves T (c .loc) ≡ not (endedIn f (stmtAt sts (q .stmt)))
-      by-status (past f) m = not-true (leaves T (c .loc)) (λ e. let z = link-in (c .loc) e in subst (λ l. In (z .0) (edgesOf sts l)) (m .0) (z .1))
+      by-status (past f) m = not-true (leaves T (c .loc)) (λ e. let z = link-in (c .loc) e in
+          subst (λ l. In (z .0) (edgesOf sts l)) (m .0) (z .1))
       by-status running m =
           let st = stmtAt sts (q .stmt) in
           let H = q .heap in
@@ -78,7 +83,8 @@ module _ (r : Routine) (t : Listing) (X : Exact r t) (G : GoodStarts r) (a b : �
           (λ z. rw z
           (let e : Entry = record { pick = 0; cellNo = length (H .slots) } in
           let x = some-step (q .stmt) st e H z (accept-room (st .op) e H
-          (room-of (action (st .op)) H (length (H .slots)) (List·getD-eq-default (H .slots) unused (omega arith))) (λ q. omega arith)) in
+          (room-of (action (st .op)) H (length (H .slots)) (List·getD-eq-default (H .slots) unused (omega arith)))
+          (λ q. omega arith)) in
           let F = leave-forward (q .stmt) st H (m .2) (m .3) e (x .0) (x .1) in
           in-leaves (c .loc) (F .0) (subst (λ l. In (F .0) (edgesOf sts l)) (sym (m .0)) (F .1))))
 
@@ -103,7 +109,8 @@ module _ (r : Routine) (t : Listing) (X : Exact r t) (G : GoodStarts r) (a b : �
       fault-is running m = ap (λ x. byte (locRecord x) 2) (m .0)
       fault-is (past f) m = ap (λ x. byte (locRecord x) 2) (m .0)
 
-      describes-is : (f : Status) → MatchIn f (q .stmt) (q .heap) l (c .values) → DescribesIn f (shapeOf (locRecord l)) (c .values) (q .heap)
+      describes-is : (f : Status) → MatchIn f (q .stmt) (q .heap) l (c .values)
+          → DescribesIn f (shapeOf (locRecord l)) (c .values) (q .heap)
       describes-is running m =
           let W = subst WritableLoc (m .0) (good-writable l (loc-good r t X G a b (c .loc) (B .1))) in
           record {
@@ -114,14 +121,16 @@ module _ (r : Routine) (t : Listing) (X : Exact r t) (G : GoodStarts r) (a b : �
       describes-is (past f) m = tt
 
   -- along a list, and where it ends
-  pub paired-final : (q : State) (c : Config) (xs : List (Advance State)) (ys : List (Advance Config)) → Match sts T q c → Paired sts T xs ys
+  pub paired-final : (q : State) (c : Config) (xs : List (Advance State)) (ys : List (Advance Config))
+      → Match sts T q c → Paired sts T xs ys
       → Match sts T (final q xs) (final c ys)
   paired-final q c [] [] m p = m
   paired-final q c [] (y ∷ ys) m p = absurd p
   paired-final q c (x ∷ xs) [] m p = absurd p
   paired-final q c (x ∷ xs) (y ∷ ys) m p = paired-final (x .after) (y .after) xs ys (p .1) (p .2)
 
-  matched : (q : State) (c : Config) (xs : List (Advance State)) (ys : List (Advance Config)) → Fits q c → Paired sts T xs ys → Matched sts T q c xs ys
+  matched : (q : State) (c : Config) (xs : List (Advance State)) (ys : List (Advance Config)) → Fits q c
+      → Paired sts T xs ys → Matched sts T q c xs ys
   matched q c xs ys B p = record { pairs = p; atEnd = paired-final q c xs ys (fits-match q c B) p }
 
   -- from the routine to the automaton
@@ -131,7 +140,8 @@ module _ (r : Routine) (t : Listing) (X : Exact r t) (G : GoodStarts r) (a b : �
   follows (e ∷ es) q c B = by-step (stepOf sts q e) refl (λ q′ c′ B′. follows es q′ c′ B′)
     where
       by-step : (o : Option (Advance State)) → stepOf sts q e ≡ o
-          → ((q′ : State) (c′ : Config) → Fits q′ c′ → (ns : List ℕ) × Forced T c′ ns × Paired sts T (trace (stepOf sts) q′ es) (trace (moveOf T) c′ ns))
+          → ((q′ : State) (c′ : Config) → Fits q′ c′ → (ns : List ℕ) × Forced T c′ ns
+          × Paired sts T (trace (stepOf sts) q′ es) (trace (moveOf T) c′ ns))
           → (ns : List ℕ) × Forced T c ns × Paired sts T (trace (stepOf sts) q (e ∷ es)) (trace (moveOf T) c ns)
       by-step none p rec = let k = rec q c B in (k .0, k .1, rw (p, trace) (k .2))
       by-step (some x) p rec =
@@ -158,7 +168,8 @@ module _ (r : Routine) (t : Listing) (X : Exact r t) (G : GoodStarts r) (a b : �
           → ((q′ : State) (c′ : Config) → Fits q′ c′ → (cs′ : List ℕ) → length cs′ ≡ length (trace (moveOf T) c′ ns)
           → AreUnused sts q′ (fed (trace (moveOf T) c′ ns) cs′)
           → Paired sts T (trace (stepOf sts) q′ (fed (trace (moveOf T) c′ ns) cs′)) (trace (moveOf T) c′ ns))
-          → (cs : List ℕ) → length cs ≡ length (trace (moveOf T) c (n ∷ ns)) → AreUnused sts q (fed (trace (moveOf T) c (n ∷ ns)) cs)
+          → (cs : List ℕ) → length cs ≡ length (trace (moveOf T) c (n ∷ ns))
+          → AreUnused sts q (fed (trace (moveOf T) c (n ∷ ns)) cs)
           → Paired sts T (trace (stepOf sts) q (fed (trace (moveOf T) c (n ∷ ns)) cs)) (trace (moveOf T) c (n ∷ ns))
       by-move none p rec cs l u = rw (p, trace) (rec q c B cs (rw (p, trace) at l) (rw (p, trace) at u))
       by-move (some y) p rec [] l u = absurd (let z = rw (p, trace) at l in omega arith)
@@ -190,8 +201,11 @@ module _ (r : Routine) (t : Listing) (X : Exact r t) (G : GoodStarts r) (a b : �
             d ∷ k .0,
             rw (p, trace) (record {
               enough = ap suc (k .1 .enough);
-              areUnused =
-                  (unused-past (q .heap), subst (λ o. AreUnused sts (afterEntry q o) (fed (trace (moveOf T) (y .after) ns) (k .0))) (sym (f .1)) (k .1 .areUnused));
+              areUnused = (
+                unused-past (q .heap),
+                subst (λ o. AreUnused sts (afterEntry q o)
+                    (fed (trace (moveOf T) (y .after) ns) (k .0))) (sym (f .1)) (k .1 .areUnused),
+              );
             }),
           )
 
@@ -200,8 +214,10 @@ module _ (r : Routine) (t : Listing) (X : Exact r t) (G : GoodStarts r) (a b : �
   unfolding Led
   matching q c B = record {
     start = fits-match q c B;
-    toAutomaton = λ es. let k = follows es q c B in (k .0, k .1, matched q c (trace (stepOf sts) q es) (trace (moveOf T) c (k .0)) B (k .2));
+    toAutomaton = λ es. let k = follows es q c B in
+        (k .0, k .1, matched q c (trace (stepOf sts) q es) (trace (moveOf T) c (k .0)) B (k .2));
     toRoutine =
-        λ ns cs S. matched q c (trace (stepOf sts) q (fed (trace (moveOf T) c ns) cs)) (trace (moveOf T) c ns) B (led ns q c B cs (S .enough) (S .areUnused));
+        λ ns cs S. matched q c (trace (stepOf sts) q (fed (trace (moveOf T) c ns) cs)) (trace (moveOf T) c ns) B
+        (led ns q c B cs (S .enough) (S .areUnused));
     supply = λ ns. supplied ns q c B;
   }

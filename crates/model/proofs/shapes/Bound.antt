@@ -33,11 +33,13 @@ module _ (nx : ℕ → Slot) (p : ℕ → Bool) where
   snoc-not-nil [] c e = let z : _≡_ {A = ℕ} 0 1 = cc in omega arith
   snoc-not-nil (x ∷ s) c e = let z : _≡_ {A = ℕ} 0 1 = cc in omega arith
 
-  walks-first : {s t : List ℕ} {v : Val} → Walks nx s v t → First s → ((c : ℕ) → v ≡ cell c → s ≡ [] → p c ≡ true) → First t
+  walks-first : {s t : List ℕ} {v : Val} → Walks nx s v t → First s → ((c : ℕ) → v ≡ cell c → s ≡ [] → p c ≡ true)
+      → First t
   walks-first at-null f h = f
   walks-first at-undef f h = f
   walks-first (at-seen q) f h = f
-  walks-first (go {s = s} {c = c} q e w) f h = walks-first w (first-snoc s c f (h c refl)) (λ d _ z. absurd (snoc-not-nil s c z))
+  walks-first (go {s = s} {c = c} q e w) f h =
+      walks-first w (first-snoc s c f (h c refl)) (λ d _ z. absurd (snoc-not-nil s c z))
 
   tours-first : {s t : List ℕ} {vs : List Val} → Tours nx s vs t → First s → AllCore nx p vs → First t
   tours-first tour-done f k = f
@@ -45,7 +47,8 @@ module _ (nx : ℕ → Slot) (p : ℕ → Bool) where
 
   cut-heads : (c : ℕ) (cur l : List ℕ) → p c ≡ true → Alls (λ s. p (s .first) ≡ true) (cutFrom p c cur l)
   cut-heads c cur [] h = (h, tt)
-  cut-heads c cur (d ∷ l) h = bool-case (p d) (λ e. rw (e, cutFrom) (h, cut-heads d [] l e)) (λ e. rw (e, cutFrom) (cut-heads c (cur ++ d ∷ []) l h))
+  cut-heads c cur (d ∷ l) h = bool-case (p d) (λ e. rw (e, cutFrom) (h, cut-heads d [] l e))
+      (λ e. rw (e, cutFrom) (cut-heads c (cur ++ d ∷ []) l h))
 
   cuts-heads : (l : List ℕ) → First l → Alls (λ s. p (s .first) ≡ true) (cut p l)
   cuts-heads [] f = tt
@@ -73,7 +76,8 @@ delta-zero (suc b) d h = rw (ne-eqb b d (λ e. omega arith)) (let r = delta-zero
 delta-one : (b d : ℕ) → tsum b (λ i. one-if (eqb i d)) ≤ 1
 delta-one zero d = omega arith
 delta-one (suc b) d = eq-case b d (λ e. let r = delta-zero b d (omega arith) in
-    let q : eqb b d ≡ true = subst (λ x. eqb x d ≡ true) (sym e) (eqb-same d) in rw q (omega arith)) (λ e. rw e (let r = delta-one b d in omega arith))
+    let q : eqb b d ≡ true = subst (λ x. eqb x d ≡ true) (sym e) (eqb-same d) in rw q (omega arith))
+    (λ e. rw e (let r = delta-one b d in omega arith))
 
 abbrev pcount : ℕ → List Val → ℕ
 pcount n [] = 0
@@ -94,17 +98,26 @@ pcounts b (v ∷ vs) = omega (arith, tsum-add b (λ i. one-if (isCell i v)) (λ 
 
 hcounts : (b : ℕ) (ss : List Slot) → tsum b (λ i. holders i ss) ≤ length ss
 hcounts b [] = omega (arith, tsum-zero b)
-hcounts b (s ∷ ss) = omega (arith, tsum-add b (λ i. one-if (holdsCell i s)) (λ i. holders i ss), slot-one b s, hcounts b ss)
+hcounts b (s ∷ ss) = omega (
+  arith,
+  tsum-add b (λ i. one-if (holdsCell i s)) (λ i. holders i ss),
+  slot-one b s,
+  hcounts
+      b ss,
+)
 
 pointed-count : (n : ℕ) (vs : List Val) → pointed n vs ≡ true → 1 ≤ pcount n vs
 pointed-count n [] h = clash h refl
-pointed-count n (v ∷ vs) h = or-cases (isCell n v) (pointed n vs) h (λ e. rw e (omega arith)) (λ e. omega (arith, pointed-count n vs e))
+pointed-count n (v ∷ vs) h = or-cases (isCell n v) (pointed n vs) h (λ e. rw e (omega arith))
+    (λ e. omega (arith, pointed-count n vs e))
 
 core-count : (h : Heap) (n : ℕ) → core h n ≡ true → 2 ≤ (pcount n (h .ptrs) + pcount n (h .ptrs)) + holders n (h .slots)
-core-count h n c = or-cases (pointed n (h .ptrs)) (leb 2 (holders n (h .slots))) c (λ e. omega (arith, pointed-count n (h .ptrs) e))
+core-count h n c = or-cases (pointed n (h .ptrs)) (leb 2 (holders n (h .slots))) c
+    (λ e. omega (arith, pointed-count n (h .ptrs) e))
     (λ e. omega (arith, leb-true 2 (holders n (h .slots)) e))
 
-core-bound : (h : Heap) → ((n : ℕ) → n < length (h .slots) → core h n ≡ true) → length (h .slots) ≤ length (h .ptrs) + length (h .ptrs)
+core-bound : (h : Heap) → ((n : ℕ) → n < length (h .slots) → core h n ≡ true)
+    → length (h .slots) ≤ length (h .ptrs) + length (h .ptrs)
 core-bound h c =
     let b = length (h .slots) in
     let p : ℕ → ℕ = λ i. pcount i (h .ptrs) in
@@ -120,12 +133,14 @@ core-bound h c =
 module _ (h : Heap) (cl : ClosedHeap h) (kp : Kept h) where
   heads-core : Alls (λ s. core h (s .first) ≡ true) (segments h)
   heads-core = cuts-heads (next h) (core h) (order h)
-      (tours-first (next h) (core h) (toured h cl .tours) tt (core-of-pointed h (h .ptrs) (λ c q. or-l (pointed c (h .ptrs)) (leb 2 (holders c (h .slots))) q)))
+      (tours-first (next h) (core h) (toured h cl .tours) tt
+      (core-of-pointed h (h .ptrs) (λ c q. or-l (pointed c (h .ptrs)) (leb 2 (holders c (h .slots))) q)))
 
   -- each node of a shape is core
   pub nodes-core : (n : ℕ) → n < length (segments h) → core (shape h) n ≡ true
   nodes-core n q =
-      sym (core-head (shape h) (segAt (segments h)) h (start h cl kp) n (nodeVal (segments h) (end h cl kp n q .0), slot-at h cl kp n q))
+      sym (core-head (shape h) (segAt (segments h)) h (start h cl kp) n
+      (nodeVal (segments h) (end h cl kp n q .0), slot-at h cl kp n q))
       ∙ alls-at (λ s. core h (s .first) ≡ true) (segments h) heads-core n q
 
   pub few-nodes : length (segments h) ≤ length (h .ptrs) + length (h .ptrs)
@@ -134,10 +149,13 @@ module _ (h : Heap) (cl : ClosedHeap h) (kp : Kept h) where
       let b = length-map (h .ptrs) (nodeVal (segments h)) in
       omega (arith, core-bound (shape h) (λ n q. nodes-core n (omega arith)))
 
-  -- segments are what the paper says: a core cell, and the cells after it up to the next core cell, null, undefined or itself again
+  -- segments are what the paper says: a core cell, and the cells after it up to the next core cell, null, undefined or
+  -- itself again
   pub segment-is : (n : ℕ) → n < length (segments h)
-      → (v : Val) × (core h (segAt (segments h) n .first) ≡ true) × ((d : ℕ) → mem d (segAt (segments h) n .rest) ≡ true → core h d ≡ false)
-      × Chain (next h) (segAt (segments h) n .first) (segAt (segments h) n .rest) v × ((c : ℕ) → v ≡ cell c → core h c ≡ true)
+      → (v : Val) × (core h (segAt (segments h) n .first) ≡ true) × ((d : ℕ) → mem d (segAt (segments h) n .rest)
+      ≡ true → core h d ≡ false)
+      × Chain (next h) (segAt (segments h) n .first) (segAt (segments h) n .rest) v
+      × ((c : ℕ) → v ≡ cell c → core h c ≡ true)
   segment-is n q =
       let s = segAt (segments h) n in
       let g = alls-at (Cuts (next h) (core h)) (segments h) (cuts-good h cl kp) n q in

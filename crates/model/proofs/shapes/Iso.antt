@@ -28,7 +28,8 @@ rename-expansion f a b cl R = record {
   body = record {
     closed = cl .1;
     chain = λ n v e. R .nextsAre n v e ∙ ap holds (rename-img f v);
-    cover = λ c v e. let r = R .onto c (v, e) in (r .0, r .1, subst (λ x. mem x (f (r .0) ∷ []) ≡ true) (r .2) (mem-here (f (r .0)) []));
+    cover = λ c v e. let r = R .onto c (v, e) in
+        (r .0, r .1, subst (λ x. mem x (f (r .0) ∷ []) ≡ true) (r .2) (mem-here (f (r .0)) []));
     apart = λ n m c u w p q. R .oneToOne n m u w (sym (mem-one c (f n) p) ∙ mem-one c (f m) q);
     nodup = λ n u. (refl, tt);
   };
@@ -41,10 +42,12 @@ total-alone f [] = refl
 total-alone f (n ∷ l) = omega (arith, total-alone f l)
 
 -- a heap renamed is a heap, of the same shape, with the same counters
-pub renamed-same : (f : ℕ → ℕ) (a b : Heap) → IsHeap a → Renames f a b → IsHeap b × (shape b ≡ shape a) × (counters b ≡ counters a)
+pub renamed-same : (f : ℕ → ℕ) (a b : Heap) → IsHeap a → Renames f a b → IsHeap b × (shape b ≡ shape a)
+    × (counters b ≡ counters a)
 renamed-same f a b i R =
     let X = rename-expansion f a b (heap-closed a i) R in (
       is-heap b (large-closed a (alone f) b X) (kept-up a (alone f) b X (heap-kept a i)),
       fold-same a (alone f) b X,
-      counters-grow a (alone f) b X ∙ map-same (λ (s : Seg). total (alone f) (cells s)) size (segments a) (λ s i. total-alone f (cells s)),
+      counters-grow a (alone f) b X ∙ map-same (λ (s : Seg). total (alone f) (cells s)) size (segments a)
+          (λ s i. total-alone f (cells s)),
     )

@@ -1,4 +1,5 @@
--- One merge: the heap before is an expansion of the heap after, so that shape, counters and heads are kept, and one cell less is left.
+-- One merge: the heap before is an expansion of the heap after, so that shape, counters and heads are kept, and one
+-- cell less is left.
 use Prim.Native.Nat.{_+_, suc, ℕ}
 use mathlib.Core.Path.{_∙_, _≡_, ap, ap₂, refl, subst, sym}
 use mathlib.Core.Bool.{cond, false, true}
@@ -28,7 +29,8 @@ use Rattle.model.proofs.expansion.Writes.{slot-clash, upd-at, upd-off}
 abbrev pub mergeSegs : ℕ → ℕ → ℕ → Seg
 mergeSegs p d = upd (λ i. seg i []) p (seg p (d ∷ []))
 
-module _ (W : Heap) (p d : ℕ) (x : IsHeap W) (u : Used (next W) d) (n : core W d ≡ false) (e : next W p ≡ holds (cell d)) where
+module _ (W : Heap) (p d : ℕ) (x : IsHeap W) (u : Used (next W) d) (n : core W d ≡ false) (e : next W p
+    ≡ holds (cell d)) where
   -- the predecessor is another cell
   not-itself : p ≡ d → ⊥
   not-itself q = let r = predecessor W x d u n in r .2 (sym (r .3 p e) ∙ q)
@@ -49,7 +51,8 @@ module _ (W : Heap) (p d : ℕ) (x : IsHeap W) (u : Used (next W) d) (n : core W
   at-d i q = upd-at (upd (next W) p (next W d)) d unused i q
 
   at-p : (i : ℕ) → i ≡ p → nm i ≡ next W d
-  at-p i q = upd-off (upd (next W) p (next W d)) d unused i (ap (λ y. eqb y d) q ∙ p-d) ∙ upd-at (next W) p (next W d) i q
+  at-p i q = upd-off (upd (next W) p (next W d)) d unused i (ap (λ y. eqb y d) q ∙ p-d)
+      ∙ upd-at (next W) p (next W d) i q
 
   off : (i : ℕ) → eqb i d ≡ false → eqb i p ≡ false → nm i ≡ next W i
   off i q r = upd-off (upd (next W) p (next W d)) d unused i q ∙ upd-off (next W) p (next W d) i r
@@ -61,7 +64,8 @@ module _ (W : Heap) (p d : ℕ) (x : IsHeap W) (u : Used (next W) d) (n : core W
   sg-off i q = upd-off (λ j. seg j []) p (seg p (d ∷ [])) i q
 
   seg-first : (i : ℕ) → mergeSegs p d i .first ≡ i
-  seg-first i = eq-case i p (λ q. ap (λ (s : Seg). s .first) (sg-p i q) ∙ sym q) (λ q. ap (λ (s : Seg). s .first) (sg-off i q))
+  seg-first i = eq-case i p (λ q. ap (λ (s : Seg). s .first) (sg-p i q) ∙ sym q)
+      (λ q. ap (λ (s : Seg). s .first) (sg-off i q))
 
   same-img : (v : Val) → img (mergeSegs p d) v ≡ v
   same-img null = refl
@@ -81,17 +85,20 @@ module _ (W : Heap) (p d : ℕ) (x : IsHeap W) (u : Used (next W) d) (n : core W
   m-next i v q r z = eqb-false i p q (one-holder W d i p n (r ∙ ap holds z) e)
 
   m-val : (i : ℕ) (v : Val) → nm i ≡ holds v
-      → (eqb i d ≡ false) × Closed nm v × Chain (next W) (mergeSegs p d i .first) (mergeSegs p d i .rest) (img (mergeSegs p d) v)
+      → (eqb i d ≡ false) × Closed nm v × Chain (next W) (mergeSegs p d i .first) (mergeSegs p d i .rest)
+      (img (mergeSegs p d) v)
   m-val i v r = merge-cases i (λ q. slot-clash (at-d i q) r)
       (λ q. let z : next W d ≡ holds v = sym (at-p i q) ∙ r in (
         ap (λ y. eqb y d) q ∙ p-d,
         m-closed v (m-next d v (ne-eqb d p (λ y. not-itself (sym y))) z) (heap-closed W x .1 d v z),
-        subst (λ (s : Seg). Chain (next W) (s .first) (s .rest) (img (mergeSegs p d) v)) (sym (sg-p i q)) (rw (same-img v) (e, z)),
+        subst (λ (s : Seg). Chain (next W) (s .first) (s .rest) (img (mergeSegs p d) v)) (sym (sg-p i q))
+            (rw (same-img v) (e, z)),
       ))
       (λ q y. let z : next W i ≡ holds v = sym (off i q y) ∙ r in (
         q,
         m-closed v (m-next i v y z) (heap-closed W x .1 i v z),
-        subst (λ (s : Seg). Chain (next W) (s .first) (s .rest) (img (mergeSegs p d) v)) (sym (sg-off i y)) (rw (same-img v) z),
+        subst (λ (s : Seg). Chain (next W) (s .first) (s .rest) (img (mergeSegs p d) v)) (sym (sg-off i y))
+            (rw (same-img v) z),
       ))
 
   -- the cell of the merged heap whose chain has c
@@ -100,7 +107,8 @@ module _ (W : Heap) (p d : ℕ) (x : IsHeap W) (u : Used (next W) d) (n : core W
 
   m-own : (i c : ℕ) → eqb i d ≡ false → mem c (cells (mergeSegs p d i)) ≡ true → i ≡ own c
   m-own i c q m = eq-case i p
-      (λ r. mem-cases c p (d ∷ []) (subst (λ s. mem c (cells s) ≡ true) (sg-p i r) m) (λ z. rw (z, p-d) r) (λ z. rw (eq-eqb c d (mem-one c d z)) r))
+      (λ r. mem-cases c p (d ∷ []) (subst (λ s. mem c (cells s) ≡ true) (sg-p i r) m) (λ z. rw (z, p-d) r)
+      (λ z. rw (eq-eqb c d (mem-one c d z)) r))
       (λ r. let z : c ≡ i = mem-one c i (subst (λ s. mem c (cells s) ≡ true) (sg-off i r) m) in rw (z, q))
 
   m-cover : (c : ℕ) → Used (next W) c → (i : ℕ) × Used nm i × (mem c (cells (mergeSegs p d i)) ≡ true)
@@ -120,7 +128,8 @@ module _ (W : Heap) (p d : ℕ) (x : IsHeap W) (u : Used (next W) d) (n : core W
 
   off-ptrs : AllClosed nm (W .ptrs)
   off-ptrs = in-closed nm (W .ptrs)
-      (λ v i. m-closed v (λ q. not-pointed W d n (subst (λ z. In z (W .ptrs)) q i)) (closed-in (next W) (W .ptrs) v (heap-closed W x .0) i))
+      (λ v i. m-closed v (λ q. not-pointed W d n (subst (λ z. In z (W .ptrs)) q i))
+      (closed-in (next W) (W .ptrs) v (heap-closed W x .0) i))
 
   -- the heap before is an expansion of the heap after
   pub merge-expansion : Expansion (mergeHeap p d W) (mergeSegs p d) W
@@ -140,37 +149,46 @@ module _ (W : Heap) (p d : ℕ) (x : IsHeap W) (u : Used (next W) d) (n : core W
   after-sum : (w : ℕ → ℕ) (l : List ℕ) → sum w (cat (mergeSegs p d) l) ≡ sum (upd w p (w p + w d)) l
   after-sum w [] = refl
   after-sum w (i ∷ l) = sum-append w (cells (mergeSegs p d i)) (cat (mergeSegs p d) l) ∙ ap₂ _+_ (eq-case i p
-      (λ q. rw (sg-p i q, upd-at w p (w p + w d) i q) (omega arith)) (λ q. rw (sg-off i q, upd-off w p (w p + w d) i q) (omega arith))) (after-sum w l)
+      (λ q. rw (sg-p i q, upd-at w p (w p + w d) i q) (omega arith))
+      (λ q. rw (sg-off i q, upd-off w p (w p + w d) i q) (omega arith))) (after-sum w l)
 
   after-sums : (w : ℕ → ℕ) (ss : List Seg)
-      → map (λ (s : Seg). sum w (cells s)) (map (grow (mergeSegs p d)) ss) ≡ map (λ (s : Seg). sum (upd w p (w p + w d)) (cells s)) ss
+      → map (λ (s : Seg). sum w (cells s)) (map (grow (mergeSegs p d)) ss)
+      ≡ map (λ (s : Seg). sum (upd w p (w p + w d)) (cells s)) ss
   after-sums w ss =
       map-map (λ (s : Seg). sum w (cells s)) (grow (mergeSegs p d)) ss
-      ∙ map-same (λ (s : Seg). sum w (cat (mergeSegs p d) (cells s))) (λ (s : Seg). sum (upd w p (w p + w d)) (cells s)) ss (λ s i. after-sum w (cells s))
+      ∙ map-same (λ (s : Seg). sum w (cat (mergeSegs p d) (cells s)))
+      (λ (s : Seg). sum (upd w p (w p + w d)) (cells s)) ss (λ s i. after-sum w (cells s))
 
   pub after-counted : (w : ℕ → ℕ) → counted (mergeHeap p d W) (upd w p (w p + w d)) ≡ counted W w
-  after-counted w = sym (rw (segments-grow (mergeHeap p d W) (mergeSegs p d) W merge-expansion) (after-sums w (segments (mergeHeap p d W))))
+  after-counted w = sym (rw (segments-grow (mergeHeap p d W) (mergeSegs p d) W merge-expansion)
+      (after-sums w (segments (mergeHeap p d W))))
 
-  after-firsts : (ss : List Seg) → map (λ (s : Seg). s .first) (map (grow (mergeSegs p d)) ss) ≡ map (λ (s : Seg). s .first) ss
+  after-firsts : (ss : List Seg) → map (λ (s : Seg). s .first) (map (grow (mergeSegs p d)) ss)
+      ≡ map (λ (s : Seg). s .first) ss
   after-firsts ss =
       map-map (λ (s : Seg). s .first) (grow (mergeSegs p d)) ss
       ∙ map-same (λ (s : Seg). mergeSegs p d (s .first) .first) (λ (s : Seg). s .first) ss (λ s i. seg-first (s .first))
 
   pub after-heads : heads (mergeHeap p d W) ≡ heads W
-  after-heads = sym (rw (segments-grow (mergeHeap p d W) (mergeSegs p d) W merge-expansion) (after-firsts (segments (mergeHeap p d W))))
+  after-heads = sym (rw (segments-grow (mergeHeap p d W) (mergeSegs p d) W merge-expansion)
+      (after-firsts (segments (mergeHeap p d W))))
 
   cat-off : (l : List ℕ) → mem p l ≡ false → cat (mergeSegs p d) l ≡ l
   cat-off [] h = refl
-  cat-off (i ∷ l) h = rw (sg-off i (eqb-sym i p ∙ or-false-l (eqb p i) (mem p l) h)) (ap (λ z. i ∷ z) (cat-off l (or-false-r (eqb p i) (mem p l) h)))
+  cat-off (i ∷ l) h = rw (sg-off i (eqb-sym i p ∙ or-false-l (eqb p i) (mem p l) h))
+      (ap (λ z. i ∷ z) (cat-off l (or-false-r (eqb p i) (mem p l) h)))
 
   cat-length : (l : List ℕ) → NoDup l → mem p l ≡ true → length (cat (mergeSegs p d) l) ≡ suc (length l)
   cat-length [] nd h = clash h refl
   cat-length (i ∷ l) nd h = eq-case i p (λ q. rw (sg-p i q, cat-off l (subst (λ y. mem y l ≡ false) q (nd .0))))
-      (λ q. rw (sg-off i q) (ap suc (cat-length l (nd .1) (mem-cases p i l h (λ r. clash (eq-eqb i p (sym r)) q) (λ k. k)))))
+      (λ q. rw (sg-off i q) (ap suc (cat-length l (nd .1) (mem-cases p i l h (λ r. clash (eq-eqb i p (sym r)) q)
+      (λ k. k)))))
 
   pub after-length : length (order (mergeHeap p d W)) + 1 ≡ length (order W)
   after-length =
-      let r = cat-length (order (mergeHeap p d W)) (toured (mergeHeap p d W) (heap-closed (mergeHeap p d W) after-heap) .nodup)
+      let r = cat-length (order (mergeHeap p d W))
+      (toured (mergeHeap p d W) (heap-closed (mergeHeap p d W) after-heap) .nodup)
       (after-kept p (u .0, ap (λ f. f p) next-merge ∙ at-p p refl ∙ u .1)) in
       let q = ap length (order-cat (mergeHeap p d W) (mergeSegs p d) W merge-expansion) in
       omega arith

@@ -1,4 +1,5 @@
--- The visit order holds exactly the cells that are reachable from a pointer along nexts, each once; the test for a lost cell is exact.
+-- The visit order holds exactly the cells that are reachable from a pointer along nexts, each once; the test for a
+-- lost cell is exact.
 use Prim.Native.Nat.{_+_, suc, ℕ}
 use mathlib.Core.Path.{_∙_, _≡_, ap, refl, subst, sym}
 use mathlib.Core.Logic.{_↔_, _⊎_, inl, inr, ⊎-elim}
@@ -25,7 +26,8 @@ cell-inj {c} {d} e = cc
 module _ (nx : ℕ → Slot) where
   -- what holds of the cells that the walk begins with, and goes along nexts, holds of all that it visits
   module _ (P : ℕ → Type 0) (go-on : (c d : ℕ) → P c → nx c ≡ holds (cell d) → P d) where
-    walk-only : {s t : List ℕ} {v : Val} → Walks nx s v t → ((c : ℕ) → mem c s ≡ true → P c) → ((c : ℕ) → cell c ≡ v → P c)
+    walk-only : {s t : List ℕ} {v : Val} → Walks nx s v t → ((c : ℕ) → mem c s ≡ true → P c)
+        → ((c : ℕ) → cell c ≡ v → P c)
         → (c : ℕ) → mem c t ≡ true → P c
     walk-only at-null f g = f
     walk-only at-undef f g = f
@@ -34,7 +36,8 @@ module _ (nx : ℕ → Slot) where
         walk-only w (λ x k. mem-append-cases x s (c ∷ []) k (f x) (λ q. subst P (sym (mem-one x c q)) (g c refl)))
         (λ x q. go-on c x (g c refl) (e ∙ ap holds (sym q)))
 
-    tour-only : {s t : List ℕ} {vs : List Val} → Tours nx s vs t → ((c : ℕ) → mem c s ≡ true → P c) → ((c : ℕ) → In (cell c) vs → P c)
+    tour-only : {s t : List ℕ} {vs : List Val} → Tours nx s vs t → ((c : ℕ) → mem c s ≡ true → P c)
+        → ((c : ℕ) → In (cell c) vs → P c)
         → (c : ℕ) → mem c t ≡ true → P c
     tour-only tour-done f g = f
     tour-only (tour-more w ws) f g = tour-only ws (walk-only w f (λ c e. g c (inl e))) (λ c i. g c (inr i))
@@ -71,13 +74,15 @@ module _ (nx : ℕ → Slot) where
   open-snoc : (s : List ℕ) (x : ℕ) (v : Val) → Open s (cell x) → nx x ≡ holds v → Open (s ++ x ∷ []) v
   open-snoc s x v o e c d k q = mem-append-cases c s (x ∷ []) k
       (λ m. ⊎-elim (λ y. inl (mem-append-l d s (x ∷ []) y))
-      (λ y. inl (mem-append-r d s (x ∷ []) (subst (λ z. mem d (z ∷ []) ≡ true) (cell-inj y) (mem-here d [])))) (o c d m q))
+      (λ y. inl (mem-append-r d s (x ∷ []) (subst (λ z. mem d (z ∷ []) ≡ true) (cell-inj y) (mem-here d []))))
+      (o c d m q))
       (λ m. inr (holds-inj (sym q ∙ ap nx (mem-one c x m) ∙ e)))
 
   walk-whole : {s t : List ℕ} {v : Val} → Walks nx s v t → Open s v → Whole t
   walk-whole at-null o c d k q = ⊎-elim (λ y. y) (λ y. val-clash y (inl refl)) (o c d k q)
   walk-whole at-undef o c d k q = ⊎-elim (λ y. y) (λ y. val-clash y (inr refl)) (o c d k q)
-  walk-whole {s} (at-seen h) o c d k q = ⊎-elim (λ y. y) (λ y. subst (λ x. mem x s ≡ true) (sym (cell-inj y)) h) (o c d k q)
+  walk-whole {s} (at-seen h) o c d k q = ⊎-elim (λ y. y) (λ y. subst (λ x. mem x s ≡ true) (sym (cell-inj y)) h)
+      (o c d k q)
   walk-whole (go {s = s} {c = x} {v = v} h e w) o c d k q = walk-whole w (open-snoc s x v o e) c d k q
 
   tour-whole : {s t : List ℕ} {vs : List Val} → Tours nx s vs t → Whole s → Whole t
@@ -86,27 +91,37 @@ module _ (nx : ℕ → Slot) where
 
 -- a cell visited is reachable
 pub order-reaches : (h : Heap) → ClosedHeap h → (c : ℕ) → mem c (order h) ≡ true → Reaches h c
-order-reaches h cl = tour-only (next h) (Reaches h) (λ c d r e. along r e) (toured h cl .tours) (λ c k. clash k refl) (λ c i. from-pointer i)
+order-reaches h cl = tour-only (next h) (Reaches h) (λ c d r e. along r e) (toured h cl .tours) (λ c k. clash k refl)
+    (λ c i. from-pointer i)
 
 -- a cell reachable is visited
 pub reaches-order : (h : Heap) → ClosedHeap h → (c : ℕ) → Reaches h c → mem c (order h) ≡ true
 reaches-order h cl c (from-pointer i) = tour-hits (next h) (toured h cl .tours) c i
-reaches-order h cl c (along {c = b} r e) = tour-whole (next h) (toured h cl .tours) (λ a d k q. clash k refl) b c (reaches-order h cl b r) e
+reaches-order h cl c (along {c = b} r e) = tour-whole (next h) (toured h cl .tours) (λ a d k q. clash k refl) b c
+    (reaches-order h cl b r) e
 
 -- the test says that every cell in use is reachable
 pub kept-reaches : (h : Heap) → ClosedHeap h → (kept h ≡ true) ↔ ((c : ℕ) → Used (next h) c → Reaches h c)
-kept-reaches h cl = ((λ e c u. order-reaches h cl c (test-kept h e c u)), λ f. kept-test h (λ c u. reaches-order h cl c (f c u)))
+kept-reaches h cl = (
+  (λ e c u. order-reaches h cl c (test-kept h e c u)),
+  λ f. kept-test h
+      (λ c u. reaches-order h cl c (f c u)),
+)
 
-each-fails : (p : ℕ → Bool) (i : ℕ) (ss : List Slot) → eachUsed p i ss ≡ false → (j : ℕ) × Used (λ x. getD ss x unused) j × (p (i + j) ≡ false)
+each-fails : (p : ℕ → Bool) (i : ℕ) (ss : List Slot) → eachUsed p i ss ≡ false → (j : ℕ)
+    × Used (λ x. getD ss x unused) j × (p (i + j) ≡ false)
 each-fails p i [] h = clash refl h
-each-fails p i (unused ∷ ss) h = let r = each-fails p (suc i) ss h in (suc (r .0), r .1, subst (λ x. p x ≡ false) (omega arith) (r .2))
+each-fails p i (unused ∷ ss) h = let r = each-fails p (suc i) ss h in
+    (suc (r .0), r .1, subst (λ x. p x ≡ false) (omega arith) (r .2))
 each-fails p i (holds v ∷ ss) h = bool-case (p i)
-    (λ e. let r = each-fails p (suc i) ss (rw e at h) in (suc (r .0), r .1, subst (λ x. p x ≡ false) (omega arith) (r .2)))
+    (λ e. let r = each-fails p (suc i) ss (rw e at h) in
+    (suc (r .0), r .1, subst (λ x. p x ≡ false) (omega arith) (r .2)))
     (λ e. (0, (v, refl), subst (λ x. p x ≡ false) (omega arith) e))
 
 -- it fails exactly where a cell in use is not reachable
 pub lost-cell : (h : Heap) → ClosedHeap h → kept h ≡ false → (c : ℕ) × Used (next h) c × (Reaches h c → ⊥)
-lost-cell h cl e = let r = each-fails (λ c. mem c (order h)) 0 (h .slots) e in (r .0, r .1, λ q. clash (reaches-order h cl (r .0) q) (rw zero-add at (r .2)))
+lost-cell h cl e = let r = each-fails (λ c. mem c (order h)) 0 (h .slots) e in
+    (r .0, r .1, λ q. clash (reaches-order h cl (r .0) q) (rw zero-add at (r .2)))
 
 pub cell-lost : (h : Heap) → ClosedHeap h → (c : ℕ) → Used (next h) c → (Reaches h c → ⊥) → kept h ≡ false
 cell-lost h cl c u f = not-true (kept h) (λ e. f (kept-reaches h cl .0 e c u))

@@ -1,5 +1,5 @@
--- The tests of equality are right: what they call the same is equal, and each thing is the same as itself. The first place where a test
--- passes, and elements by their places.
+-- The tests of equality are right: what they call the same is equal, and each thing is the same as itself. The first
+-- place where a test passes, and elements by their places.
 use Prim.Native.Nat.{_<_, _≤_, suc, zero, ℕ}
 use mathlib.Core.Path.{_∙_, _≡_, ap, ap₂, refl, subst, sym}
 use mathlib.Core.Logic.{inl, inr, ⊎-elim}
@@ -45,11 +45,13 @@ same-slot-refl unused = refl
 same-slot-refl (holds v) = same-val-refl v
 
 -- lists, given the same of the test of elements
-pub list-same : {A : Type 0} (p : A → A → Bool) → ((x y : A) → p x y ≡ true → x ≡ y) → (l m : List A) → sameList p l m ≡ true → l ≡ m
+pub list-same : {A : Type 0} (p : A → A → Bool) → ((x y : A) → p x y ≡ true → x ≡ y) → (l m : List A) → sameList p l m
+    ≡ true → l ≡ m
 list-same p h [] [] e = refl
 list-same p h [] (y ∷ m) e = clash e refl
 list-same p h (x ∷ l) [] e = clash e refl
-list-same p h (x ∷ l) (y ∷ m) e = ap₂ _∷_ (h x y (and-l (p x y) (sameList p l m) e)) (list-same p h l m (and-r (p x y) (sameList p l m) e))
+list-same p h (x ∷ l) (y ∷ m) e = ap₂ _∷_ (h x y (and-l (p x y) (sameList p l m) e))
+    (list-same p h l m (and-r (p x y) (sameList p l m) e))
 
 pub same-list-refl : {A : Type 0} (p : A → A → Bool) → ((x : A) → p x x ≡ true) → (l : List A) → sameList p l l ≡ true
 same-list-refl p h [] = refl
@@ -63,8 +65,10 @@ same-bytes-refl = same-list-refl eqb eqb-same
 
 pub heap-same : (h g : Heap) → sameHeap h g ≡ true → h ≡ g
 heap-same h g e =
-    let p = list-same sameVal val-same (h .ptrs) (g .ptrs) (and-l (sameList sameVal (h .ptrs) (g .ptrs)) (sameList sameSlot (h .slots) (g .slots)) e) in
-    let q = list-same sameSlot slot-same (h .slots) (g .slots) (and-r (sameList sameVal (h .ptrs) (g .ptrs)) (sameList sameSlot (h .slots) (g .slots)) e) in
+    let p = list-same sameVal val-same (h .ptrs) (g .ptrs)
+    (and-l (sameList sameVal (h .ptrs) (g .ptrs)) (sameList sameSlot (h .slots) (g .slots)) e) in
+    let q = list-same sameSlot slot-same (h .slots) (g .slots)
+    (and-r (sameList sameVal (h .ptrs) (g .ptrs)) (sameList sameSlot (h .slots) (g .slots)) e) in
     λ i. record { ptrs = p i; slots = q i }
 
 pub same-heap-refl : (h : Heap) → sameHeap h h ≡ true
@@ -94,7 +98,8 @@ loc-same (failed s f) (failed t g) e =
 
 pub same-loc-refl : (a : Loc) → sameLoc a a ≡ true
 same-loc-refl (at s h) = and-both (eqb s s) (sameHeap h h) (eqb-same s) (same-heap-refl h)
-same-loc-refl (failed s f) = and-both (eqb s s) (eqb (faultNumber f) (faultNumber f)) (eqb-same s) (eqb-same (faultNumber f))
+same-loc-refl (failed s f) = and-both (eqb s s) (eqb (faultNumber f) (faultNumber f)) (eqb-same s)
+    (eqb-same (faultNumber f))
 
 -- ---- the first place where a test passes
 
@@ -105,7 +110,8 @@ place-le p (x ∷ l) = let h = place-le p l in bool-case (p x) (λ e. rw e (omeg
 -- the place is below the length exactly where the test passes somewhere
 pub place-found : {A : Type 0} (p : A → Bool) (l : List A) → any p l ≡ true → placeOf p l < length l
 place-found p [] h = clash h refl
-place-found p (x ∷ l) h = bool-case (p x) (λ e. rw e (omega arith)) (λ e. let k = place-found p l (rw e at h) in rw e (omega arith))
+place-found p (x ∷ l) h = bool-case (p x) (λ e. rw e (omega arith)) (λ e. let k = place-found p l (rw e at h) in
+    rw e (omega arith))
 
 pub place-none : {A : Type 0} (p : A → Bool) (l : List A) → any p l ≡ false → placeOf p l ≡ length l
 place-none p [] h = refl
@@ -115,21 +121,28 @@ pub place-test : {A : Type 0} (p : A → Bool) (l : List A) → ltb (placeOf p l
 place-test p l = bool-case (any p l) (λ e. lt-ltb (placeOf p l) (length l) (place-found p l e) ∙ sym e)
     (λ e. le-ltb (placeOf p l) (length l) (let k = place-none p l e in omega arith) ∙ sym e)
 
-pub place-passes : {A : Type 0} (p : A → Bool) (l : List A) (d : A) → placeOf p l < length l → p (getD l (placeOf p l) d) ≡ true
+pub place-passes : {A : Type 0} (p : A → Bool) (l : List A) (d : A) → placeOf p l < length l
+    → p (getD l (placeOf p l) d) ≡ true
 place-passes p [] d h = absurd (omega arith)
-place-passes p (x ∷ l) d h = bool-case (p x) (λ e. rw e e) (λ e. let k = rw e at h in rw e (place-passes p l d (omega arith)))
+place-passes p (x ∷ l) d h = bool-case (p x) (λ e. rw e e) (λ e. let k = rw e at h in
+    rw e (place-passes p l d (omega arith)))
 
-pub place-append : {A : Type 0} (p : A → Bool) (l m : List A) → placeOf p l < length l → placeOf p (l ++ m) ≡ placeOf p l
+pub place-append : {A : Type 0} (p : A → Bool) (l m : List A) → placeOf p l < length l → placeOf p (l ++ m)
+    ≡ placeOf p l
 place-append p [] m h = absurd (omega arith)
-place-append p (x ∷ l) m h = bool-case (p x) (λ e. rw e) (λ e. let k = rw e at h in rw e (ap suc (place-append p l m (omega arith))))
+place-append p (x ∷ l) m h = bool-case (p x) (λ e. rw e) (λ e. let k = rw e at h in
+    rw e (ap suc (place-append p l m (omega arith))))
 
-pub place-snoc : {A : Type 0} (p : A → Bool) (l : List A) (x : A) → any p l ≡ false → p x ≡ true → placeOf p (l ++ x ∷ []) ≡ length l
+pub place-snoc : {A : Type 0} (p : A → Bool) (l : List A) (x : A) → any p l ≡ false → p x ≡ true
+    → placeOf p (l ++ x ∷ []) ≡ length l
 place-snoc p [] x h e = rw e
-place-snoc p (y ∷ l) x h e = rw (or-false-l (p y) (any p l) h) (ap suc (place-snoc p l x (or-false-r (p y) (any p l) h) e))
+place-snoc p (y ∷ l) x h e = rw (or-false-l (p y) (any p l) h)
+    (ap suc (place-snoc p l x (or-false-r (p y) (any p l) h) e))
 
 -- ---- elements by their places
 
-pub distinct-at : {A : Type 0} (l : List A) (d : A) (i j : ℕ) → Distinct l → i < length l → j < length l → getD l i d ≡ getD l j d → i ≡ j
+pub distinct-at : {A : Type 0} (l : List A) (d : A) (i j : ℕ) → Distinct l → i < length l → j < length l → getD l i d
+    ≡ getD l j d → i ≡ j
 distinct-at [] d i j k h h′ e = absurd (omega arith)
 distinct-at (x ∷ l) d zero zero k h h′ e = refl
 distinct-at (x ∷ l) d zero (suc j) k h h′ e = absurd (k .0 (subst (λ z. In z l) (sym e) (getD-in l d j (omega arith))))
@@ -138,8 +151,10 @@ distinct-at (x ∷ l) d (suc i) (suc j) k h h′ e = ap suc (distinct-at l d i j
 
 pub distinct-snoc : {A : Type 0} (l : List A) (x : A) → Distinct l → (In x l → ⊥) → Distinct (l ++ x ∷ [])
 distinct-snoc [] x k h = ((λ z. z), tt)
-distinct-snoc (y ∷ l) x k h =
-    ((λ z. in-append-cases y l (x ∷ []) z (k .0) (λ w. ⊎-elim (λ (e : y ≡ x). h (inl (sym e))) (λ (b : ⊥). b) w)), distinct-snoc l x (k .1) (λ z. h (inr z)))
+distinct-snoc (y ∷ l) x k h = (
+  (λ z. in-append-cases y l (x ∷ []) z (k .0) (λ w. ⊎-elim (λ (e : y ≡ x). h (inl (sym e))) (λ (b : ⊥). b) w)),
+  distinct-snoc l x (k .1) (λ z. h (inr z)),
+)
 
 -- the second list begins with the first
 abbrev pub Prefix : {A : Type 0} → List A → List A → Type 0
@@ -157,7 +172,8 @@ prefix-length l m p = rw (p .1, length-append l (p .0)) (omega arith)
 pub prefix-getD : {A : Type 0} (l m : List A) (d : A) (i : ℕ) → Prefix l m → i < length l → getD m i d ≡ getD l i d
 prefix-getD l m d i p h = ap (λ z. getD z i d) (p .1) ∙ List·getD-append l (p .0) d i h
 
-pub prefix-place : {A : Type 0} (p : A → Bool) (l m : List A) → Prefix l m → placeOf p l < length l → placeOf p m ≡ placeOf p l
+pub prefix-place : {A : Type 0} (p : A → Bool) (l m : List A) → Prefix l m → placeOf p l < length l → placeOf p m
+    ≡ placeOf p l
 prefix-place p l m q h = ap (placeOf p) (q .1) ∙ place-append p l (q .0) h
 
 pub prefix-in : {A : Type 0} (l m : List A) (x : A) → Prefix l m → In x l → In x m

@@ -1,4 +1,5 @@
--- Cutting the visit order before each core cell gives the segments of 01, each once, and together they hold each cell in use once.
+-- Cutting the visit order before each core cell gives the segments of 01, each once, and together they hold each cell
+-- in use once.
 use Prim.Native.Nat.{_<_, _≤_, suc, ℕ}
 use mathlib.Core.Path.{_∙_, _≡_, ap, ap₂, refl, subst, sym}
 use mathlib.Core.Logic.{_↔_}
@@ -32,9 +33,16 @@ pub predecessor : (h : Heap) → IsHeap h → (d : ℕ) → Used (next h) d → 
     → (p : ℕ) × (next h p ≡ holds (cell d)) × (p ≡ d → ⊥) × ((a : ℕ) → next h a ≡ holds (cell d) → a ≡ p)
 predecessor h x d u n = from d n (kept-reaches h (heap-closed h x) .0 (x .isKept) d u)
   where
-    from : (d : ℕ) → core h d ≡ false → Reaches h d → (p : ℕ) × (next h p ≡ holds (cell d)) × (p ≡ d → ⊥) × ((a : ℕ) → next h a ≡ holds (cell d) → a ≡ p)
+    from : (d : ℕ) → core h d ≡ false → Reaches h d → (p : ℕ) × (next h p ≡ holds (cell d)) × (p ≡ d → ⊥)
+        × ((a : ℕ) → next h a ≡ holds (cell d) → a ≡ p)
     from d n (from-pointer i) = absurd (not-pointed h d n i)
-    from d n (along {c = p} r e) = (p, e, (λ q. no-loop h d (along r e) n (subst (λ y. next h y ≡ holds (cell d)) q e)), λ a k. one-holder h d a p n k e)
+    from d n (along {c = p} r e) = (
+      p,
+      e,
+      (λ q. no-loop h d (along r e) n
+          (subst (λ y. next h y ≡ holds (cell d)) q e)),
+      λ a k. one-holder h d a p n k e,
+    )
 
 -- each segment that the cut gives is one
 pub segments-are : (h : Heap) → IsHeap h → (n : ℕ) → n < length (segments h) → IsSegment h (segAt (segments h) n)
@@ -43,12 +51,14 @@ segments-are h x n q =
     record { head-core = r .1; after = r .2; upto = r .0; chain = r .3; upto-core = r .4 }
 
 -- a segment that ends in a cell of its own ends in its first: "itself again"
-pub itself-again : (h : Heap) (s : Seg) (i : IsSegment h s) (c : ℕ) → i .upto ≡ cell c → mem c (cells s) ≡ true → c ≡ s .first
+pub itself-again : (h : Heap) (s : Seg) (i : IsSegment h s) (c : ℕ) → i .upto ≡ cell c → mem c (cells s) ≡ true → c
+    ≡ s .first
 itself-again h s i c e m = mem-cases c (s .first) (s .rest) m (λ p. p) (λ k. clash (i .upto-core c e) (i .after c k))
 
 -- together the segments are the visit order; they hold each cell in use, and no other, and none twice
 pub each-cell-once : (h : Heap) → IsHeap h
-    → (flat (segments h) ≡ order h) × NoDup (flat (segments h)) × ((c : ℕ) → Used (next h) c ↔ (mem c (flat (segments h)) ≡ true))
+    → (flat (segments h) ≡ order h) × NoDup (flat (segments h))
+    × ((c : ℕ) → Used (next h) c ↔ (mem c (flat (segments h)) ≡ true))
 each-cell-once h x =
     let cl = heap-closed h x in
     let k = heap-kept h x in
@@ -64,7 +74,8 @@ module _ (h : Heap) (x : IsHeap h) where
 
   -- every core cell in use is the first cell of exactly one segment
   pub core-first : (c : ℕ) → Used (next h) c → core h c ≡ true
-      → (n : ℕ) × (n < length (segments h)) × (segAt (segments h) n .first ≡ c) × ((m : ℕ) → m < length (segments h) → segAt (segments h) m .first ≡ c → m ≡ n)
+      → (n : ℕ) × (n < length (segments h)) × (segAt (segments h) n .first ≡ c)
+      × ((m : ℕ) → m < length (segments h) → segAt (segments h) m .first ≡ c → m ≡ n)
   core-first c u k =
       let r = where-is h cl kp c u in
       let s = segAt (segments h) (r .0) in
@@ -73,7 +84,8 @@ module _ (h : Heap) (x : IsHeap h) where
         r .0,
         r .1,
         mem-cases c (s .first) (s .rest) (r .2) sym (λ q. clash k (segments-are h x (r .0) (r .1) .after c q)),
-        λ m q e. seg-apart h cl kp m (r .0) c q (r .1) (subst (λ y. mem y (cells (segAt (segments h) m)) ≡ true) e (here m)) (r .2),
+        λ m q e. seg-apart h cl kp m (r .0) c q (r .1) (subst (λ y. mem y (cells (segAt (segments h) m)) ≡ true) e
+            (here m)) (r .2),
       )
 
   -- "A shape has 0 to 12 nodes."
@@ -94,36 +106,45 @@ rest-same nx p c (x ∷ l) (y ∷ m) v w a b il im pv pw =
 -- the first cell determines the segment
 pub segment-unique : (h : Heap) (s t : Seg) → IsSegment h s → IsSegment h t → s .first ≡ t .first → s ≡ t
 segment-unique h s t a b e =
-    let ch : Chain (next h) (s .first) (t .rest) (b .upto) = subst (λ c. Chain (next h) c (t .rest) (b .upto)) (sym e) (b .chain) in
-    let r = rest-same (next h) (core h) (s .first) (s .rest) (t .rest) (a .upto) (b .upto) (a .chain) ch (a .after) (b .after) (a .upto-core) (b .upto-core) in
+    let ch : Chain (next h) (s .first) (t .rest) (b .upto) = subst (λ c. Chain (next h) c (t .rest) (b .upto)) (sym e)
+    (b .chain) in
+    let r = rest-same (next h) (core h) (s .first) (s .rest) (t .rest) (a .upto) (b .upto) (a .chain) ch (a .after)
+    (b .after) (a .upto-core) (b .upto-core) in
     λ i. record { first = e i; rest = r i }
 
 -- so the cut gives every segment
-pub segment-listed : (h : Heap) → IsHeap h → (s : Seg) → IsSegment h s → (n : ℕ) × (n < length (segments h)) × (segAt (segments h) n ≡ s)
+pub segment-listed : (h : Heap) → IsHeap h → (s : Seg) → IsSegment h s → (n : ℕ) × (n < length (segments h))
+    × (segAt (segments h) n ≡ s)
 segment-listed h x s a =
     let u = chain-used (next h) (s .first) (s .rest) (a .upto) (s .first) (a .chain) (mem-here (s .first) (s .rest)) in
     let r = core-first h x (s .first) u (a .head-core) in
     (r .0, r .1, segment-unique h (segAt (segments h) (r .0)) s (segments-are h x (r .0) (r .1)) a (r .2))
 
-pub single-cells : (h : Heap) → IsHeap h → EveryCore h → (n : ℕ) → n < length (segments h) → segAt (segments h) n .rest ≡ []
+pub single-cells : (h : Heap) → IsHeap h → EveryCore h → (n : ℕ) → n < length (segments h)
+    → segAt (segments h) n .rest ≡ []
 single-cells h x k n q = let s = segAt (segments h) n in empty s (segments-are h x n q) (s .rest) refl
   where
     empty : (s : Seg) → IsSegment h s → (l : List ℕ) → s .rest ≡ l → s .rest ≡ []
     empty s i [] e = e
     empty s i (d ∷ l) e =
         let m : mem d (s .rest) ≡ true = rw e (mem-here d l) in
-        clash (k d (chain-used (next h) (s .first) (s .rest) (i .upto) d (i .chain) (mem-there d (s .first) (s .rest) m))) (i .after d m)
+        clash (k d (chain-used (next h) (s .first) (s .rest) (i .upto) d (i .chain)
+        (mem-there d (s .first) (s .rest) m))) (i .after d m)
 
-single-flat : (ss : List Seg) → ((n : ℕ) → n < length ss → segAt ss n .rest ≡ []) → map (λ (s : Seg). s .first) ss ≡ flat ss
+single-flat : (ss : List Seg) → ((n : ℕ) → n < length ss → segAt ss n .rest ≡ []) → map (λ (s : Seg). s .first) ss
+    ≡ flat ss
 single-flat [] k = refl
-single-flat (s ∷ ss) k = rw (k 0 (omega arith)) (ap (λ l. s .first ∷ l) (single-flat ss (λ n q. k (suc n) (omega arith))))
+single-flat (s ∷ ss) k = rw (k 0 (omega arith))
+    (ap (λ l. s .first ∷ l) (single-flat ss (λ n q. k (suc n) (omega arith))))
 
 single-sums : (w : ℕ → ℕ) (ss : List Seg) → ((n : ℕ) → n < length ss → segAt ss n .rest ≡ [])
     → map (λ (s : Seg). sum w (cells s)) ss ≡ map w (flat ss)
 single-sums w [] k = refl
-single-sums w (s ∷ ss) k = rw (k 0 (omega arith)) (ap₂ _∷_ (omega arith) (single-sums w ss (λ n q. k (suc n) (omega arith))))
+single-sums w (s ∷ ss) k = rw (k 0 (omega arith))
+    (ap₂ _∷_ (omega arith) (single-sums w ss (λ n q. k (suc n) (omega arith))))
 
--- where every cell in use is core the heads are the cells, in the order of the visit, and the counters of the segments are theirs
+-- where every cell in use is core the heads are the cells, in the order of the visit, and the counters of the segments
+-- are theirs
 pub heads-single : (h : Heap) → IsHeap h → EveryCore h → heads h ≡ order h
 heads-single h x k = single-flat (segments h) (single-cells h x k) ∙ each-cell-once h x .0
 

@@ -31,12 +31,14 @@ mem-del x n (y ∷ l) h = bool-case (eqb x y) (λ e. mem-there n y l (rw e at h)
 nodup-del : (x : ℕ) (l : List ℕ) → NoDup l → NoDup (del x l)
 unfolding del
 nodup-del x [] nd = nd
-nodup-del x (y ∷ l) nd = bool-case (eqb x y) (λ e. rw e (nd .1)) (λ e. rw e (not-true _ (λ h. clash (mem-del x y l h) (nd .0)), nodup-del x l (nd .1)))
+nodup-del x (y ∷ l) nd = bool-case (eqb x y) (λ e. rw e (nd .1))
+    (λ e. rw e (not-true _ (λ h. clash (mem-del x y l h) (nd .0)), nodup-del x l (nd .1)))
 
 gone-del : (x : ℕ) (l : List ℕ) → NoDup l → mem x (del x l) ≡ false
 unfolding del
 gone-del x [] nd = refl
-gone-del x (y ∷ l) nd = bool-case (eqb x y) (λ e. rw e (rw (eqb-true x y e) (nd .0))) (λ e. rw e (rw e (gone-del x l (nd .1))))
+gone-del x (y ∷ l) nd = bool-case (eqb x y) (λ e. rw e (rw (eqb-true x y e) (nd .0)))
+    (λ e. rw e (rw e (gone-del x l (nd .1))))
 
 pub pigeon : (b : ℕ) (l : List ℕ) → NoDup l → ((n : ℕ) → mem n l ≡ true → n < b) → length l ≤ b
 pigeon zero [] nd h = omega arith
@@ -48,8 +50,11 @@ pigeon (suc b) l nd h =
 
 pub nodup-snoc : (s : List ℕ) (c : ℕ) → NoDup s → mem c s ≡ false → NoDup (s ++ c ∷ [])
 nodup-snoc [] c nd h = (refl, tt)
-nodup-snoc (x ∷ s) c nd h =
-    (mem-append x s (c ∷ []) ∙ rw (nd .0, eqb-sym x c, or-false-l (eqb c x) (mem c s) h), nodup-snoc s c (nd .1) (or-false-r (eqb c x) (mem c s) h))
+nodup-snoc (x ∷ s) c nd h = (
+  mem-append x s (c ∷ []) ∙ rw (nd .0, eqb-sym x c, or-false-l (eqb c x) (mem c s) h),
+  nodup-snoc s c (nd .1)
+      (or-false-r (eqb c x) (mem c s) h),
+)
 
 pub used-snoc : (nx : ℕ → Slot) (s : List ℕ) (c : ℕ) → AllUsed nx s → Used nx c → AllUsed nx (s ++ c ∷ [])
 used-snoc nx s c us u m k = mem-append-cases m s (c ∷ []) k (us m) (λ q. subst (Used nx) (sym (mem-one m c q)) u)
@@ -64,7 +69,8 @@ pub tours-grow : (nx : ℕ → Slot) {s t : List ℕ} {vs : List Val} → Tours 
 tours-grow nx tour-done = omega arith
 tours-grow nx (tour-more w ws) = omega (arith, walks-grow nx w, tours-grow nx ws)
 
-pub walk-of : (nx : ℕ → Slot) {s t : List ℕ} {v : Val} → Walks nx s v t → (f : ℕ) → length t ≤ length s + f → walk nx f s v ≡ t
+pub walk-of : (nx : ℕ → Slot) {s t : List ℕ} {v : Val} → Walks nx s v t → (f : ℕ) → length t ≤ length s + f
+    → walk nx f s v ≡ t
 walk-of nx at-null zero h = refl
 walk-of nx at-null (suc f) h = refl
 walk-of nx at-undef zero h = refl
@@ -72,22 +78,32 @@ walk-of nx at-undef (suc f) h = refl
 walk-of nx (at-seen m) zero h = refl
 walk-of nx (at-seen m) (suc f) h = rw (m, walk)
 walk-of nx (go {s = s} {c = c} n e w) zero h = absurd (omega (arith, walks-grow nx w, length-append s (c ∷ [])))
-walk-of nx (go {s = s} {c = c} n e w) (suc f) h = rw (n, walk) (rw (e, walk) (walk-of nx w f (omega (arith, length-append s (c ∷ [])))))
+walk-of nx (go {s = s} {c = c} n e w) (suc f) h =
+    rw (n, walk) (rw (e, walk) (walk-of nx w f (omega (arith, length-append s (c ∷ [])))))
 
-pub tour-of : (nx : ℕ → Slot) {s t : List ℕ} {vs : List Val} → Tours nx s vs t → (f : ℕ) → length t ≤ f → tour nx f s vs ≡ t
+pub tour-of : (nx : ℕ → Slot) {s t : List ℕ} {vs : List Val} → Tours nx s vs t → (f : ℕ) → length t ≤ f
+    → tour nx f s vs ≡ t
 tour-of nx tour-done f h = refl
 tour-of nx (tour-more w ws) f h = rw (walk-of nx w f (omega (arith, tours-grow nx ws))) (tour-of nx ws f h)
 
 pub tours-same : (nx : ℕ → Slot) {s t r : List ℕ} {vs : List Val} → Tours nx s vs t → Tours nx s vs r → t ≡ r
-tours-same nx {t = t} {r = r} a b = sym (tour-of nx a (length t + length r) (omega arith)) ∙ tour-of nx b (length t + length r) (omega arith)
+tours-same nx {t = t} {r = r} a b = sym (tour-of nx a (length t + length r) (omega arith))
+    ∙ tour-of nx b (length t + length r) (omega arith)
 
-module _ (nx : ℕ → Slot) (b : ℕ) (cl : (n : ℕ) (v : Val) → nx n ≡ holds v → Closed nx v) (bd : (n : ℕ) → Used nx n → n < b) where
-  walk-total : (f : ℕ) (s : List ℕ) (v : Val) → Closed nx v → NoDup s → AllUsed nx s → b ≤ length s + f → (t : List ℕ) × Walks nx s v t × NoDup t × AllUsed nx t
+module _ (nx : ℕ → Slot) (b : ℕ) (cl : (n : ℕ) (v : Val) → nx n ≡ holds v → Closed nx v) (bd : (n : ℕ) → Used nx n
+    → n < b) where
+  walk-total : (f : ℕ) (s : List ℕ) (v : Val) → Closed nx v → NoDup s → AllUsed nx s → b ≤ length s + f → (t : List ℕ)
+      × Walks nx s v t × NoDup t × AllUsed nx t
   walk-total zero s null k nd us h = (s, at-null, nd, us)
   walk-total zero s undef k nd us h = (s, at-undef, nd, us)
   walk-total zero s (cell c) k nd us h =
       bool-case (mem c s) (λ e. (s, at-seen e, nd, us))
-      (λ e. absurd (omega (arith, length-append s (c ∷ []), pigeon b (s ++ c ∷ []) (nodup-snoc s c nd e) (λ n q. bd n (used-snoc nx s c us k n q)))))
+      (λ e. absurd (omega (
+        arith,
+        length-append s (c ∷ []),
+        pigeon b (s ++ c ∷ []) (nodup-snoc s c nd e)
+            (λ n q. bd n (used-snoc nx s c us k n q)),
+      )))
   walk-total (suc f) s null k nd us h = (s, at-null, nd, us)
   walk-total (suc f) s undef k nd us h = (s, at-undef, nd, us)
   walk-total (suc f) s (cell c) k nd us h =
@@ -96,7 +112,8 @@ module _ (nx : ℕ → Slot) (b : ℕ) (cl : (n : ℕ) (v : Val) → nx n ≡ ho
       (omega (arith, length-append s (c ∷ []))) in
       (r .0, go e (k .1) (r .1), r .2, r .3))
 
-  tour-total : (s : List ℕ) (vs : List Val) → AllClosed nx vs → NoDup s → AllUsed nx s → (t : List ℕ) × Tours nx s vs t × NoDup t × AllUsed nx t
+  tour-total : (s : List ℕ) (vs : List Val) → AllClosed nx vs → NoDup s → AllUsed nx s → (t : List ℕ)
+      × Tours nx s vs t × NoDup t × AllUsed nx t
   tour-total s [] k nd us = (s, tour-done, nd, us)
   tour-total s (v ∷ vs) k nd us =
       let r = walk-total b s v (k .0) nd us (omega arith) in
@@ -109,7 +126,8 @@ walk-nodup nx zero s v nd = nd
 walk-nodup nx (suc f) s null nd = nd
 walk-nodup nx (suc f) s undef nd = nd
 walk-nodup nx (suc f) s (cell c) nd =
-    bool-case (mem c s) (λ e. rw (e, walk) nd) (λ e. rw (e, walk) (by-slot e (nx c) refl (λ w. walk-nodup nx f (s ++ c ∷ []) w (nodup-snoc s c nd e))))
+    bool-case (mem c s) (λ e. rw (e, walk) nd)
+    (λ e. rw (e, walk) (by-slot e (nx c) refl (λ w. walk-nodup nx f (s ++ c ∷ []) w (nodup-snoc s c nd e))))
   where
     by-slot : mem c s ≡ false → (x : Slot) → nx c ≡ x → ((w : Val) → NoDup (walk nx f (s ++ c ∷ []) w))
         → NoDup (elim (nx c) [ unused ↦ s | holds w ↦ walk nx f (s ++ c ∷ []) w ])
@@ -135,7 +153,8 @@ pub record Toured (h : Heap) : Type 0 where
 
 pub toured : (h : Heap) → ClosedHeap h → Toured h
 toured h k =
-    let r = tour-total (next h) (length (h .slots)) (k .1) (used-below (h .slots)) [] (h .ptrs) (k .0) tt (λ n q. clash q refl) in
+    let r = tour-total (next h) (length (h .slots)) (k .1) (used-below (h .slots)) [] (h .ptrs) (k .0) tt
+    (λ n q. clash q refl) in
     let e : order h ≡ r .0 = tour-of (next h) (r .1) (length (h .slots))
     (pigeon (length (h .slots)) (r .0) (r .2) (λ n q. used-below (h .slots) n (r .3 n q))) in
     record { tours = rw e (r .1); nodup = rw e (r .2); used = rw e (r .3) }

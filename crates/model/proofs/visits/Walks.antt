@@ -1,4 +1,5 @@
--- Cells in use and values that name them; the walk as a relation, without fuel; short names for what the definitions say in one line.
+-- Cells in use and values that name them; the walk as a relation, without fuel; short names for what the definitions
+-- say in one line.
 use Prim.Native.Nat.{ℕ}
 use mathlib.Core.Path.{_≡_, refl, subst, sym}
 use mathlib.Core.Logic.{inl, inr}
@@ -28,13 +29,16 @@ pub in-closed : (nx : ℕ → Slot) (vs : List Val) → ((v : Val) → In v vs �
 in-closed nx [] h = tt
 in-closed nx (v ∷ vs) h = (h v (inl refl), in-closed nx vs (λ w i. h w (inr i)))
 
-pub closed-up : (nx ny : ℕ → Slot) (vs : List Val) → ((x : Val) → Closed nx x → Closed ny x) → AllClosed nx vs → AllClosed ny vs
+pub closed-up : (nx ny : ℕ → Slot) (vs : List Val) → ((x : Val) → Closed nx x → Closed ny x) → AllClosed nx vs
+    → AllClosed ny vs
 closed-up nx ny vs f k = in-closed ny vs (λ v i. f v (closed-in nx vs v k i))
 
-pub closed-map : (nx ny : ℕ → Slot) (g : Val → Val) (vs : List Val) → ((x : Val) → Closed nx x → Closed ny (g x)) → AllClosed nx vs → AllClosed ny (map g vs)
+pub closed-map : (nx ny : ℕ → Slot) (g : Val → Val) (vs : List Val) → ((x : Val) → Closed nx x → Closed ny (g x))
+    → AllClosed nx vs → AllClosed ny (map g vs)
 closed-map nx ny g [] f k = tt
 closed-map nx ny g (v ∷ vs) f k = (f v (k .0), closed-map nx ny g vs f (k .1))
 
 -- maps that agree on such values
-pub map-closed : {A : Type 0} (nx : ℕ → Slot) (f g : Val → A) (vs : List Val) → ((x : Val) → Closed nx x → f x ≡ g x) → AllClosed nx vs → map f vs ≡ map g vs
+pub map-closed : {A : Type 0} (nx : ℕ → Slot) (f g : Val → A) (vs : List Val) → ((x : Val) → Closed nx x → f x ≡ g x)
+    → AllClosed nx vs → map f vs ≡ map g vs
 map-closed nx f g vs h k = map-same f g vs (λ v i. h v (closed-in nx vs v k i))

@@ -43,7 +43,8 @@ module _ (s : ℕ) (st : Stmt) (h : Heap) (kp : kept h ≡ true) where
   one-way : (y : Way) → Pairs Exclude (joined (map edges-by (y ∷ [])))
   one-way y = rw (append-nil (edges-by y)) (pairs-few Exclude (edges-by y) (edge-few s nodes y (stepBy st nodes y)))
 
-  more-ways : (y : Way) (ys : List Way) → ((a b : Edge) → In a (edges-by y) → In b (joined (map edges-by ys)) → Exclude a b)
+  more-ways : (y : Way) (ys : List Way) → ((a b : Edge) → In a (edges-by y) → In b (joined (map edges-by ys))
+      → Exclude a b)
       → Pairs Exclude (joined (map edges-by ys)) → Pairs Exclude (joined (map edges-by (y ∷ ys)))
   more-ways y ys f r =
       pairs-append Exclude (edges-by y) (joined (map edges-by ys))
@@ -60,14 +61,16 @@ module _ (s : ℕ) (st : Stmt) (h : Heap) (kp : kept h ≡ true) where
       f cs (ap (λ gs. guardsOn gs cs) (sym (way-guards s nodes y (stepBy st nodes y) a i)) ∙ p)
       (ap (λ gs. guardsOn gs cs) (sym (way-guards s nodes z (stepBy st nodes z) b j)) ∙ q)
 
-  plain-exclude : (k : Kind) → kind (st .op) ≡ k → Pairs Exclude (joined (map edges-by (map (λ p. whole [] p h) (picksOf k))))
+  plain-exclude : (k : Kind) → kind (st .op) ≡ k
+      → Pairs Exclude (joined (map edges-by (map (λ p. whole [] p h) (picksOf k))))
   plain-exclude halts q = one-way (whole [] 0 h)
   plain-exclude (acts a) q = one-way (whole [] 0 h)
   plain-exclude (ifNull u) q = one-way (whole [] 0 h)
   plain-exclude (ifSame u w) q = one-way (whole [] 0 h)
   plain-exclude picks q = two-ways (whole [] 0 h) (whole [] 1 h) (λ x y i j e cs g k. absurd (differ x y i j e))
     where
-      differ : (x y : Edge) → In x (edges-by (whole [] 0 h)) → In y (edges-by (whole [] 1 h)) → x .branchNo ≡ y .branchNo → ⊥
+      differ : (x y : Edge) → In x (edges-by (whole [] 0 h)) → In y (edges-by (whole [] 1 h)) → x .branchNo
+          ≡ y .branchNo → ⊥
       differ x y i j e =
           let p = choose-edge s nodes st q (whole [] 0 h) kp x i in
           let r = choose-edge s nodes st q (whole [] 1 h) kp y j in omega arith
@@ -99,19 +102,23 @@ module _ (s : ℕ) (st : Stmt) (h : Heap) (kp : kept h ≡ true) where
       (by-run (carryOut (st .op) nodes (y .heap)) (ap (λ k. branchBy k (y .pick) (y .heap)) q))
     where
       by-run : (x : Effect) → branch (st .op) (y .pick) (y .heap) ≡ 0
-          → (E : Edge) × In E (edgeBy s nodes y (answerOf st (branch (st .op) (y .pick) (y .heap)) x)) × (E .branchNo ≡ 0)
+          → (E : Edge) × In E (edgeBy s nodes y (answerOf st (branch (st .op) (y .pick) (y .heap)) x))
+          × (E .branchNo ≡ 0)
       by-run (fault f) b = (_, inl refl, refl)
       by-run (done g) b = (_, inl refl, b)
 
   -- each edge of a way that acts has branch 0
-  acts-branch : (a : Action) → kind (st .op) ≡ acts a → ((x : Slot) → acceptsCell a x ≡ true) → (y : Way) (E : Edge) → In E (edges-by y)
+  acts-branch : (a : Action) → kind (st .op) ≡ acts a → ((x : Slot) → acceptsCell a x ≡ true) → (y : Way) (E : Edge)
+      → In E (edges-by y)
       → E .branchNo ≡ 0
   acts-branch a q t y E i =
       let r = acts-edge a q t y in
-      ap (λ (x : Edge). x .branchNo) (few-same (edges-by y) (edge-few s nodes y (stepBy st nodes y)) E (r .0) i (r .1)) ∙ r .2
+      ap (λ (x : Edge). x .branchNo) (few-same (edges-by y) (edge-few s nodes y (stepBy st nodes y)) E (r .0) i
+      (r .1)) ∙ r .2
 
   -- the edge of a way whose guards are on
-  way-enabled : (a : Action) → kind (st .op) ≡ acts a → ((x : Slot) → acceptsCell a x ≡ true) → (ys : List Way) (y : Way) → In y ys
+  way-enabled : (a : Action) → kind (st .op) ≡ acts a → ((x : Slot) → acceptsCell a x ≡ true)
+      → (ys : List Way) (y : Way) → In y ys
       → (cs : List ℕ) → guardsOn (y .guards) cs ≡ true → Enabled ys cs 0
   way-enabled a q t ys y i cs on =
       let r = acts-edge a q t y in (
@@ -122,7 +129,8 @@ module _ (s : ℕ) (st : Stmt) (h : Heap) (kp : kept h ≡ true) where
       )
 
   ways-cover : (v : View) → view does h ≡ v → (cs : List ℕ) → ((n : ℕ) → v ≡ oneNode n → 1 ≤ getD cs n 0) → (E : Edge)
-      → In E (joined (map edges-by (waysOf (kind (st .op)) v h))) → Enabled (waysOf (kind (st .op)) v h) cs (E .branchNo)
+      → In E (joined (map edges-by (waysOf (kind (st .op)) v h))) → Enabled (waysOf (kind (st .op)) v h) cs
+      (E .branchNo)
   ways-cover noNode a cs pos E j =
       let kd = kind (st .op) in
       let r = in-joined E (map edges-by (map (λ p. whole [] p h) (picksOf kd))) j in
@@ -145,6 +153,7 @@ module _ (s : ℕ) (st : Stmt) (h : Heap) (kp : kept h ≡ true) where
       way-enabled (f .0) (f .1) t ys (split (moreAt n ∷ []) n h) (inr (inl refl)) cs (rw m)))
 
   -- whatever the counters are, as long as the node that is looked at has a cell
-  pub edges-cover : (cs : List ℕ) → ((n : ℕ) → view does h ≡ oneNode n → 1 ≤ getD cs n 0) → (E : Edge) → In E (edgesAt s st h)
+  pub edges-cover : (cs : List ℕ) → ((n : ℕ) → view does h ≡ oneNode n → 1 ≤ getD cs n 0) → (E : Edge)
+      → In E (edgesAt s st h)
       → (D : Edge) × In D (edgesAt s st h) × (D .branchNo ≡ E .branchNo) × (guardsOn (D .guards) cs ≡ true)
   edges-cover cs pos E i = ways-cover (view does h) refl cs pos E i

@@ -1,4 +1,5 @@
--- Leaving a location: each step that the routine makes is one of the location's edges, and each enabled edge is a step of the routine.
+-- Leaving a location: each step that the routine makes is one of the location's edges, and each enabled edge is a step
+-- of the routine.
 use Prim.Native.Nat.{_+_, _≤_, suc, ℕ}
 use mathlib.Core.Path.{_∙_, _≡_, ap, ap₂, refl, subst, sym}
 use mathlib.Core.Logic.{inl, inr}
@@ -48,7 +49,8 @@ sum-total : (sg : ℕ → Seg) (f : ℕ → ℕ) → ((i : ℕ) → size (sg i) 
 sum-total sg f h [] = refl
 sum-total sg f h (n ∷ l) = ap₂ _+_ (h n) (sum-total sg f h l)
 
-sums : (k : ℕ) (cs : List ℕ) (w : ℕ → Weight) (sg : ℕ → Seg) → length cs ≡ k → Fair k cs w → ((i : ℕ) → size (sg i) ≡ weigh cs (w i)) → (ss : List Seg)
+sums : (k : ℕ) (cs : List ℕ) (w : ℕ → Weight) (sg : ℕ → Seg) → length cs ≡ k → Fair k cs w
+    → ((i : ℕ) → size (sg i) ≡ weigh cs (w i)) → (ss : List Seg)
     → Alls (Neat (suc k)) ss
     → map (λ (s : Seg). total sg (cells s)) ss ≡ map (worth cs) (map (updateOf k w) ss)
 sums k cs w sg len F h [] a = refl
@@ -60,7 +62,8 @@ smalls : (k : ℕ) (cs : List ℕ) (w : ℕ → Weight) → length cs ≡ k → 
     → SmallUpdates k (map (updateOf k w) ss)
 smalls k cs w len F [] a u i = absurd i
 smalls k cs w len F (s ∷ ss) a u (inl e) =
-    let r = update-small k cs len w F s (a .0 .0) in subst (λ (x : Update). (x .plus ≤ 2) × (length (x .adds) ≡ k)) (sym e) r
+    let r = update-small k cs len w F s (a .0 .0) in subst (λ (x : Update). (x .plus ≤ 2) × (length (x .adds) ≡ k))
+    (sym e) r
 smalls k cs w len F (s ∷ ss) a u (inr i) = smalls k cs w len F ss (a .1) u i
 
 -- an edge and the routine's step, side by side
@@ -70,7 +73,8 @@ pub record Landed (q : State) (a : Answer) (E : Edge) (cs : List ℕ) : Type 0 w
   pub branches : taken .branchNo ≡ E .branchNo
   pub fits : Fit (taken .after) (E .to) (map (worth cs) (E .updates))
 
-landed : (s k : ℕ) (y : Way) (H : Heap) (cs : List ℕ) (sg : ℕ → Seg) (a b : Answer) → length (y .guards) ≤ 1 → length cs ≡ k
+landed : (s k : ℕ) (y : Way) (H : Heap) (cs : List ℕ) (sg : ℕ → Seg) (a b : Answer) → length (y .guards) ≤ 1
+    → length cs ≡ k
     → Fair k cs (y .weight)
     → ((i : ℕ) → size (sg i) ≡ weigh cs ((y .weight) i))
     → Agree sg a b → ShortAnswer (suc k) a
@@ -79,11 +83,21 @@ landed s k y H cs sg a b gd len F h (fault-alike {f = f}) sh = (
   record { branchNo = 0; guards = y .guards; to = failed s f; updates = [] },
   refl,
   refl,
-  record { taken = record { branchNo = 0; after = record { stmt = s; status = past f; heap = H } }; isMade = refl; branches = refl; fits = (refl, refl) },
+  record {
+    taken = record { branchNo = 0; after = record { stmt = s; status = past f; heap = H } };
+    isMade = refl;
+    branches = refl;
+    fits = (refl, refl);
+  },
   record { number = refl; guarded = gd; small = λ u i. absurd i },
 )
 landed s k y H cs sg a b gd len F h (went-alike {b = c} {t = t} {W = W′} {H = H′} X kp) sh = (
-  record { branchNo = c; guards = y .guards; to = at t (foldBy (segments W′) W′); updates = map (updateOf k (y .weight)) (segments W′) },
+  record {
+    branchNo = c;
+    guards = y .guards;
+    to = at t (foldBy (segments W′) W′);
+    updates = map (updateOf k (y .weight)) (segments W′);
+  },
   refl,
   refl,
   record {
@@ -92,13 +106,15 @@ landed s k y H cs sg a b gd len F h (went-alike {b = c} {t = t} {W = W′} {H = 
     branches = refl;
     fits = (
       ap (at t) (sym (fold-same W′ sg H′ X)),
-      sym (counters-grow W′ sg H′ X ∙ sums k cs (y .weight) sg len F h (segments W′) (neat (suc k) W′ (X .closed, X .body .closed) sh)),
+      sym (counters-grow W′ sg H′ X ∙ sums k cs (y .weight) sg len F h (segments W′)
+          (neat (suc k) W′ (X .closed, X .body .closed) sh)),
       large-closed W′ sg H′ X,
       kp,
     );
   },
   record {
-    number = length-map (segments W′) (updateOf k (y .weight)) ∙ sym (length-map (segments W′) (λ (g : Seg). nodeSlot (segments W′) (next W′ (last g))));
+    number = length-map (segments W′) (updateOf k (y .weight))
+        ∙ sym (length-map (segments W′) (λ (g : Seg). nodeSlot (segments W′) (next W′ (last g))));
     guarded = gd;
     small = smalls k cs (y .weight) len F (segments W′) (neat (suc k) W′ (X .closed, X .body .closed) sh);
   },
@@ -123,7 +139,9 @@ module _ (s : ℕ) (st : Stmt) (H : Heap) (cl : ClosedHeap H) (kp : Kept H) wher
       let aw : accepts (st .op) d (y .heap) ≡ true = accept-room (st .op) d (y .heap) (F .room) (λ q. p) in
       landed s nodes y H (counters H) (sg-after a nodes (e .cellNo) (F .sg)) (stepBy st nodes y) (step st e H) gd
       (count-length H cl kp) (F .fair) (F .weighs)
-      (step-agree st d e (y .heap) (F .sg) H (F .expansion) g aw ac (F .alone) (F .room) (room-accept (st .op) e H ac) b)
+      (step-agree st d e (y .heap) (F .sg) H (F .expansion) g aw ac (F .alone) (F .room) (room-accept (st .op) e H ac)
+      b)
       (rw (step-go st d (y .heap) g aw)
       (answer-short (suc nodes) st (branch (st .op) (y .pick) (y .heap)) (carryOut (st .op) nodes (y .heap))
-      (run-short (st .op) nodes (suc nodes) (y .heap) (F .expansion .closed, F .expansion .body .closed) (F .short) (omega arith))))
+      (run-short (st .op) nodes (suc nodes) (y .heap) (F .expansion .closed, F .expansion .body .closed) (F .short)
+      (omega arith))))

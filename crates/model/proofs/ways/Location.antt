@@ -1,4 +1,5 @@
--- The edges of a location against the steps of the routine, both ways: each step is an edge, and each enabled edge is a step.
+-- The edges of a location against the steps of the routine, both ways: each step is an edge, and each enabled edge is
+-- a step.
 use Prim.Native.Nat.{_≤_, ℕ}
 use mathlib.Core.Path.{_∙_, _≡_, ap, refl, subst, sym}
 use mathlib.Core.Logic.{inl, inr}
@@ -33,9 +34,11 @@ way-guards s k y stopped E i = absurd i
 way-guards s k y (faulted f) E i = ap (λ (x : Edge). x .guards) (in-single E _ i)
 way-guards s k y (went b t h) E i = ap (λ (x : Edge). x .guards) (in-single E _ i)
 
-pub edge-goes : (s k : ℕ) (y : Way) (st : Stmt) (E : Edge) → In E (edgeBy s k y (stepBy st k y)) → isStop (kind (st .op)) ≡ false
+pub edge-goes : (s k : ℕ) (y : Way) (st : Stmt) (E : Edge) → In E (edgeBy s k y (stepBy st k y))
+    → isStop (kind (st .op)) ≡ false
 edge-goes s k y st E i = bool-case (isStop (kind (st .op)))
-    (λ e. bool-case (accepts (st .op) (entry (y .pick) k) (y .heap)) (λ a. absurd (rw (a, e) at i)) (λ a. absurd (rw a at i)))
+    (λ e. bool-case (accepts (st .op) (entry (y .pick) k) (y .heap)) (λ a. absurd (rw (a, e) at i))
+    (λ a. absurd (rw a at i)))
     (λ e. e)
 
 -- at choose the branch of an edge is the pick of its way, since nothing is lost
@@ -66,7 +69,8 @@ module _ (s : ℕ) (st : Stmt) (H : Heap) (cl : ClosedHeap H) (kp : Kept H) wher
   plain-branch : (p q : ℕ) → (kind op-of ≡ picks → p ≡ q) → branch op-of p H ≡ branch op-of q (shape H)
   plain-branch p q h =
       branch-same (shape H) (segAt (segments H)) H (start H cl kp) (kind op-of) p
-      ∙ kind-case (kind op-of) (λ e. ap (λ z. branch op-of z (shape H)) (h e)) (λ n. branch-pick (kind op-of) p q (shape H) n)
+      ∙ kind-case (kind op-of) (λ e. ap (λ z. branch op-of z (shape H)) (h e))
+      (λ n. branch-pick (kind op-of) p q (shape H) n)
 
   node-branch : (n : ℕ) → view does (shape H) ≡ oneNode n → (p q : ℕ) (g : Heap) → branch op-of p H ≡ branch op-of q g
   node-branch n a p q g =
@@ -75,8 +79,10 @@ module _ (s : ℕ) (st : Stmt) (H : Heap) (cl : ClosedHeap H) (kp : Kept H) wher
 
   -- ---- each way whose guards are on lands beside each entry that is accepted and, at choose, picks as the way does
 
-  plain-lands : view does (shape H) ≡ noNode → (y : Way) → In y (map (λ p. whole [] p (shape H)) (picksOf (kind op-of))) → (e : Entry)
-      → isStop (kind op-of) ≡ false → accepts op-of e H ≡ true → (kind op-of ≡ picks → e .pick ≡ y .pick) → Lands s st H cl kp y e
+  plain-lands : view does (shape H) ≡ noNode → (y : Way)
+      → In y (map (λ p. whole [] p (shape H)) (picksOf (kind op-of))) → (e : Entry)
+      → isStop (kind op-of) ≡ false → accepts op-of e H ≡ true → (kind op-of ≡ picks → e .pick ≡ y .pick)
+      → Lands s st H cl kp y e
   plain-lands v y i e g ac pk =
       let r = in-map (λ p. whole [] p (shape H)) y (picksOf (kind op-of)) i in
       subst (λ z. Lands s st H cl kp z e) (sym (r .2))
@@ -95,7 +101,8 @@ module _ (s : ℕ) (st : Stmt) (H : Heap) (cl : ClosedHeap H) (kp : Kept H) wher
       (omega arith) (omega arith) ac (node-branch n v (e .pick) 0 (shape H))
 
   split-lands : (n : ℕ) → view does (shape H) ≡ oneNode n → guardsOn (moreAt n ∷ []) (counters H) ≡ true → (e : Entry)
-      → isStop (kind op-of) ≡ false → accepts op-of e H ≡ true → Lands s st H cl kp (split (moreAt n ∷ []) n (shape H)) e
+      → isStop (kind op-of) ≡ false → accepts op-of e H ≡ true
+      → Lands s st H cl kp (split (moreAt n ∷ []) n (shape H)) e
   split-lands n v on e g ac =
       let z = leb-true 2 (getD (counters H) n 0) (and-l (leb 2 (getD (counters H) n 0)) true on) in
       let w = counter-same n v in
@@ -107,7 +114,8 @@ module _ (s : ℕ) (st : Stmt) (H : Heap) (cl : ClosedHeap H) (kp : Kept H) wher
       → guardsOn (y .guards) (counters H) ≡ true → (e : Entry) → isStop (kind op-of) ≡ false → accepts op-of e H ≡ true
       → (kind op-of ≡ picks → e .pick ≡ y .pick) → Lands s st H cl kp y e
   way-lands noNode v y i on e g ac pk = plain-lands v y i e g ac pk
-  way-lands (oneNode n) v y (inl q) on e g ac pk = subst (λ z. Lands s st H cl kp z e) (sym q) (one-lands n v (rw q at on) e g ac)
+  way-lands (oneNode n) v y (inl q) on e g ac pk =
+      subst (λ z. Lands s st H cl kp z e) (sym q) (one-lands n v (rw q at on) e g ac)
   way-lands (oneNode n) v y (inr (inl q)) on e g ac pk =
       subst (λ z. Lands s st H cl kp z e) (sym q) (split-lands n v (rw q at on) e g ac)
   way-lands (oneNode n) v y (inr (inr x)) on e g ac pk = absurd x
@@ -141,12 +149,14 @@ module _ (s : ℕ) (st : Stmt) (H : Heap) (cl : ClosedHeap H) (kp : Kept H) wher
   edge-in : (y : Way) (E : Edge) → In y (ways op-of (shape H)) → edgeBy s nodes y (stepBy st nodes y) ≡ E ∷ []
       → In E (edgesAt s st (shape H))
   edge-in y E i e =
-      joined-in E (edgeBy s nodes y (stepBy st nodes y)) (map (λ z. edgeBy s nodes z (stepBy st nodes z)) (ways op-of (shape H)))
+      joined-in E (edgeBy s nodes y (stepBy st nodes y)) (map (λ z. edgeBy s nodes z (stepBy st nodes z))
+      (ways op-of (shape H)))
       (map-in (λ z. edgeBy s nodes z (stepBy st nodes z)) y (ways op-of (shape H)) i) (rw e (inl refl))
 
   -- each step that the routine makes is an edge of the location
   pub leave-forward : (e : Entry) (x : Advance State) → made (begin s H) (step st e H) ≡ some x
-      → (E : Edge) × In E (edgesAt s st (shape H)) × (guardsOn (E .guards) (counters H) ≡ true) × (x .branchNo ≡ E .branchNo)
+      → (E : Edge) × In E (edgesAt s st (shape H)) × (guardsOn (E .guards) (counters H) ≡ true)
+      × (x .branchNo ≡ E .branchNo)
       × Fit (x .after) (E .to) (map (worth (counters H)) (E .updates))
   leave-forward e x m =
       let g = made-goes (begin s H) st e H x m in
@@ -173,11 +183,16 @@ module _ (s : ℕ) (st : Stmt) (H : Heap) (cl : ClosedHeap H) (kp : Kept H) wher
   choose-way : kind op-of ≡ picks → (y : Way) → In y (ways op-of (shape H)) → (y .heap ≡ shape H) × (y .pick ≤ 1)
   choose-way q y i =
       let v : view does (shape H) ≡ noNode = ap (λ k. view (actionOf k) (shape H)) q in
-      let r = in-map (λ p. whole [] p (shape H)) y (picksOf (kind op-of)) (subst (λ x. In y (waysOf (kind op-of) x (shape H))) v i) in
-      (ap (λ (z : Way). z .heap) (r .2), subst (λ (z : Way). z .pick ≤ 1) (sym (r .2)) (pick-low (kind op-of) (r .0) (r .1)))
+      let r = in-map (λ p. whole [] p (shape H)) y (picksOf (kind op-of))
+      (subst (λ x. In y (waysOf (kind op-of) x (shape H))) v i) in (
+        ap (λ (z : Way). z .heap) (r .2),
+        subst (λ (z : Way). z .pick ≤ 1) (sym (r .2))
+            (pick-low (kind op-of) (r .0) (r .1)),
+      )
 
   -- each enabled edge is a step of the routine, fed the edge's branch and whichever cell that is not in use
-  pub leave-backward : (E : Edge) → In E (edgesAt s st (shape H)) → guardsOn (E .guards) (counters H) ≡ true → (e : Entry)
+  pub leave-backward : (E : Edge) → In E (edgesAt s st (shape H)) → guardsOn (E .guards) (counters H) ≡ true
+      → (e : Entry)
       → e .pick ≡ E .branchNo → inUse (next H (e .cellNo)) ≡ false
       → (x : Advance State) × (made (begin s H) (step st e H) ≡ some x) × (x .branchNo ≡ E .branchNo)
       × Fit (x .after) (E .to) (map (worth (counters H)) (E .updates))

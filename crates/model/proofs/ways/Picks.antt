@@ -106,12 +106,14 @@ accept-pick op e h a = and-l (acceptsPick (kind op) (e .pick)) (acceptsCell (act
 
 pub room-accept : (op : Op) (e : Entry) (h : Heap) → accepts op e h ≡ true → Room (action op) h (e .cellNo)
 room-accept op e h a =
-    cell-room (action op) h (e .cellNo) (and-r (acceptsPick (kind op) (e .pick)) (acceptsCell (action op) (next h (e .cellNo))) a)
+    cell-room (action op) h (e .cellNo) (and-r (acceptsPick (kind op) (e .pick))
+    (acceptsCell (action op) (next h (e .cellNo))) a)
 
 pub accept-room : (op : Op) (e : Entry) (h : Heap) → Room (action op) h (e .cellNo) → (kind op ≡ picks → e .pick ≤ 1)
     → accepts op e h ≡ true
 accept-room op e h r l =
-    and-both (acceptsPick (kind op) (e .pick)) (acceptsCell (action op) (next h (e .cellNo))) (low-pick (kind op) (e .pick) l)
+    and-both (acceptsPick (kind op) (e .pick)) (acceptsCell (action op) (next h (e .cellNo)))
+    (low-pick (kind op) (e .pick) l)
     (room-cell (action op) h (e .cellNo) r)
 
 -- only an accepted entry at a statement that is no stop makes a step

@@ -18,14 +18,19 @@ use Rattle.model.proofs.lists.Logic.{mem-append-l, mem-append-r}
 use Rattle.model.proofs.visits.Order.{toured, used-below}
 use Rattle.model.proofs.expansion.Kinds.{put-short, Short, leaves-short, effect-leaves}
 
-pub split-short : (n : ℕ) (h : Heap) → n < length (h .slots) → length (splitHeap n (length (h .slots)) h .slots) ≤ suc (length (h .slots))
+pub split-short : (n : ℕ) (h : Heap) → n < length (h .slots) → length (splitHeap n (length (h .slots)) h .slots) ≤ suc
+    (length (h .slots))
 split-short n h q =
-    put-short (put (h .slots) (length (h .slots)) (next h n)) n (holds (cell (length (h .slots)))) (suc (length (h .slots)))
-    (put-short (h .slots) (length (h .slots)) (next h n) (suc (length (h .slots))) (omega arith) (omega arith)) (omega arith)
+    put-short (put (h .slots) (length (h .slots)) (next h n)) n (holds (cell (length (h .slots))))
+    (suc (length (h .slots)))
+    (put-short (h .slots) (length (h .slots)) (next h n) (suc (length (h .slots))) (omega arith) (omega arith))
+    (omega arith)
 
-pub run-short : (op : Op) (n b : ℕ) (h : Heap) → ClosedHeap h → length (h .slots) ≤ b → n < b → Short b (carryOut op n h)
+pub run-short : (op : Op) (n b : ℕ) (h : Heap) → ClosedHeap h → length (h .slots) ≤ b → n < b
+    → Short b (carryOut op n h)
 run-short op n b h cl l q =
-    keep-any (Short b) (λ f. tt) (effect op n h) (leaves-short (action op) n b h l q (effect op n h) (effect-leaves (action op) n h cl))
+    keep-any (Short b) (λ f. tt) (effect op n h) (leaves-short (action op) n b h l q (effect op n h)
+    (effect-leaves (action op) n h cl))
 
 -- the cells of a segment are different, and below the number of slots
 abbrev pub Neat : ℕ → Seg → Type 0
@@ -40,4 +45,5 @@ neat-all b (s ∷ ss) nd h = (
 
 pub neat : (b : ℕ) (h : Heap) → ClosedHeap h → length (h .slots) ≤ b → Alls (Neat b) (segments h)
 neat b h cl l = neat-all b (segments h) (rw (flat-cut (core h) (order h)) (toured h cl .nodup))
-    (λ c m. let q = used-below (h .slots) c (toured h cl .used c (rw (flat-cut (core h) (order h)) at m)) in omega arith)
+    (λ c m. let q = used-below (h .slots) c (toured h cl .used c (rw (flat-cut (core h) (order h)) at m)) in
+    omega arith)

@@ -1,4 +1,5 @@
--- The ways out of a location: which of them a heap takes, and that the way's heap then stands for that heap, cell by cell, with its weights.
+-- The ways out of a location: which of them a heap takes, and that the way's heap then stands for that heap, cell by
+-- cell, with its weights.
 use Prim.Native.Nat.{_<_, _≤_, suc, ℕ}
 use mathlib.Core.Path.{_∙_, _≡_, ap, refl, subst, sym}
 use mathlib.Core.Bool.{cond, false, true}
@@ -22,8 +23,8 @@ use Rattle.model.proofs.ways.Weights.{Fair, weigh}
 use Rattle.model.proofs.expansion.Writes.{upd-at, upd-off}
 use Rattle.model.proofs.ways.Picks.{room-of}
 
--- A way fits a heap: the heap expands the way's, each node that is read, written or freed is one cell, and the weights are the
--- chains' sizes. k is the number of nodes and the cell for new on the shape, c the cell for new on the heap.
+-- A way fits a heap: the heap expands the way's, each node that is read, written or freed is one cell, and the weights
+-- are the chains' sizes. k is the number of nodes and the cell for new on the shape, c the cell for new on the heap.
 pub record Fits (a : Action) (k c : ℕ) (y : Way) (H : Heap) (cs : List ℕ) : Type 0 where
   pub sg : ℕ → Seg
   pub expansion : Expansion (y .heap) sg H
@@ -91,7 +92,8 @@ view-split (release u) n k h = refl
 
 -- ---- weights
 
-same-weigh : (k : ℕ) (sg : ℕ → Seg) (f : ℕ → ℕ) → ((i : ℕ) → eqb i k ≡ false → size (sg i) ≡ f i) → size (sg k) ≡ 1 → f k ≡ 1
+same-weigh : (k : ℕ) (sg : ℕ → Seg) (f : ℕ → ℕ) → ((i : ℕ) → eqb i k ≡ false → size (sg i) ≡ f i) → size (sg k) ≡ 1
+    → f k ≡ 1
     → (i : ℕ) → size (sg i) ≡ f i
 same-weigh k sg f h z e i = eq-case i k (λ p. ap (λ x. size (sg x)) p ∙ z ∙ sym e ∙ ap f (sym p)) (h i)
 
@@ -174,7 +176,8 @@ module _ (H : Heap) (cl : ClosedHeap H) (kp : Kept H) where
   past-end = List·getD-eq-default (shape H .slots) unused (omega arith)
 
   pub count-length : length (counters H) ≡ length (shape H .slots)
-  count-length = length-map (segments H) size ∙ sym (length-map (segments H) (λ (s : Seg). nodeSlot (segments H) (next H (last s))))
+  count-length = length-map (segments H) size ∙ sym
+      (length-map (segments H) (λ (s : Seg). nodeSlot (segments H) (next H (last s))))
 
   past-size : size (segAt (segments H) (length (shape H .slots))) ≡ 1
   past-size = size-at (length (shape H .slots)) ∙ List·getD-eq-default (counters H) 1 (omega (arith, count-length))

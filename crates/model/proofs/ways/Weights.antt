@@ -24,7 +24,8 @@ weigh cs one = 1
 weigh cs (less n) = getD cs n 1 - 1
 
 -- sums of flagged counters, the flags given by a test of the numbers from j on
-flags-none : (f : ℕ → Bool) (j : ℕ) (cs : List ℕ) → ((i : ℕ) → f i ≡ false) → flagged (map f (numbers j (length cs))) cs ≡ 0
+flags-none : (f : ℕ → Bool) (j : ℕ) (cs : List ℕ) → ((i : ℕ) → f i ≡ false) → flagged (map f (numbers j (length cs)))
+    cs ≡ 0
 flags-none f j [] h = refl
 flags-none f j (c ∷ cs) h = rw (h j) (omega (arith, flags-none f (suc j) cs h))
 
@@ -32,16 +33,20 @@ flags-past : (n j : ℕ) (cs : List ℕ) → n < j → flagged (map (λ i. eqb i
 flags-past n j [] h = refl
 flags-past n j (c ∷ cs) h = rw (ne-eqb j n (λ e. omega arith)) (omega (arith, flags-past n (suc j) cs (omega arith)))
 
-flags-one : (n j : ℕ) (cs : List ℕ) → n < length cs → flagged (map (λ i. eqb i (j + n)) (numbers j (length cs))) cs ≡ getD cs n 1
+flags-one : (n j : ℕ) (cs : List ℕ) → n < length cs → flagged (map (λ i. eqb i (j + n)) (numbers j (length cs))) cs
+    ≡ getD cs n 1
 flags-one n j [] h = absurd (omega arith)
-flags-one zero j (c ∷ cs) h = rw (eq-eqb j (j + 0) (omega arith)) (omega (arith, flags-past (j + 0) (suc j) cs (omega arith)))
+flags-one zero j (c ∷ cs) h = rw (eq-eqb j (j + 0) (omega arith))
+    (omega (arith, flags-past (j + 0) (suc j) cs (omega arith)))
 flags-one (suc n) j (c ∷ cs) h =
     rw (ne-eqb j (j + suc n) (λ e. omega arith))
     (let r = flags-one n (suc j) cs (omega arith) in
-    let s = ap (λ m. flagged (map (λ i. eqb i m) (numbers (suc j) (length cs))) cs) (let e : suc j + n ≡ j + suc n = omega arith in e) in omega arith)
+    let s = ap (λ m. flagged (map (λ i. eqb i m) (numbers (suc j) (length cs))) cs) (let e : suc j + n ≡ j + suc n =
+    omega arith in e) in omega arith)
 
 flags-or : (f g : ℕ → Bool) (j : ℕ) (cs : List ℕ) → ((i : ℕ) → f i ≡ true → g i ≡ true → ⊥)
-    → flagged (map (λ i. f i || g i) (numbers j (length cs))) cs ≡ flagged (map f (numbers j (length cs))) cs + flagged (map g (numbers j (length cs))) cs
+    → flagged (map (λ i. f i || g i) (numbers j (length cs))) cs ≡ flagged (map f (numbers j (length cs)))
+    cs + flagged (map g (numbers j (length cs))) cs
 flags-or f g j [] h = refl
 flags-or f g j (c ∷ cs) h =
     let r = flags-or f g (suc j) cs h in
@@ -49,8 +54,8 @@ flags-or f g j (c ∷ cs) h =
     (λ p. bool-case (g j) (λ q. absurd (h j p q)) (λ q. rw (p, q) (omega arith)))
     (λ p. bool-case (g j) (λ q. rw (p, q) (omega arith)) (λ q. rw (p, q) (omega arith)))
 
--- What is needed of the cells' weights: a counter belongs to one cell, and one cell at most is a rest, and one stands for one; counters are there,
--- and a rest's is not 0.
+-- What is needed of the cells' weights: a counter belongs to one cell, and one cell at most is a rest, and one stands
+-- for one; counters are there, and a rest's is not 0.
 pub record Fair (k : ℕ) (cs : List ℕ) (w : ℕ → Weight) : Type 0 where
   pub owned : (i c d : ℕ) → addsCounter i (w c) ≡ true → addsCounter i (w d) ≡ true → c ≡ d
   pub single : (c d : ℕ) → isLess (w c) ≡ true → isLess (w d) ≡ true → c ≡ d
@@ -64,7 +69,8 @@ module _ (k : ℕ) (cs : List ℕ) (len : length cs ≡ k) (w : ℕ → Weight) 
 
   -- one cell
   one-cell : (c : ℕ) (x : Weight) → w c ≡ x → c < suc k
-      → weigh cs x + cond (isLess x) 1 0 ≡ flagged (map (λ i. addsCounter i x) (numbers 0 (length cs))) cs + cond (isOneCell x) 1 0
+      → weigh cs x + cond (isLess x) 1 0 ≡ flagged (map (λ i. addsCounter i x) (numbers 0 (length cs))) cs + cond
+      (isOneCell x) 1 0
   one-cell c (counter n) e h =
       let lt : n < k = F .known n c h (rw (e, eqb-same n)) in
       let r = flags-one n 0 cs (omega arith) in
@@ -76,7 +82,8 @@ module _ (k : ℕ) (cs : List ℕ) (len : length cs ≡ k) (w : ℕ → Weight) 
       let s = ap (λ m. flagged (map (λ i. eqb i m) (numbers 0 (length cs))) cs) (zero-add n) in
       let p = F .positive c n e in omega arith
 
-  any-owner : (i : ℕ) (l : List ℕ) → any (λ c. addsCounter i (w c)) l ≡ true → (d : ℕ) × (mem d l ≡ true) × (addsCounter i (w d) ≡ true)
+  any-owner : (i : ℕ) (l : List ℕ) → any (λ c. addsCounter i (w c)) l ≡ true → (d : ℕ) × (mem d l ≡ true)
+      × (addsCounter i (w d) ≡ true)
   any-owner i l h = let r = any-find (λ c. addsCounter i (w c)) l h in (r .0, in-mem (r .0) l (r .1), r .2)
 
   -- the weights of a list of different cells
@@ -88,18 +95,24 @@ module _ (k : ℕ) (cs : List ℕ) (len : length cs ≡ k) (w : ℕ → Weight) 
       let r = balance l (nd .1) (λ d q. h d (mem-there d c l q)) in
       let o = one-cell c (w c) refl (h c (mem-here c l)) in
       let s = flags-or (λ i. addsCounter i (w c)) (λ i. any (λ d. addsCounter i (w d)) l) 0 cs
-      (λ i p q. let z = any-owner i l q in clash (subst (λ x. mem x l ≡ true) (sym (F .owned i c (z .0) p (z .2))) (z .1)) (nd .0)) in
+      (λ i p q. let z = any-owner i l q in clash (subst (λ x. mem x l ≡ true) (sym (F .owned i c (z .0) p (z .2)))
+      (z .1)) (nd .0)) in
       omega arith
 
   few-of : (p : ℕ → Bool) → ((c d : ℕ) → p c ≡ true → p d ≡ true → c ≡ d) → (l : List ℕ) → NoDup l → count p l ≤ 1
   few-of p one-only [] nd = omega arith
   few-of p one-only (c ∷ l) nd =
-      bool-case (p c) (λ e. rw e (omega (arith, none-of l (λ d q z. clash (subst (λ x. mem x l ≡ true) (one-only d c z e) q) (nd .0)))))
+      bool-case (p c) (λ e. rw e (omega (
+        arith,
+        none-of l
+            (λ d q z. clash (subst (λ x. mem x l ≡ true) (one-only d c z e) q) (nd .0)),
+      )))
       (λ e. rw e (omega (arith, few-of p one-only l (nd .1))))
     where
       none-of : (m : List ℕ) → ((d : ℕ) → mem d m ≡ true → p d ≡ true → ⊥) → count p m ≡ 0
       none-of [] z = refl
-      none-of (d ∷ m) z = rw (not-true (p d) (z d (mem-here d m))) (omega (arith, none-of m (λ x q. z x (mem-there x d m q))))
+      none-of (d ∷ m) z = rw (not-true (p d) (z d (mem-here d m)))
+          (omega (arith, none-of m (λ x q. z x (mem-there x d m q))))
 
   -- the constant of an update is -1, 0 or 1, and it has a flag for each old node
   pub update-small : (s : Seg) → NoDup (cells s) → (updateOf k w s .plus ≤ 2) × (length (updateOf k w s .adds) ≡ k)

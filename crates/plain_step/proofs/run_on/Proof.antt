@@ -10,26 +10,34 @@ use Rattle.plain_step.proofs.run_on.Tie as tie
 returns : tie.Need-returns
 returns c =
     let e = c .before .before .before .before .before .run-effect in
-    ran-on (run-faults (run-ready (c .before .before .before .before .before .before .before .before .before .before .pre)) (bytes (e .last .1 .1 .0) (e .last .1 .1 .1 .0)) (e .ensures) [] []
+    ran-on (run-faults (run-ready (c .before .before .before .before .before .before .before .before .before .before
+    .pre)) (bytes (e .last .1 .1 .0) (e .last .1 .1 .1 .0)) (e .ensures) [] []
     (c .if1 .taken))
 
 visit-requires : tie.Need-visit-requires
 visit-requires c κs =
     let e = c .before .before .before .before .before .before .before .before .before .run-effect in
-    visit-ready (run-ready (c .before .before .before .before .before .before .before .before .before .before .before .before .before .before .pre)) (bytes (e .last .1 .1 .0) (e .last .1 .1 .1 .0)) (e .ensures) (search needs)
+    visit-ready (run-ready (c .before .before .before .before .before .before .before .before .before .before .before
+    .before .before .before .pre)) (bytes (e .last .1 .1 .0) (e .last .1 .1 .1 .0)) (e .ensures) (search needs)
 
 returns-2 : tie.Need-returns-2
 returns-2 c =
-    let e = c .before .before .before .before .before .before .before .before .before .before .before .before .before .before .before .before .run-effect in
+    let e = c .before .before .before .before .before .before .before .before .before .before .before .before .before
+    .before .before .before .run-effect in
     let v = c .before .before .before .before .before .before .visit in
-    ran-on (run-done (run-ready (c .before .before .before .before .before .before .before .before .before .before .before .before .before .before .before .before .before .before .before .before .before .pre)) (bytes (e .last .1 .1 .0) (e .last .1 .1 .1 .0)) (e .ensures) (search needs)
+    ran-on (run-done (run-ready (c .before .before .before .before .before .before .before .before .before .before
+    .before .before .before .before .before .before .before .before .before .before .before .pre))
+    (bytes (e .last .1 .1 .0) (e .last .1 .1 .1 .0)) (e .ensures) (search needs)
     (v .ensures) (v .kept .1 .1 .0) (c .before .keeps-all .ensures) (c .if2 .taken))
 
 returns-3 : tie.Need-returns-3
 returns-3 c =
-    let e = c .before .before .before .before .before .before .before .before .before .before .before .before .before .before .before .before .run-effect in
+    let e = c .before .before .before .before .before .before .before .before .before .before .before .before .before
+    .before .before .before .run-effect in
     let v = c .before .before .before .before .before .before .visit in
-    ran-on (run-leaks (run-ready (c .before .before .before .before .before .before .before .before .before .before .before .before .before .before .before .before .before .before .before .before .before .pre)) (bytes (e .last .1 .1 .0) (e .last .1 .1 .1 .0)) (e .ensures) (search needs)
+    ran-on (run-leaks (run-ready (c .before .before .before .before .before .before .before .before .before .before
+    .before .before .before .before .before .before .before .before .before .before .before .pre))
+    (bytes (e .last .1 .1 .0) (e .last .1 .1 .1 .0)) (e .ensures) (search needs)
     (v .ensures) (v .kept .1 .1 .0) (c .before .keeps-all .ensures) (c .if2 .left))
 
 pub run-on-spec : {M : Type 1} → statement M

@@ -17,23 +17,31 @@ first-cells-requires : tie.Need-first-cells-requires
 first-cells-requires c κs =
     let s = c .before .before .before .before .before .before in
     let a = s .args in
-    omega (arith, ready-total (a .rec .now) (a .counters .now) (a .pointers .now) (a .cells .now) (s .pre), ready-twelve (a .rec .now) (a .counters .now) (a .pointers .now) (a .cells .now) (s .pre), s .pre)
+    omega (
+      arith,
+      ready-total (a .rec .now) (a .counters .now) (a .pointers .now) (a .cells .now) (s .pre),
+      ready-twelve (a .rec .now) (a .counters .now) (a .pointers .now) (a .cells .now) (s .pre),
+      s .pre,
+    )
 
 part-write-cells-end : tie.Need-part-write-cells-end
 part-write-cells-end c =
-    let s = c .before .before .before .before .before .before .before .before .before .before .before .before .before .before .before in
+    let s = c .before .before .before .before .before .before .before .before .before .before .before .before .before
+    .before .before in
     let a = s .args in
     omega (arith, ready-few (a .rec .now) (a .counters .now) (a .pointers .now) (a .cells .now) (s .pre), s .pre)
 
 slice-aggregate-write-cells-2 : tie.Need-slice-aggregate-write-cells-2
 slice-aggregate-write-cells-2 c =
-    let s = c .before .before .before .before .before .before .before .before .before .before .before .before .before .before .before .before .before in
+    let s = c .before .before .before .before .before .before .before .before .before .before .before .before .before
+    .before .before .before .before in
     let a = s .args in
     sym (ready-counters (a .rec .now) (a .counters .now) (a .pointers .now) (a .cells .now) (s .pre))
 
 write-cells-requires : tie.Need-write-cells-requires
 write-cells-requires c κs =
-    let s = c .before .before .before .before .before .before .before .before .before .before .before .before .before .before .before .before .before .before in
+    let s = c .before .before .before .before .before .before .before .before .before .before .before .before .before
+    .before .before .before .before .before in
     let a = s .args in
     let r = a .rec .now in
     let v = a .counters .now in
@@ -45,8 +53,10 @@ write-cells-requires c κs =
 
 returns : tie.Need-returns
 returns c =
-    let s = c .before .before .before .before .before .before .before .before .before .before .before .before .before .before .before .before .before .before .before .before .before in
-    let f = c .before .before .before .before .before .before .before .before .before .before .before .before .before .before .first-cells in
+    let s = c .before .before .before .before .before .before .before .before .before .before .before .before .before
+    .before .before .before .before .before .before .before .before in
+    let f = c .before .before .before .before .before .before .before .before .before .before .before .before .before
+    .before .first-cells in
     let a = s .args in
     let r = a .rec .now in
     let v = a .counters .now in
@@ -54,7 +64,8 @@ returns c =
     let l = a .cells .now in
     let t = f .last .1 .0 in
     let same : length t ≡ length v = omega (arith, ready-twelve r v p l (s .pre)) in (
-      c .before .before .before .before .before .before .before .before .before .place-pointers .ensures ∙ ready-pointers r v p l (s .pre) t (f .ensures) same,
+      c .before .before .before .before .before .before .before .before .before .place-pointers .ensures
+          ∙ ready-pointers r v p l (s .pre) t (f .ensures) same,
       c .before .before .write-cells .ensures ∙ ready-cells r v p l (s .pre) t (f .ensures) same (length l),
     )
 

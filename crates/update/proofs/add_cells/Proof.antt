@@ -1,4 +1,5 @@
--- `update::add_cells` meets its contract: after i cells each entry has grown by what those of its node add, and is at most 4096 for each.
+-- `update::add_cells` meets its contract: after i cells each entry has grown by what those of its node add, and is at
+-- most 4096 for each.
 use Prim.Native.Nat.{_+_, _-_, _<_, _≤_}
 use mathlib.Core.Path.{_≡_, refl, ap, _∙_}
 use native.Mathlib.Omega.{arith}
@@ -40,7 +41,8 @@ cell-plus-requires c κs =
     (r .below (getD cells i 0) (mem-at cells i (search needs)), r .fewOld, r .isNode)
 
 -- the cell's node has an entry
-node-below : (c : tie.After-node-of Inv-loop μ-loop) → c .node-of .result .0 < length (c .before .before .before .loop .updates)
+node-below : (c : tie.After-node-of Inv-loop μ-loop)
+    → c .node-of .result .0 < length (c .before .before .before .loop .updates)
 node-below c =
     let s = c .before .before .before .before .before .before .before in
     let i = c .before .before .before .loop .i in
@@ -61,9 +63,14 @@ loop-again c =
     let l = c .before .before .before .before .before .before .before .before .loop in
     let p = c .before .before .before .before .cell-plus in
     let t = getD (a .node .now) (getD (a .cells .now) (l .i) 0) 0 in
-    let lt : t < length (l .updates) = omega (arith, c .before .before .before .before .before .node-of .ensures, node-below (c .before .before .before .before .before)) in
+    let lt : t < length (l .updates) = omega (
+      arith,
+      c .before .before .before .before .before .node-of .ensures,
+      node-below (c .before .before .before .before .before),
+    ) in
     let e : c .before .before .add-code .last .0 ≡ set (l .updates) t (getD (l .updates) t 0 + p .result) =
-    c .before .before .add-code .ensures ∙ ap (λ x. set (l .updates) x (getD (l .updates) x 0 + p .result)) (c .before .before .before .before .before .node-of .ensures) in
+    c .before .before .add-code .ensures ∙ ap (λ x. set (l .updates) x (getD (l .updates) x 0 + p .result))
+    (c .before .before .before .before .before .node-of .ensures) in
     rw e (
       omega arith,
       simp length-set (l .inv .1),
@@ -76,7 +83,8 @@ returns c j lt =
     let a = c .before .before .before .before .before .args in
     let l = c .before .loop in
     l .inv .2 j lt .0
-    ∙ ap (λ t. getD (a .updates .now) j 0 + sumAt (a .node .now) (plusIn (a .weights)) j t) (take-all (l .i) (a .cells .now) (omega arith))
+    ∙ ap (λ t. getD (a .updates .now) j 0 + sumAt (a .node .now) (plusIn (a .weights)) j t)
+    (take-all (l .i) (a .cells .now) (omega arith))
 
 pub add-cells-spec : {M : Type 1} → statement M
 add-cells-spec =

@@ -22,14 +22,24 @@ returns-2 c =
     let e = c .before .before in
     let t = e .before .before in
     let a = t .before .before .args in
-    rw (t .if1 .taken, ne-eqb (a .c) (a .weights .node .0) (e .if2 .left), eq-eqb (a .c) (a .weights .nodes) (c .before .if3 .taken)) (c .flag .ensures)
+    rw (
+      t .if1 .taken,
+      ne-eqb (a .c) (a .weights .node .0) (e .if2 .left),
+      eq-eqb (a .c) (a .weights .nodes)
+          (c .before .if3 .taken),
+    ) (c .flag .ensures)
 
 returns-3 : tie.Need-returns-3
 returns-3 c =
     let e = c .before .before in
     let t = e .before .before in
     let a = t .before .before .args in
-    rw (t .if1 .taken, ne-eqb (a .c) (a .weights .node .0) (e .if2 .left), ne-eqb (a .c) (a .weights .nodes) (c .before .if3 .left)) (c .flag2 .ensures)
+    rw (
+      t .if1 .taken,
+      ne-eqb (a .c) (a .weights .node .0) (e .if2 .left),
+      ne-eqb (a .c) (a .weights .nodes)
+          (c .before .if3 .left),
+    ) (c .flag2 .ensures)
 
 returns-4 : tie.Need-returns-4
 returns-4 c =

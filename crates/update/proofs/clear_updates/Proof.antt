@@ -11,7 +11,8 @@ use Rattle.update.proofs.clear_updates.Statement.{statement}
 use Rattle.update.proofs.clear_updates.Tie as tie
 
 abbrev Inv-loop : tie.InvT-loop
-Inv-loop updates₀ i₀ updates i = (i ≤ length updates₀) × (length updates ≡ length updates₀) × (updates ≡ replicate i 4096 ++ drop i updates₀)
+Inv-loop updates₀ i₀ updates i = (i ≤ length updates₀) × (length updates ≡ length updates₀)
+    × (updates ≡ replicate i 4096 ++ drop i updates₀)
 
 abbrev μ-loop : tie.MeasureT-loop
 μ-loop updates₀ i₀ updates i = length updates₀ - i
@@ -19,8 +20,12 @@ abbrev μ-loop : tie.MeasureT-loop
 loop-again : tie.Need-loop-again Inv-loop μ-loop
 loop-again c =
     let l = c .before .loop in
-    let d = c .before .before .args .updates .now in
-    (omega arith, simp length-set (l .inv .1), ap (λ u. set u (l .i) 4096) (l .inv .2) ∙ fill-more (l .i) 4096 d (omega arith))
+    let d = c .before .before .args .updates .now in (
+      omega arith,
+      simp length-set (l .inv .1),
+      ap (λ u. set u (l .i) 4096) (l .inv .2)
+          ∙ fill-more (l .i) 4096 d (omega arith),
+    )
 
 returns : tie.Need-returns Inv-loop μ-loop
 returns c =

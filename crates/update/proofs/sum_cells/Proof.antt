@@ -21,15 +21,21 @@ add-cells-requires c κs =
     let a = s .args in
     let w = c .before .before .before .write-bases in
     let same : length (w .last .1 .1 .0) ≡ length (a .updates .now) = omega arith in (
-      (s .pre .0, ready-same (a .cells .now) (a .node .now) (a .weights) (length (a .updates .now)) (length (w .last .1 .1 .0)) same (s .pre .1)),
-      λ j lt. let e = w .ensures j (omega arith) in omega (arith, base-most (a .weights .split) (getD (a .node .now) (a .weights .nodes) 0) j),
+      (
+        s .pre .0,
+        ready-same (a .cells .now) (a .node .now) (a .weights) (length (a .updates .now))
+            (length (w .last .1 .1 .0)) same (s .pre .1),
+      ),
+      λ j lt. let e = w .ensures j (omega arith) in
+          omega (arith, base-most (a .weights .split) (getD (a .node .now) (a .weights .nodes) 0) j),
     )
 
 returns : tie.Need-returns
 returns c j lt =
     let a = c .before .before .before .before .before .before .before .before .before .before .before .args in
     c .before .before .add-cells .ensures j (omega arith)
-    ∙ ap (λ x. x + sumAt (a .node .now) (plusIn (a .weights)) j (a .cells .now)) (c .before .before .before .before .before .before .write-bases .ensures j lt)
+    ∙ ap (λ x. x + sumAt (a .node .now) (plusIn (a .weights)) j (a .cells .now))
+    (c .before .before .before .before .before .before .write-bases .ensures j lt)
 
 pub sum-cells-spec : {M : Type 1} → statement M
 sum-cells-spec = tie.close (tie.spec write-bases-requires add-cells-requires (λ c. search needs) returns)

@@ -8,10 +8,15 @@ use Rattle.update.proofs.write_bases.Statement.{statement}
 use Rattle.update.proofs.write_bases.Tie as tie
 
 node-of-requires : tie.Need-node-of-requires
-node-of-requires c κs = c .before .before .before .before .before .before .before .before .pre .0 (c .before .if1 .taken)
+node-of-requires c κs = c .before .before .before .before .before .before .before .before .pre .0
+    (c .before .if1 .taken)
 
 set-code-requires : tie.Need-set-code-requires
-set-code-requires c κs = omega (arith, c .node-of .ensures, c .before .before .before .before .before .before .before .before .before .pre .1 (c .before .before .if1 .taken))
+set-code-requires c κs = omega (
+  arith,
+  c .node-of .ensures,
+  c .before .before .before .before .before .before .before .before .before .pre .1 (c .before .before .if1 .taken),
+)
 
 returns : tie.Need-returns
 returns c j lt =
@@ -30,7 +35,8 @@ returns c j lt =
 returns-2 : tie.Need-returns-2
 returns-2 c j lt =
     let a = c .before .before .before .before .before .before .before .args in
-    rw (c .if1 .left) (ap (λ u. getD u j 0) (c .before .before .before .clear-updates .ensures) ∙ getD-replicate (length (a .updates .now)) j 4096 0 lt)
+    rw (c .if1 .left) (ap (λ u. getD u j 0) (c .before .before .before .clear-updates .ensures)
+    ∙ getD-replicate (length (a .updates .now)) j 4096 0 lt)
 
 pub write-bases-spec : {M : Type 1} → statement M
 write-bases-spec =

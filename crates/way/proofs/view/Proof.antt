@@ -1,4 +1,5 @@
--- `way::view` meets its contract: each op that reads, writes or frees does so through its pointer, and no other op does.
+-- `way::view` meets its contract: each op that reads, writes or frees does so through its pointer, and no other op
+-- does.
 use mathlib.Core.Path.{_≡_}
 use borrow.Author.Needs.{needs}
 use borrow.Author.Tests.{ne-eqb}

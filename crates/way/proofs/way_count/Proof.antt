@@ -18,7 +18,8 @@ returns c u w h =
 returns-2 : tie.Need-returns-2
 returns-2 c u w h =
     let a = c .before .before .args in
-    sym (number-goes (a .op) u w (a .v) h (search needs) (c .before .if1 .left) ∙ node-count (kind (opOf (a .op) u w)) (a .v) h (search needs))
+    sym (number-goes (a .op) u w (a .v) h (search needs) (c .before .if1 .left)
+    ∙ node-count (kind (opOf (a .op) u w)) (a .v) h (search needs))
 
 returns-3 : tie.Need-returns-3
 returns-3 c u w h =
