@@ -31,7 +31,8 @@ use Rattle.way.specs.Ready.{WayReady}
 use Rattle.way.specs.Way.{wayIn}
 use Rattle.way.specs.declared.Way as declared
 use Rattle.edge.specs.Edge.{LeavesBy}
-use Rattle.edge.specs.WayRun.{FaultMade, IsLeft, LeaveReady, WayRan, leftIn}
+use Rattle.edge.specs.WayRun.{FaultMade, WayRan, leftIn}
+use Rattle.refold.specs.Refold.{IsLeft, LeaveReady}
 use Rattle.edge.specs.declared.Gone.{Gone}
 
 -- ---- the edge of an answer

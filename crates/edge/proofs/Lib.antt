@@ -1,4 +1,3 @@
 pub mod Running
-pub mod Leaving
 pub mod Edges
 pub mod Keeping

@@ -1,8 +1,5 @@
 // One edge of a location: the statement is run on the location's shape, opened for the way, and the result is folded.
 // A statement that keeps the heap needs no run.
-mod fold;
-
-use fold::leave;
 use model::Decoded;
 use model::EdgeMade;
 use model::Guards;
@@ -123,7 +120,7 @@ fn run_edge(
     }
     let n = gone.cells;
     let v = gone.visited;
-    let m = leave(
+    let m = refold::leave(
         &pointers,
         &cells[..n],
         &order[..v],

@@ -1,6 +1,6 @@
 // What a run leaves, folded by the marks of the run.
 use update::Weights;
-ghost use Rattle.edge.specs.WayRun.{IsLeft, LeaveReady};
+ghost use Rattle.refold.specs.Refold.{IsLeft, LeaveReady};
 
 // Folds what a run left, by its visit order and marks: the target's record but for its head, and an update for each
 // new node. Answers how many there are.

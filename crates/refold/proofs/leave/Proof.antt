@@ -1,11 +1,11 @@
--- `edge::fold::leave` meets its contract: the order is cut, the image folded into the blank target, and the updates
+-- `refold::leave` meets its contract: the order is cut, the image folded into the blank target, and the updates
 -- summed by the nodes.
 use borrow.Author.Needs.{needs}
 use Rattle.segment.proofs.ImageLaws.{count-lasts, cut-ready, few-nodes, fold-ready, shape-is}
-use Rattle.edge.proofs.fold.leave.Statement.{statement}
-use Rattle.edge.proofs.fold.leave.Tie as tie
+use Rattle.refold.proofs.leave.Statement.{statement}
+use Rattle.refold.proofs.leave.Tie as tie
 use native.Mathlib.Omega.{arith}
-use Rattle.edge.proofs.Leaving.{sum-ready, is-left, part-room}
+use Rattle.refold.proofs.Leaving.{sum-ready, is-left, part-room}
 
 cut-requires : tie.Need-cut-requires
 cut-requires c κs = cut-ready (c .before .before .before .before .before .before .before .before .before .before

@@ -21,7 +21,7 @@ use Rattle.segment.specs.Shape.{IsShape}
 use Rattle.update.proofs.Updates.{Segmented, update-codes}
 use Rattle.update.specs.Codes.{CellsReady, codeAt}
 use Rattle.update.specs.declared.Weights.{Weights}
-use Rattle.edge.specs.WayRun.{IsLeft, LeaveReady}
+use Rattle.refold.specs.Refold.{IsLeft, LeaveReady}
 
 module _ {ps cs visit held : List ℕ} {w : Weights} {t us : List ℕ} (L : LeaveReady ps cs visit held w t us) where
   tour-facts : Toured (heapOf ps cs)
