@@ -20,9 +20,9 @@ fn run_on(d: Decoded, x: usize, pointers: &mut [u8], cells: &mut [u8]) -> u8
 {
     let mut order = [0u8; 240];
     let mut seen = [0u8; 240];
-    let fault = effect::run_effect(d, x, pointers, cells);
-    if fault != 0 {
-        return fault;
+    let number = effect::run_effect(d, x, pointers, cells);
+    if number != 0 {
+        return number;
     }
     let n = visit::visit(&pointers[..], &cells[..], &mut order, &mut seen);
     if machine::keeps_all(&cells[..], &seen, n) {
