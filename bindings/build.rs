@@ -1,9 +1,7 @@
-// Links the proved library as `rt staticlib exports` and `rt staticlib translator` wrote it.
+// Links the proved library as `rt staticlib currantplane` wrote it.
 fn main() {
     let dir = concat!(env!("CARGO_MANIFEST_DIR"), "/../target/staticlib");
     println!("cargo:rustc-link-search=native={dir}");
-    for name in ["exports", "translator"] {
-        println!("cargo:rustc-link-lib=static={name}");
-        println!("cargo:rerun-if-changed={dir}/lib{name}.a");
-    }
+    println!("cargo:rustc-link-lib=static=currantplane");
+    println!("cargo:rerun-if-changed={dir}/libcurrantplane.a");
 }

@@ -8,21 +8,49 @@
 mod raw {
     extern "C" {
         pub fn currantplane_fold(
-            pointers: *const u8, pointers_len: usize, cells: *const u8, cells_len: usize,
-            shape: *mut u8, shape_len: usize, counters: *mut u32, counters_len: usize, place: *mut usize,
+            pointers: *const u8,
+            pointers_len: usize,
+            cells: *const u8,
+            cells_len: usize,
+            shape: *mut u8,
+            shape_len: usize,
+            counters: *mut u32,
+            counters_len: usize,
+            place: *mut usize,
         ) -> u8;
         pub fn currantplane_unfold(
-            record: *const u8, record_len: usize, counters: *const u32, counters_len: usize,
-            pointers: *mut u8, pointers_len: usize, cells: *mut u8, cells_len: usize, place: *mut usize,
+            record: *const u8,
+            record_len: usize,
+            counters: *const u32,
+            counters_len: usize,
+            pointers: *mut u8,
+            pointers_len: usize,
+            cells: *mut u8,
+            cells_len: usize,
+            place: *mut usize,
         ) -> u8;
         pub fn currantplane_step(
-            pointers: *mut u8, pointers_len: usize, cells: *mut u8, cells_len: usize,
-            statement: *const u8, statement_len: usize, pick: u8, cell: usize, answer: *mut u8, answer_len: usize,
+            pointers: *mut u8,
+            pointers_len: usize,
+            cells: *mut u8,
+            cells_len: usize,
+            statement: *const u8,
+            statement_len: usize,
+            pick: u8,
+            cell: usize,
+            answer: *mut u8,
+            answer_len: usize,
             place: *mut usize,
         ) -> u8;
         pub fn currantplane_translate(
-            input: *const u8, input_len: usize, locations: *mut u8, locations_len: usize,
-            edges: *mut u8, edges_len: usize, answer: *mut usize, answer_len: usize,
+            input: *const u8,
+            input_len: usize,
+            locations: *mut u8,
+            locations_len: usize,
+            edges: *mut u8,
+            edges_len: usize,
+            answer: *mut usize,
+            answer_len: usize,
         ) -> u8;
     }
 }
@@ -39,8 +67,15 @@ pub fn fold(pointers: &[u8], cells: &[u8]) -> (Refusal, [u8; 32], [u32; 12]) {
     let (mut shape, mut counters, mut place) = ([0xaa; 32], [0xaaaa_aaaa; 12], usize::MAX);
     let number = unsafe {
         raw::currantplane_fold(
-            pointers.as_ptr(), pointers.len(), cells.as_ptr(), cells.len(),
-            shape.as_mut_ptr(), 32, counters.as_mut_ptr(), 12, &mut place,
+            pointers.as_ptr(),
+            pointers.len(),
+            cells.as_ptr(),
+            cells.len(),
+            shape.as_mut_ptr(),
+            32,
+            counters.as_mut_ptr(),
+            12,
+            &mut place,
         )
     };
     (Refusal { number, place }, shape, counters)
@@ -51,8 +86,15 @@ pub fn unfold(record: &[u8], counters: &[u32], pointers: &mut [u8], cells: &mut 
     let mut place = usize::MAX;
     let number = unsafe {
         raw::currantplane_unfold(
-            record.as_ptr(), record.len(), counters.as_ptr(), counters.len(),
-            pointers.as_mut_ptr(), pointers.len(), cells.as_mut_ptr(), cells.len(), &mut place,
+            record.as_ptr(),
+            record.len(),
+            counters.as_ptr(),
+            counters.len(),
+            pointers.as_mut_ptr(),
+            pointers.len(),
+            cells.as_mut_ptr(),
+            cells.len(),
+            &mut place,
         )
     };
     Refusal { number, place }
@@ -63,8 +105,17 @@ pub fn step(pointers: &mut [u8], cells: &mut [u8], statement: &[u8], pick: u8, c
     let (mut answer, mut place) = ([0xaa; 4], usize::MAX);
     let number = unsafe {
         raw::currantplane_step(
-            pointers.as_mut_ptr(), pointers.len(), cells.as_mut_ptr(), cells.len(),
-            statement.as_ptr(), statement.len(), pick, cell, answer.as_mut_ptr(), 4, &mut place,
+            pointers.as_mut_ptr(),
+            pointers.len(),
+            cells.as_mut_ptr(),
+            cells.len(),
+            statement.as_ptr(),
+            statement.len(),
+            pick,
+            cell,
+            answer.as_mut_ptr(),
+            4,
+            &mut place,
         )
     };
     (Refusal { number, place }, answer)
@@ -75,8 +126,14 @@ pub fn translate(input: &[u8], locations: &mut [u8], edges: &mut [u8]) -> (Refus
     let mut answer = [usize::MAX; 3];
     let number = unsafe {
         raw::currantplane_translate(
-            input.as_ptr(), input.len(), locations.as_mut_ptr(), locations.len(),
-            edges.as_mut_ptr(), edges.len(), answer.as_mut_ptr(), 3,
+            input.as_ptr(),
+            input.len(),
+            locations.as_mut_ptr(),
+            locations.len(),
+            edges.as_mut_ptr(),
+            edges.len(),
+            answer.as_mut_ptr(),
+            3,
         )
     };
     let [place, locations, edges] = answer;

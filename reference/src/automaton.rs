@@ -60,12 +60,7 @@ fn read_edge(record: &Record) -> Result<Edge, String> {
 
 impl Automaton {
     /// Reads so many records of each table; what follows them must be zero.
-    pub fn read(
-        locations: &[u8],
-        location_count: usize,
-        edges: &[u8],
-        edge_count: usize,
-    ) -> Result<Automaton, String> {
+    pub fn read(locations: &[u8], location_count: usize, edges: &[u8], edge_count: usize) -> Result<Automaton, String> {
         let location_records = used_records(locations, location_count)?;
         let edge_records = used_records(edges, edge_count)?;
         for record in &location_records {
@@ -73,10 +68,7 @@ impl Automaton {
                 return Err(format!("a record that is no location: {record:02x?}"));
             }
         }
-        let edges: Vec<Edge> = edge_records
-            .iter()
-            .map(read_edge)
-            .collect::<Result<_, _>>()?;
+        let edges: Vec<Edge> = edge_records.iter().map(read_edge).collect::<Result<_, _>>()?;
         let mut leaving = vec![Vec::new(); location_count];
         for (number, edge) in edges.iter().enumerate() {
             if edge.from >= location_count || edge.to >= location_count {
@@ -84,11 +76,7 @@ impl Automaton {
             }
             leaving[edge.from].push(number);
         }
-        Ok(Automaton {
-            locations: location_records,
-            edges,
-            leaving,
-        })
+        Ok(Automaton { locations: location_records, edges, leaving })
     }
 
     /// The numbers of the edges that leave a location.
@@ -135,10 +123,7 @@ impl Automaton {
 }
 
 fn added(update: u16, counters: &Counters) -> u64 {
-    (0..NODES)
-        .filter(|old| update >> old & 1 == 1)
-        .map(|old| counters[old])
-        .sum()
+    (0..NODES).filter(|old| update >> old & 1 == 1).map(|old| counters[old]).sum()
 }
 
 fn used_records(table: &[u8], count: usize) -> Result<Vec<Record>, String> {

@@ -29,29 +29,16 @@ pub fn fold(pointers: &[u8], cells: &[u8]) -> Folded {
     match read_image(pointers, cells) {
         Ok(heap) => {
             let (record, counters) = fold_heap(&heap);
-            Folded {
-                refusal: None,
-                record,
-                counters: counters.map(|counter| counter as u32),
-            }
+            Folded { refusal: None, record, counters: counters.map(|counter| counter as u32) }
         }
-        Err(number) => Folded {
-            refusal: Some(refusal(number)),
-            record: [0; RECORD],
-            counters: [0; NODES],
-        },
+        Err(number) => Folded { refusal: Some(refusal(number)), record: [0; RECORD], counters: [0; NODES] },
     }
 }
 
 /// Unfolds a shape with counters into a lent heap image, whose contents do
 /// not matter. Refuses with 13, 8, 9 or 15; then nothing is written. A list
 /// of counters that is not twelve long is refused with 15.
-pub fn unfold(
-    record: &[u8],
-    counters: &[u32],
-    pointers: &mut [u8],
-    cells: &mut [u8],
-) -> Result<(), Refusal> {
+pub fn unfold(record: &[u8], counters: &[u32], pointers: &mut [u8], cells: &mut [u8]) -> Result<(), Refusal> {
     if !lengths_fit(pointers, cells) {
         return Err(refusal(13));
     }
@@ -94,13 +81,7 @@ pub enum Stepped {
 
 /// Carries out one statement on a heap image. `pick` is read by choose only
 /// and `cell` by new only.
-pub fn step(
-    pointers: &mut [u8],
-    cells: &mut [u8],
-    statement: &[u8],
-    pick: u64,
-    cell: u64,
-) -> Stepped {
+pub fn step(pointers: &mut [u8], cells: &mut [u8], statement: &[u8], pick: u64, cell: u64) -> Stepped {
     let mut heap = match read_image(pointers, cells) {
         Ok(heap) => heap,
         Err(number) => return Stepped::Refused(refusal(number)),

@@ -38,16 +38,9 @@ fn refused(refusal: Refusal) -> Result<Answer, String> {
 }
 
 /// Carries out the command that the words name and answers the exit status.
-pub fn run(
-    words: &[String],
-    input: &mut dyn Read,
-    output: &mut dyn Write,
-    errors: &mut dyn Write,
-) -> u8 {
+pub fn run(words: &[String], input: &mut dyn Read, output: &mut dyn Write, errors: &mut dyn Write) -> u8 {
     let answer = dispatch(words, input).and_then(|answer| {
-        let written = output
-            .write_all(answer.text.as_bytes())
-            .and_then(|_| output.flush());
+        let written = output.write_all(answer.text.as_bytes()).and_then(|_| output.flush());
         match written {
             Ok(()) => Ok(answer.status),
             Err(error) => Err(format!("the answer could not be written: {error}")),
@@ -71,10 +64,9 @@ fn dispatch(words: &[String], input: &mut dyn Read) -> Result<Answer, String> {
         ["unfold"] => run_unfold(&read_all(input)?),
         ["step"] => run_step(&read_all(input)?),
         ["selftest", ..] => run_selftest(&words[1..]),
-        ["translate" | "fold" | "unfold" | "step", word, ..] => Err(format!(
-            "'{word}' is not expected; see 'reference {} --help'",
-            words[0]
-        )),
+        ["translate" | "fold" | "unfold" | "step", word, ..] => {
+            Err(format!("'{word}' is not expected; see 'reference {} --help'", words[0]))
+        }
         [command, ..] => Err(format!("no command '{command}'; see 'reference --help'")),
     }
 }
@@ -177,11 +169,7 @@ fn run_selftest(words: &[&str]) -> Result<Answer, String> {
             ("--seed", Some(number)) => seed = number,
             ("--routines", Some(number)) => routines = number,
             ("--seed" | "--routines", None) => return Err(format!("{flag} asks for a number")),
-            _ => {
-                return Err(format!(
-                    "no option '{flag}'; see 'reference selftest --help'"
-                ))
-            }
+            _ => return Err(format!("no option '{flag}'; see 'reference selftest --help'")),
         }
     }
     let (status, text) = match selftest::run(seed, routines) {

@@ -23,10 +23,7 @@ pub struct Heap {
 impl Heap {
     /// All pointers null and no cells.
     pub fn empty() -> Heap {
-        Heap {
-            pointers: [Value::Null; POINTERS],
-            cells: Vec::new(),
-        }
+        Heap { pointers: [Value::Null; POINTERS], cells: Vec::new() }
     }
 
     /// Whether the cell of this number is in use.
@@ -82,18 +79,12 @@ impl Heap {
     /// Whether some cell in use is not reachable.
     pub fn leaks(&self) -> bool {
         let met = self.reachable();
-        self.cells
-            .iter()
-            .zip(met)
-            .any(|(cell, met)| cell.is_some() && !met)
+        self.cells.iter().zip(met).any(|(cell, met)| cell.is_some() && !met)
     }
 
     /// The lowest cell number that is not in use.
     pub fn lowest_unused(&self) -> usize {
-        self.cells
-            .iter()
-            .position(Option::is_none)
-            .unwrap_or(self.cells.len())
+        self.cells.iter().position(Option::is_none).unwrap_or(self.cells.len())
     }
 }
 
@@ -104,12 +95,7 @@ mod tests {
     fn ring_with_stem() -> Heap {
         let mut heap = Heap::empty();
         heap.pointers[2] = Value::Cell(0);
-        heap.cells = vec![
-            Some(Value::Cell(1)),
-            Some(Value::Cell(3)),
-            None,
-            Some(Value::Cell(1)),
-        ];
+        heap.cells = vec![Some(Value::Cell(1)), Some(Value::Cell(3)), None, Some(Value::Cell(1))];
         heap
     }
 

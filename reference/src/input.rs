@@ -28,10 +28,7 @@ pub fn read_routine(input: &[u8]) -> Result<Routine, Refusal> {
     let records = split_records(input)?;
     let statements = count_statements(&records)?;
     let (statement_records, shape_records) = records.split_at(statements);
-    let mut routine = Routine {
-        statements: Vec::new(),
-        shapes: Vec::new(),
-    };
+    let mut routine = Routine { statements: Vec::new(), shapes: Vec::new() };
     for (place, record) in statement_records.iter().enumerate() {
         match read_statement(record, statements) {
             Ok(statement) => routine.statements.push(statement),

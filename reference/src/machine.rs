@@ -33,11 +33,7 @@ pub fn run(heap: &mut Heap, statement: &Statement, pick: u64, fresh: usize) -> O
         return Outcome::Fault(LEAK);
     }
     *heap = changed;
-    let next = if branch == 0 {
-        statement.first
-    } else {
-        statement.second
-    };
+    let next = if branch == 0 { statement.first } else { statement.second };
     Outcome::Moved { branch, next }
 }
 
@@ -96,13 +92,7 @@ mod tests {
 
     fn statement(op: Op, u: usize, w: usize) -> Statement {
         let (first, second) = (4, 5);
-        Statement {
-            op,
-            u,
-            w,
-            first,
-            second,
-        }
+        Statement { op, u, w, first, second }
     }
 
     /// Pointer 0 at cell 0, pointer 1 at cell 1, pointer 2 undefined; 0 leads to 1.

@@ -7,10 +7,7 @@
 
 use crate::fold::{fold_heap, Counters};
 use crate::machine::{run, Outcome};
-use crate::records::{
-    fault_location, location, node_count, pointer_byte, shape_of, Record, NODES, NO_GUARD, ONE,
-    TWO_OR_MORE,
-};
+use crate::records::{fault_location, location, node_count, pointer_byte, shape_of, Record, NODES, NO_GUARD, ONE, TWO_OR_MORE};
 use crate::statement::{Op, Statement};
 use crate::unfold::unfold_shape;
 
@@ -45,33 +42,20 @@ pub fn find_edges(place: &Record, statements: &[Statement]) -> Vec<Found> {
         return Vec::new();
     }
     let statement = &statements[usize::from(place[1])];
-    cases(place, statement)
-        .iter()
-        .map(|case| infer(place, statement, case))
-        .collect()
+    cases(place, statement).iter().map(|case| infer(place, statement, case)).collect()
 }
 
 fn cases(place: &Record, statement: &Statement) -> Vec<Case> {
-    let unguarded = |pick| Case {
-        pick,
-        guard: NO_GUARD,
-        node: 0,
-    };
+    let unguarded = |pick| Case { pick, guard: NO_GUARD, node: 0 };
     match statement.op {
         Op::Stop => return Vec::new(),
         Op::Choose => return vec![unguarded(0), unguarded(1)],
         _ => {}
     }
-    let held = statement
-        .through()
-        .map(|pointer| usize::from(pointer_byte(place, pointer)));
+    let held = statement.through().map(|pointer| usize::from(pointer_byte(place, pointer)));
     match held {
         Some(node) if node < node_count(place) => {
-            let guarded = |guard| Case {
-                pick: 0,
-                guard,
-                node,
-            };
+            let guarded = |guard| Case { pick: 0, guard, node };
             vec![guarded(ONE), guarded(TWO_OR_MORE)]
         }
         _ => vec![unguarded(0)],
@@ -99,13 +83,7 @@ fn infer(place: &Record, statement: &Statement, case: &Case) -> Found {
     for new in 0..nodes_of_target(&first) {
         updates[new] = infer_update(case, added[new], first.counters[new], &base);
     }
-    let found = Found {
-        branch: first.branch,
-        guard: case.guard,
-        node: case.node as u8,
-        target: first.target,
-        updates,
-    };
+    let found = Found { branch: first.branch, guard: case.guard, node: case.node as u8, target: first.target, updates };
     check_inference(place, statement, case, &first, &found);
     found
 }
@@ -131,18 +109,10 @@ fn probe(place: &Record, statement: &Statement, case: &Case, counters: &Counters
     let fresh = heap.lowest_unused();
     match run(&mut heap, statement, case.pick, fresh) {
         Outcome::Stop => panic!("a stop has no edge"),
-        Outcome::Fault(fault) => Probed {
-            branch: 0,
-            target: fault_location(place[1], fault),
-            counters: [0; NODES],
-        },
+        Outcome::Fault(fault) => Probed { branch: 0, target: fault_location(place[1], fault), counters: [0; NODES] },
         Outcome::Moved { branch, next } => {
             let (shape, counters) = fold_heap(&heap);
-            Probed {
-                branch,
-                target: location(next, &shape),
-                counters,
-            }
+            Probed { branch, target: location(next, &shape), counters }
         }
     }
 }
@@ -178,13 +148,7 @@ fn ones(added: u16) -> impl Iterator<Item = usize> {
 }
 
 /// Probes once more with all counters changed and applies the updates.
-fn check_inference(
-    place: &Record,
-    statement: &Statement,
-    case: &Case,
-    first: &Probed,
-    found: &Found,
-) {
+fn check_inference(place: &Record, statement: &Statement, case: &Case, first: &Probed, found: &Found) {
     let mut counters = base_counters(place, case);
     for node in varied_nodes(place, case) {
         counters[node] += 1 + node as u64 % 3;

@@ -68,11 +68,7 @@ pub fn random_heap(random: &mut Random, most: usize) -> Heap {
     // Long chains, or else many shared cells and rings.
     let chain = [10, 50, 90, 97][random.below(4)];
     for cell in 0..cells {
-        let next = if random.chance(chain) && cell + 1 < cells {
-            Value::Cell(cell + 1)
-        } else {
-            random_value(random, cells, 60)
-        };
+        let next = if random.chance(chain) && cell + 1 < cells { Value::Cell(cell + 1) } else { random_value(random, cells, 60) };
         heap.cells.push(Some(next));
     }
     let held = [40, 60, 90][random.below(3)];

@@ -124,20 +124,8 @@ mod tests {
     #[test]
     fn layout() {
         assert!(!breaks_layout(&one_node()));
-        let changes = [
-            (0, LOCATION),
-            (1, 1),
-            (2, 1),
-            (3, 0),
-            (3, 13),
-            (4, 1),
-            (4, UNUSED),
-            (10, 1),
-            (11, NULL),
-            (21, 1),
-            (22, 1),
-            (31, 1),
-        ];
+        let changes =
+            [(0, LOCATION), (1, 1), (2, 1), (3, 0), (3, 13), (4, 1), (4, UNUSED), (10, 1), (11, NULL), (21, 1), (22, 1), (31, 1)];
         for (at, byte) in changes {
             let mut record = one_node();
             record[at] = byte;

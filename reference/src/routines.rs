@@ -31,22 +31,14 @@ pub fn random_routine(random: &mut Random) -> Drawn {
     };
     let pointers = random.between(1, POINTERS);
     let weights = OP_WEIGHTS[random.weighted(&[5, 2, 3])];
-    let statements = (0..statements)
-        .map(|number| random_statement(random, number, statements, pointers, &weights))
-        .collect();
-    Drawn {
-        statements,
-        shapes: random_shapes(random, shapes),
-    }
+    let statements = (0..statements).map(|number| random_statement(random, number, statements, pointers, &weights)).collect();
+    Drawn { statements, shapes: random_shapes(random, shapes) }
 }
 
 /// How often each op is drawn: all kinds, few that leak, many that read and
 /// write.
-const OP_WEIGHTS: [[usize; 12]; 3] = [
-    [1, 2, 4, 5, 2, 4, 3, 2, 3, 3, 4, 1],
-    [1, 0, 1, 1, 0, 1, 1, 1, 3, 4, 5, 2],
-    [1, 1, 5, 9, 1, 7, 4, 3, 2, 2, 4, 1],
-];
+const OP_WEIGHTS: [[usize; 12]; 3] =
+    [[1, 2, 4, 5, 2, 4, 3, 2, 3, 3, 4, 1], [1, 0, 1, 1, 0, 1, 1, 1, 3, 4, 5, 2], [1, 1, 5, 9, 1, 7, 4, 3, 2, 2, 4, 1]];
 
 /// Pointers that wander over rings by choice: they seldom fault, and stand to
 /// each other in very many ways.
@@ -55,35 +47,20 @@ fn ring_walk(random: &mut Random) -> Drawn {
     let count = random.between(3, 12);
     // The last pointer keeps all cells reachable and is never moved.
     let pointers = random.between(2, POINTERS - 1);
-    let statements = (0..count)
-        .map(|number| random_statement(random, number, count, pointers, &WEIGHTS))
-        .collect();
+    let statements = (0..count).map(|number| random_statement(random, number, count, pointers, &WEIGHTS)).collect();
     let mut heap = Heap::empty();
     let cells = random.between(1, 8);
     for cell in 0..cells {
-        let next = if cell + 1 < cells {
-            cell + 1
-        } else {
-            random.below(cells)
-        };
+        let next = if cell + 1 < cells { cell + 1 } else { random.below(cells) };
         heap.cells.push(Some(Value::Cell(next)));
     }
     heap.pointers = heap.pointers.map(|_| Value::Cell(random.below(cells)));
     heap.pointers[POINTERS - 1] = Value::Cell(0);
-    Drawn {
-        statements,
-        shapes: vec![fold_heap(&heap).0],
-    }
+    Drawn { statements, shapes: vec![fold_heap(&heap).0] }
 }
 
 /// A statement that passes all checks, at this number of so many.
-pub fn random_statement(
-    random: &mut Random,
-    number: usize,
-    statements: usize,
-    pointers: usize,
-    weights: &[usize; 12],
-) -> Record {
+pub fn random_statement(random: &mut Random, number: usize, statements: usize, pointers: usize, weights: &[usize; 12]) -> Record {
     let mut record = [0; RECORD];
     record[0] = STATEMENT;
     let op = random.weighted(weights);

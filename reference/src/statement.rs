@@ -41,10 +41,7 @@ impl Op {
     }
 
     pub fn uses_w(self) -> bool {
-        matches!(
-            self,
-            Op::Copy | Op::LoadNext | Op::StoreNext | Op::TestEqual
-        )
+        matches!(self, Op::Copy | Op::LoadNext | Op::StoreNext | Op::TestEqual)
     }
 
     pub fn uses_first(self) -> bool {
@@ -57,12 +54,7 @@ impl Op {
 
     /// Which of the bytes 2 to 5 of an S record the op uses.
     pub fn used_fields(self) -> [bool; 4] {
-        [
-            self.uses_u(),
-            self.uses_w(),
-            self.uses_first(),
-            self.uses_second(),
-        ]
+        [self.uses_u(), self.uses_w(), self.uses_first(), self.uses_second()]
     }
 }
 
@@ -113,13 +105,7 @@ pub fn read_statement(record: &Record, statements: usize) -> Result<Statement, u
             return Err(7);
         }
     }
-    Ok(Statement {
-        op,
-        u: usize::from(record[2]),
-        w: usize::from(record[3]),
-        first: record[4],
-        second: record[5],
-    })
+    Ok(Statement { op, u: usize::from(record[2]), w: usize::from(record[3]), first: record[4], second: record[5] })
 }
 
 #[cfg(test)]

@@ -36,15 +36,9 @@ impl<'a> Lines<'a> {
             }
             if let Some(earlier) = lines.iter().find(|earlier| earlier.name == name) {
                 let earlier = earlier.number;
-                return Err(format!(
-                    "line {number}: '{name}' stands in line {earlier} already"
-                ));
+                return Err(format!("line {number}: '{name}' stands in line {earlier} already"));
             }
-            lines.push(Line {
-                number,
-                name,
-                words: words.collect(),
-            });
+            lines.push(Line { number, name, words: words.collect() });
         }
         Ok(Lines { lines })
     }
@@ -61,10 +55,7 @@ impl<'a> Lines<'a> {
     /// The values of a line as bytes.
     pub fn values(&self, name: &str) -> Result<Vec<u8>, String> {
         let line = self.line(name)?;
-        line.words
-            .iter()
-            .map(|word| line.check(value(word)))
-            .collect()
+        line.words.iter().map(|word| line.check(value(word))).collect()
     }
 
     /// The bytes of a line of hex digits.
@@ -101,10 +92,7 @@ impl<'a> Lines<'a> {
     /// The counters of a line, however many there are.
     pub fn counters(&self, name: &str) -> Result<Vec<u32>, String> {
         let line = self.line(name)?;
-        line.words
-            .iter()
-            .map(|word| line.check(number(word)))
-            .collect()
+        line.words.iter().map(|word| line.check(number(word))).collect()
     }
 }
 
@@ -112,10 +100,7 @@ impl Line<'_> {
     fn only_word(&self) -> Result<&str, String> {
         match self.words[..] {
             [word] => Ok(word),
-            _ => self.check(Err(format!(
-                "'{}' is followed by exactly one word",
-                self.name
-            ))),
+            _ => self.check(Err(format!("'{}' is followed by exactly one word", self.name))),
         }
     }
 
@@ -141,23 +126,15 @@ fn value(word: &str) -> Result<u8, String> {
         "unused" => Ok(UNUSED),
         _ => match number::<u8>(word) {
             Ok(byte) if byte < UNUSED => Ok(byte),
-            _ => Err(format!(
-                "'{word}' is no number from 0 to 252, null, undef or unused"
-            )),
+            _ => Err(format!("'{word}' is no number from 0 to 252, null, undef or unused")),
         },
     }
 }
 
 fn from_hex(word: &str) -> Result<Vec<u8>, String> {
-    let digits: Option<Vec<u8>> = word
-        .chars()
-        .map(|digit| digit.to_digit(16).map(|digit| digit as u8))
-        .collect();
+    let digits: Option<Vec<u8>> = word.chars().map(|digit| digit.to_digit(16).map(|digit| digit as u8)).collect();
     match digits {
-        Some(digits) if digits.len() % 2 == 0 => Ok(digits
-            .chunks(2)
-            .map(|pair| pair[0] << 4 | pair[1])
-            .collect()),
+        Some(digits) if digits.len() % 2 == 0 => Ok(digits.chunks(2).map(|pair| pair[0] << 4 | pair[1]).collect()),
         _ => Err(format!("'{word}' is not made of pairs of hex digits")),
     }
 }
@@ -181,10 +158,7 @@ pub fn write_record(name: &str, bytes: &[u8]) -> String {
 
 /// A line of all twelve counters.
 pub fn write_counters(name: &str, counters: &[u32; NODES]) -> String {
-    let words: String = counters
-        .iter()
-        .map(|counter| format!(" {counter}"))
-        .collect();
+    let words: String = counters.iter().map(|counter| format!(" {counter}")).collect();
     format!("{name}{words}\n")
 }
 
@@ -198,10 +172,7 @@ mod tests {
         let lines = Lines::read(input, &["pointers", "cells"]).unwrap();
         assert_eq!(lines.values("cells"), Ok(vec![1, NULL, UNUSED]));
         assert_eq!(lines.values("pointers"), Ok(vec![0, UNDEFINED, 252]));
-        assert_eq!(
-            write_values("cells", &[1, NULL, UNUSED, UNDEFINED]),
-            "cells 1 null unused undef\n"
-        );
+        assert_eq!(write_values("cells", &[1, NULL, UNUSED, UNDEFINED]), "cells 1 null unused undef\n");
     }
 
     #[test]
@@ -219,10 +190,7 @@ mod tests {
     fn errors_name_the_line() {
         let error = |input: &[u8]| match Lines::read(input, &["counters", "record"]) {
             Err(error) => error,
-            Ok(lines) => lines
-                .counters("counters")
-                .and_then(|_| lines.bytes("record"))
-                .expect_err("an error"),
+            Ok(lines) => lines.counters("counters").and_then(|_| lines.bytes("record")).expect_err("an error"),
         };
         assert!(error(b"\npointers 0").starts_with("line 2: 'pointers' is none of"));
         assert!(error(b"record 00\ncounters 1\nrecord 00").starts_with("line 3: 'record' stands"));

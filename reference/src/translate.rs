@@ -30,25 +30,14 @@ pub fn translate(input: &[u8], locations: &mut [u8], edges: &mut [u8]) -> Transl
     let edge_places = EDGES.min(edges.len() / RECORD);
     locations.fill(0);
     edges.fill(0);
-    let listing =
-        read_routine(input).and_then(|routine| explore(&routine, location_places, edge_places));
+    let listing = read_routine(input).and_then(|routine| explore(&routine, location_places, edge_places));
     match listing {
         Ok(listing) => {
             copy_records(&listing.locations, locations);
             copy_records(&listing.edges, edges);
-            Translated {
-                refusal: 0,
-                place: 0,
-                locations: listing.locations.len(),
-                edges: listing.edges.len(),
-            }
+            Translated { refusal: 0, place: 0, locations: listing.locations.len(), edges: listing.edges.len() }
         }
-        Err(Refusal { number, place }) => Translated {
-            refusal: number,
-            place,
-            locations: 0,
-            edges: 0,
-        },
+        Err(Refusal { number, place }) => Translated { refusal: number, place, locations: 0, edges: 0 },
     }
 }
 
@@ -67,18 +56,8 @@ struct Listing {
     edge_places: usize,
 }
 
-fn explore(
-    routine: &Routine,
-    location_places: usize,
-    edge_places: usize,
-) -> Result<Listing, Refusal> {
-    let mut listing = Listing {
-        locations: Vec::new(),
-        numbers: HashMap::new(),
-        edges: Vec::new(),
-        location_places,
-        edge_places,
-    };
+fn explore(routine: &Routine, location_places: usize, edge_places: usize) -> Result<Listing, Refusal> {
+    let mut listing = Listing { locations: Vec::new(), numbers: HashMap::new(), edges: Vec::new(), location_places, edge_places };
     for (number, shape) in routine.shapes.iter().enumerate() {
         listing.enter(location(0, shape), number)?;
     }

@@ -2,9 +2,7 @@
 
 use crate::fold::{fold_heap, Counters};
 use crate::heap::{Heap, Value};
-use crate::records::{
-    breaks_layout, byte_value, node_count, pointer_byte, successor_byte, Record, NODES,
-};
+use crate::records::{breaks_layout, byte_value, node_count, pointer_byte, successor_byte, Record, NODES};
 
 /// Unfolds a shape whose layout is sound, with a counter of at least 1 for
 /// each node. Cells are numbered from 0, node by node, head to tail.
@@ -30,8 +28,7 @@ pub fn unfold_shape(record: &Record, counters: &Counters) -> Heap {
         for cell in heads[node]..last {
             heap.cells.push(Some(Value::Cell(cell + 1)));
         }
-        heap.cells
-            .push(Some(in_cells(successor_byte(record, node))));
+        heap.cells.push(Some(in_cells(successor_byte(record, node))));
     }
     heap
 }

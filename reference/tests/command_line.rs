@@ -119,12 +119,7 @@ fn fold_and_unfold() {
     let folded = format!("record {record}\ncounters 2 0 0 0 0 0 0 0 0 0 0 0\n");
     check(&["fold"], heap, 0, &folded);
     let unfolded = "pointers 0 null null null undef null\ncells 1 null unused\n";
-    check(
-        &["unfold"],
-        (folded.clone() + "length 3\n").as_bytes(),
-        0,
-        unfolded,
-    );
+    check(&["unfold"], (folded.clone() + "length 3\n").as_bytes(), 0, unfolded);
     let lent = "pointers 9 9 9 9 9 9\ncells 7 undef null # any\n";
     check(&["unfold"], (folded.clone() + lent).as_bytes(), 0, unfolded);
     let ran = run_in_pieces(&["fold"], heap, 1);
@@ -165,14 +160,7 @@ fn unfold_takes_any_number_of_counters() {
     let mut longer = [0; 13];
     longer[0] = 1;
     // None is filled up with zeros, and none is cut.
-    let lists: [&[u32]; 6] = [
-        &[],
-        &[1],
-        &longer[..11],
-        &longer,
-        &[0; 100],
-        &[u32::MAX; 300],
-    ];
+    let lists: [&[u32]; 6] = [&[], &[1], &longer[..11], &longer, &[0; 100], &[u32::MAX; 300]];
     for counters in lists {
         check_unfold(&one, counters, 1, 15);
         check_unfold(&h(NULLS, &[]), counters, 0, 15);
@@ -228,17 +216,9 @@ fn bad_text_is_named_by_its_line() {
     check_wrong(&["fold"], b"pointers 253\ncells\n", "line 1: '253'");
     check_wrong(&["fold"], b"pointers 0\n", "no line 'cells'");
     check_wrong(&["fold"], b"cells\nrecord 00\n", "line 2: 'record'");
-    check_wrong(
-        &["fold"],
-        b"cells\ncells\n",
-        "line 2: 'cells' stands in line 1",
-    );
+    check_wrong(&["fold"], b"cells\ncells\n", "line 2: 'cells' stands in line 1");
     check_wrong(&["fold"], b"cells\n\xff\n", "line 2: not plain text");
-    check_wrong(
-        &["unfold"],
-        b"record 0\n",
-        "line 1: '0' is not made of pairs",
-    );
+    check_wrong(&["unfold"], b"record 0\n", "line 1: '0' is not made of pairs");
     check_wrong(&["unfold"], b"record zz\n", "line 1: 'zz'");
     let both = b"record 00\ncounters\nlength 1\ncells\n";
     check_wrong(&["unfold"], both, "'length' stands beside");
@@ -258,11 +238,7 @@ fn wrong_usage() {
     check_wrong(&["translate", "x"], b"", "'x' is not expected");
     check_wrong(&["fold", "x"], b"", "reference fold --help");
     check_wrong(&["selftest", "--seed"], b"", "--seed asks for a number");
-    check_wrong(
-        &["selftest", "--seed", "x"],
-        b"",
-        "--seed asks for a number",
-    );
+    check_wrong(&["selftest", "--seed", "x"], b"", "--seed asks for a number");
     check_wrong(&["selftest", "--speed", "1"], b"", "no option '--speed'");
 }
 

@@ -163,10 +163,7 @@ fn step_on(statement: &[u8], pick: u64, cell: u64) -> (Stepped, [u8; 6], [u8; 5]
 
 #[test]
 fn steps_that_move() {
-    let moved = Stepped::Moved {
-        branch: 0,
-        next: 63,
-    };
+    let moved = Stepped::Moved { branch: 0, next: 63 };
     let (stepped, pointers, cells) = step_on(&s(6, 1, 0, 63, 0), 77, 3);
     assert_eq!(stepped, moved);
     assert_eq!(pointers, [4, 3, UNDEF, 1, NULL, 4]);

@@ -110,20 +110,8 @@ fn input_order_across_records() {
 
 #[test]
 fn shapes_8() {
-    let changes: [(usize, u8); 12] = [
-        (1, 1),
-        (2, 3),
-        (3, 13),
-        (3, 255),
-        (4, 2),
-        (9, UNUSED),
-        (10, 2),
-        (11, 0xf0),
-        (12, NULL),
-        (21, 1),
-        (22, 1),
-        (31, 255),
-    ];
+    let changes: [(usize, u8); 12] =
+        [(1, 1), (2, 3), (3, 13), (3, 255), (4, 2), (9, UNUSED), (10, 2), (11, 0xf0), (12, NULL), (21, 1), (22, 1), (31, 255)];
     for (at, byte) in changes {
         check_refusal(&input(&[skip(), with_byte(shape(), at, byte)]), 8, 1);
     }
@@ -151,12 +139,8 @@ fn shapes_9() {
     for record in refused {
         check_refusal(&input(&[skip(), shape(), record]), 9, 2);
     }
-    let passed = [
-        h(pointers(&[0, 2]), &[1, NULL, 1]),
-        h(pointers(&[0]), &[1, 1]),
-        h(pointers(&[NULL, 0]), &[UNDEF]),
-        h([0; 6], &[0]),
-    ];
+    let passed =
+        [h(pointers(&[0, 2]), &[1, NULL, 1]), h(pointers(&[0]), &[1, 1]), h(pointers(&[NULL, 0]), &[UNDEF]), h([0; 6], &[0])];
     for record in passed {
         let got = into_tables(&input(&[stop(), record]), 32, 0);
         assert_eq!((got.answer.refusal, got.answer.locations), (0, 1));

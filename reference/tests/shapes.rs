@@ -30,10 +30,7 @@ fn all_lists(length: usize, nodes: usize) -> Vec<Vec<u8>> {
     values.extend([NULL, UNDEF]);
     let mut lists = vec![Vec::new()];
     for _ in 0..length {
-        lists = lists
-            .iter()
-            .flat_map(|list| values.iter().map(|&value| [&list[..], &[value]].concat()))
-            .collect();
+        lists = lists.iter().flat_map(|list| values.iter().map(|&value| [&list[..], &[value]].concat())).collect();
     }
     lists
 }
@@ -85,8 +82,5 @@ fn twelve_nodes() {
     assert_eq!(unfold_with(&[18; 13]), Err(at_0(15)));
     assert_eq!(unfold_with(&[20; 12]), Ok(()));
     let folded = reference::fold(&to_pointers, &to_cells);
-    assert_eq!(
-        (folded.record, folded.counters),
-        (h(held, &successors), [20; 12])
-    );
+    assert_eq!((folded.record, folded.counters), (h(held, &successors), [20; 12]));
 }

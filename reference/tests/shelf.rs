@@ -16,11 +16,7 @@ fn p1() -> [Record; 3] {
 #[test]
 fn p1_free_of_a_list() {
     let got = into_tables(&input(&p1()), 32 * 1024, 32 * 2048);
-    let lines: Vec<String> = got.locations[..96]
-        .chunks(32)
-        .chain(got.edges[..64].chunks(32))
-        .map(hex)
-        .collect();
+    let lines: Vec<String> = got.locations[..96].chunks(32).chain(got.edges[..64].chunks(32)).map(hex).collect();
     let zeros = |count| "0".repeat(count);
     assert_eq!(lines[0], format!("4c00000100fefefefefefe{}", zeros(42)));
     assert_eq!(lines[1], format!("4c010000fffefefefefe{}", zeros(44)));
@@ -29,11 +25,7 @@ fn p1_free_of_a_list() {
     assert_eq!(lines[4], format!("4500000002000200{}", zeros(48)));
     check_listing(
         &p1(),
-        &[
-            l(0, pointers(&[0]), &[NULL]),
-            l(1, pointers(&[UNDEF]), &[]),
-            faulted(0, 3),
-        ],
+        &[l(0, pointers(&[0]), &[NULL]), l(1, pointers(&[UNDEF]), &[]), faulted(0, 3)],
         &[e(0, 1, 1, 0, &[]), e(0, 2, 2, 0, &[])],
     );
 }
@@ -42,11 +34,7 @@ fn p1_free_of_a_list() {
 fn p2_step_along_a_list_held_twice() {
     check_listing(
         &one(s(3, 0, 0, 1, 0), h(pointers(&[0, 0]), &[NULL])),
-        &[
-            l(0, pointers(&[0, 0]), &[NULL]),
-            l(1, pointers(&[NULL, 0]), &[NULL]),
-            l(1, pointers(&[0, 1]), &[NULL, 0]),
-        ],
+        &[l(0, pointers(&[0, 0]), &[NULL]), l(1, pointers(&[NULL, 0]), &[NULL]), l(1, pointers(&[0, 1]), &[NULL, 0])],
         &[e(0, 1, 1, 0, &[0x1001]), e(0, 2, 2, 0, &[0x0001, 0x2000])],
     );
 }
@@ -60,11 +48,7 @@ fn p3_step_along_a_ring() {
         &[e(0, 1, 1, 0, &[0x1001]), e(0, 1, 2, 0, &[0x1001])],
     );
     // The same, coming back to its own location.
-    check_listing(
-        &[s(3, 0, 0, 0, 0), h(ring, &[0])],
-        &[l(0, ring, &[0])],
-        &[e(0, 0, 1, 0, &[0x1001]), e(0, 0, 2, 0, &[0x1001])],
-    );
+    check_listing(&[s(3, 0, 0, 0, 0), h(ring, &[0])], &[l(0, ring, &[0])], &[e(0, 0, 1, 0, &[0x1001]), e(0, 0, 2, 0, &[0x1001])]);
 }
 
 #[test]
@@ -90,11 +74,7 @@ fn p6_cut_before_a_shared_tail() {
     let shape = [0, 2, NULL, NULL, NULL, NULL];
     check_listing(
         &one(s(4, 0, 0, 1, 0), h(shape, &[1, NULL, 1])),
-        &[
-            l(0, shape, &[1, NULL, 1]),
-            l(1, pointers(&[0, 1]), &[NULL, NULL]),
-            faulted(0, 3),
-        ],
+        &[l(0, shape, &[1, NULL, 1]), l(1, pointers(&[0, 1]), &[NULL, NULL]), faulted(0, 3)],
         &[e(0, 1, 1, 0, &[0x1001, 0x1006]), e(0, 2, 2, 0, &[])],
     );
 }
@@ -112,21 +92,14 @@ fn p7_new() {
 fn p8_two_segments_become_one() {
     check_listing(
         &one(s(1, 1, 0, 1, 0), h(pointers(&[0, 1]), &[1, NULL])),
-        &[
-            l(0, pointers(&[0, 1]), &[1, NULL]),
-            l(1, pointers(&[0]), &[NULL]),
-        ],
+        &[l(0, pointers(&[0, 1]), &[1, NULL]), l(1, pointers(&[0]), &[NULL])],
         &[e(0, 1, 0, 0, &[0x1003])],
     );
 }
 
 #[test]
 fn p9_free_of_null() {
-    check_listing(
-        &one(s(7, 0, 0, 1, 0), h(NULLS, &[])),
-        &[l(0, NULLS, &[]), l(1, NULLS, &[])],
-        &[e(0, 1, 0, 0, &[])],
-    );
+    check_listing(&one(s(7, 0, 0, 1, 0), h(NULLS, &[])), &[l(0, NULLS, &[]), l(1, NULLS, &[])], &[e(0, 1, 0, 0, &[])]);
 }
 
 #[test]
@@ -141,11 +114,7 @@ fn p10_write_through_undefined() {
 #[test]
 fn p11_two_undefined_pointers_are_equal() {
     let both = pointers(&[UNDEF, UNDEF]);
-    check_listing(
-        &[s(9, 0, 1, 1, 2), stop(), stop(), h(both, &[])],
-        &[l(0, both, &[]), l(1, both, &[])],
-        &[e(0, 1, 0, 0, &[])],
-    );
+    check_listing(&[s(9, 0, 1, 1, 2), stop(), stop(), h(both, &[])], &[l(0, both, &[]), l(1, both, &[])], &[e(0, 1, 0, 0, &[])]);
 }
 
 #[test]
@@ -172,11 +141,7 @@ fn the_guarded_counter_is_carried_when_it_merges() {
     let apart = pointers(&[0, 1]);
     check_listing(
         &one(s(5, 1, 0, 1, 0), h(apart, &[NULL, NULL])),
-        &[
-            l(0, apart, &[NULL, NULL]),
-            l(1, apart, &[NULL, 0]),
-            faulted(0, 3),
-        ],
+        &[l(0, apart, &[NULL, NULL]), l(1, apart, &[NULL, 0]), faulted(0, 3)],
         &[e(0, 1, 1, 1, &[0x1001, 0x1002]), e(0, 2, 2, 1, &[])],
     );
     // p0 := p0.next where node 2 leads to node 0: under = 1 the cell merges
@@ -185,14 +150,7 @@ fn the_guarded_counter_is_carried_when_it_merges() {
     let shape = h(before, &[1, NULL, 0]);
     check_listing(
         &one(s(3, 0, 0, 1, 0), shape),
-        &[
-            l(0, before, &[1, NULL, 0]),
-            l(1, pointers(&[0, 1, 0]), &[NULL, 0]),
-            l(1, pointers(&[0, 2, 1]), &[1, NULL, 0]),
-        ],
-        &[
-            e(0, 1, 1, 0, &[0x1002, 0x1005]),
-            e(0, 2, 2, 0, &[0x0001, 0x1002, 0x2004]),
-        ],
+        &[l(0, before, &[1, NULL, 0]), l(1, pointers(&[0, 1, 0]), &[NULL, 0]), l(1, pointers(&[0, 2, 1]), &[1, NULL, 0])],
+        &[e(0, 1, 1, 0, &[0x1002, 0x1005]), e(0, 2, 2, 0, &[0x0001, 0x1002, 0x2004])],
     );
 }

@@ -92,12 +92,7 @@ fn refusals_and_round_trips() {
         met[usize::from(due)] += 1;
         if due == 0 {
             let (mut to_held, mut to_cells) = ([7; 6], [7; 3]);
-            let answer = unfold(
-                &folded.record,
-                &folded.counters,
-                &mut to_held,
-                &mut to_cells,
-            );
+            let answer = unfold(&folded.record, &folded.counters, &mut to_held, &mut to_cells);
             assert_eq!(answer, Ok(()), "{held:?} {cells:?}");
             let same = same_heap((&held, &cells), (&to_held, &to_cells));
             assert!(same, "{held:?} {cells:?} became {to_held:?} {to_cells:?}");
@@ -109,13 +104,7 @@ fn refusals_and_round_trips() {
 
 /// The statement on the bytes, without the leak: a fault, or whether the
 /// first target is taken.
-fn effect(
-    held: &mut [u8; 6],
-    cells: &mut Cells,
-    fields: [u8; 3],
-    pick: u64,
-    cell: u8,
-) -> Result<bool, u8> {
+fn effect(held: &mut [u8; 6], cells: &mut Cells, fields: [u8; 3], pick: u64, cell: u8) -> Result<bool, u8> {
     let [op, u, w] = fields.map(usize::from);
     let through = |byte: u8| match byte {
         NULL => Err(1),
@@ -149,13 +138,7 @@ fn effect(
     Ok(true)
 }
 
-fn due_step(
-    held: &mut [u8; 6],
-    cells: &mut Cells,
-    fields: [u8; 3],
-    pick: u64,
-    cell: u8,
-) -> Stepped {
+fn due_step(held: &mut [u8; 6], cells: &mut Cells, fields: [u8; 3], pick: u64, cell: u8) -> Stepped {
     match fields[0] {
         0 => return Stepped::Stop,
         6 if cell >= 3 || used(cells, cell) => return Stepped::Refused(at_0(16)),
@@ -167,14 +150,8 @@ fn due_step(
     let stepped = match done {
         Err(fault) => Stepped::Fault(fault),
         Ok(_) if due_refusal(held, cells) == 14 => Stepped::Fault(3),
-        Ok(true) => Stepped::Moved {
-            branch: 0,
-            next: 41,
-        },
-        Ok(false) => Stepped::Moved {
-            branch: 1,
-            next: 42,
-        },
+        Ok(true) => Stepped::Moved { branch: 0, next: 41 },
+        Ok(false) => Stepped::Moved { branch: 1, next: 42 },
     };
     if let Stepped::Fault(_) = stepped {
         (*held, *cells) = (before_held, before_cells);
@@ -200,9 +177,7 @@ fn all_statements() -> Vec<Record> {
 fn every_statement() {
     let statements = all_statements();
     let mut faults = [0; 4];
-    let sound = all_images()
-        .into_iter()
-        .filter(|(held, cells)| due_refusal(held, cells) == 0);
+    let sound = all_images().into_iter().filter(|(held, cells)| due_refusal(held, cells) == 0);
     for (number, (held, cells)) in sound.enumerate() {
         for statement in &statements {
             let (pick, cell) = (number as u64 % 3, (number / 3 % 4) as u8);

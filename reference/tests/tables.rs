@@ -6,12 +6,7 @@ use common::*;
 use reference::translate;
 
 fn p2() -> Vec<u8> {
-    input(&[
-        s(3, 0, 0, 1, 0),
-        stop(),
-        h(pointers(&[0, 0]), &[NULL]),
-        h(NULLS, &[]),
-    ])
+    input(&[s(3, 0, 0, 1, 0), stop(), h(pointers(&[0, 0]), &[NULL]), h(NULLS, &[])])
 }
 
 fn listing() -> (Vec<Record>, Vec<Record>) {
@@ -24,11 +19,7 @@ fn listing() -> (Vec<Record>, Vec<Record>) {
         l(1, pointers(&[0, 1]), &[NULL, 0]),
         faulted(0, 1),
     ];
-    let edges = vec![
-        e(0, 2, 1, 0, &[0x1001]),
-        e(0, 3, 2, 0, &[0x0001, 0x2000]),
-        from_1,
-    ];
+    let edges = vec![e(0, 2, 1, 0, &[0x1001]), e(0, 3, 2, 0, &[0x0001, 0x2000]), from_1];
     (locations, edges)
 }
 

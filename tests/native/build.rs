@@ -7,7 +7,10 @@ fn main() {
     if let Ok(peer) = std::env::var("PEER") {
         let out = std::env::var("OUT_DIR").unwrap();
         let run = |c: &mut Command| assert!(c.status().unwrap().success(), "{c:?}");
-        run(Command::new("gcc").args(["-std=c11", "-O3", "-march=x86-64-v2", "-c", "-o"]).arg(format!("{out}/peer.o")).arg(format!("{peer}/peer.c")));
+        run(Command::new("gcc")
+            .args(["-std=c11", "-O3", "-march=x86-64-v2", "-c", "-o"])
+            .arg(format!("{out}/peer.o"))
+            .arg(format!("{peer}/peer.c")));
         run(Command::new("ar").arg("rcs").arg(format!("{out}/libpeer.a")).arg(format!("{out}/peer.o")));
         println!("cargo:rustc-link-search=native={out}");
         println!("cargo:rustc-link-lib=static=peer");

@@ -1,67 +1,86 @@
--- The edge of a test, choose or skip: the run is done with the heap as it is, which is its own shape, and each counter is carried.
-use Prim.Native.Nat.{ℕ, zero, suc, _+_, _-_, _^_, _≤_, _<_}
-use mathlib.Core.Path.{_≡_, refl, sym, ap, ap₂, subst, _∙_}
-use mathlib.Core.Bool.{Bool, true, false, cond}
+-- The edge of a test, choose or skip: the run is done with the heap as it is, which is its own shape, and each counter
+-- is carried.
+use Prim.Native.Nat.{ℕ, _+_, _^_, _≤_, _<_}
+use mathlib.Core.Path.{_≡_, refl, sym, ap, ap₂, _∙_}
+use mathlib.Core.Bool.{Bool, true, false, _||_, cond}
 use mathlib.Core.List.{List, [], _∷_, map, map-map}
 use native.Mathlib.Omega.{arith}
+use lib.Dec.{eqb}
 use lib.ListN.{drop, getD, length, length-map, set, take}
 use lib.Seq.{getD-take, length-take-le}
-use borrow.Author.Tests.{ne-eqb}
+use borrow.Author.Tests.{eq-eqb, lt-leb, ne-eqb}
 use Rattle.model.specs.Base.{numbers}
-use Rattle.model.specs.Heap.{Heap, null}
-use Rattle.model.specs.Machine.{Op, answerOf, branch, done, effect, fault, keep, leak, carryOut, target}
-use Rattle.model.specs.Edges.{Edge, access, at, stepBy, updateOf}
+use Rattle.model.specs.Edges.{Edge, at, stepBy, updateOf, view}
+use Rattle.model.specs.Heap.{Heap}
 use Rattle.model.specs.Image.{heapOf}
-use Rattle.model.specs.Records.{byte, locRecord, opOf, shapeOf, stmtOf, updateCode}
-use Rattle.model.specs.Shape.{Seg, segments, shape}
-use Rattle.model.proofs.Canon.{Canon, canon-fold, canon-segments, single}
-use Rattle.model.proofs.Facts.{kept-test}
-use Rattle.model.proofs.Lists.{in-single, map-same, mem-in}
-use Rattle.model.proofs.Numbers.{in-numbers, length-numbers, read-all}
-use Rattle.model.proofs.Ways.{no-access}
-use Rattle.way.specs.Way.{plusBy, weightAt}
-use Rattle.way.proofs.Codes.{segment-update}
-use Rattle.edge.specs.Edge.{EdgeReady, LeavesBy, wayOf}
-use Rattle.edge.proofs.Edges.{step-way, went-edge}
-use Rattle.edge.proofs.Ready.{nodes-few, nodes-is, shape-is}
+use Rattle.model.specs.Machine.{Action, action, answerOf, branch, carryOut, done, fault, follow, keep, kind, leak, link, make, perform, point, release, stay, target}
+use Rattle.model.specs.Notions.{Canon}
+use Rattle.model.specs.Records.{byte, guardBytes, locRecord, opCount, opOf, shapeOf, updateCode}
+use Rattle.model.specs.Shape.{Seg, segments}
+use Rattle.model.specs.Structs.{opIn, stmtIn}
+use Rattle.model.specs.declared.Decoded.{Decoded}
+use Rattle.model.proofs.expansion.Facts.{kept-test}
+use Rattle.model.proofs.lists.Lists.{in-single, map-same, mem-in}
+use Rattle.model.proofs.lists.Logic.{bool-case, clash}
+use Rattle.model.proofs.lists.Numbers.{in-numbers, length-numbers, read-all}
+use Rattle.model.proofs.records.Ops.{each-op, op-stops}
+use Rattle.model.proofs.shapes.Canon.{canon-fold, canon-segments, single}
+use Rattle.model.proofs.ways.Ways.{no-view}
+use Rattle.loss.specs.Loss.{keepsAt}
+use Rattle.update.proofs.Codes.{segment-update}
+use Rattle.update.specs.Codes.{plusBy, weightBy}
+use Rattle.way.proofs.Ready.{nodes-few, nodes-is, shape-is}
+use Rattle.way.specs.Ready.{WayReady}
+use Rattle.way.specs.Way.{wayIn}
+use Rattle.way.specs.declared.Way.{Way}
+use Rattle.edge.specs.Edge.{LeavesBy}
+use Rattle.edge.specs.WayRun.{staysAt}
+use Rattle.edge.proofs.Edges.{guards-is, step-way, went-edge}
 use Rattle.edge.proofs.Running.{branch-pointers}
 
 -- ---- ops that keep the heap
 
-abbrev Keeps : Op → Type 0
-Keeps op = ((k : ℕ) (h : Heap) → effect op k h ≡ done h) × ((h : Heap) → access op h ≡ null)
+abbrev isStay : Action → Bool
+isStay stay = true
+isStay (point u s) = false
+isStay (follow u w) = false
+isStay (link u s) = false
+isStay (make u) = false
+isStay (release u) = false
 
-past-free : (d u w : ℕ) → Keeps (opOf (suc (suc (suc (suc (suc (suc (suc (suc d)))))))) u w)
-past-free zero u w = ((λ k h. refl), λ h. refl)
-past-free (suc zero) u w = ((λ k h. refl), λ h. refl)
-past-free (suc (suc zero)) u w = ((λ k h. refl), λ h. refl)
-past-free (suc (suc (suc zero))) u w = ((λ k h. refl), λ h. refl)
-past-free (suc (suc (suc (suc d)))) u w = ((λ k h. refl), λ h. refl)
+stay-is : (a : Action) → isStay a ≡ true → a ≡ stay
+stay-is stay e = refl
+stay-is (point u s) e = clash e refl
+stay-is (follow u w) e = clash e refl
+stay-is (link u s) e = clash e refl
+stay-is (make u) e = clash e refl
+stay-is (release u) e = clash e refl
 
-keeps : (op u w : ℕ) → 8 ≤ op → Keeps (opOf op u w)
-keeps op u w le =
-    let e : suc (suc (suc (suc (suc (suc (suc (suc (op - 8)))))))) ≡ op = omega arith in
-    subst (λ n. Keeps (opOf n u w)) e (past-free (op - 8) u w)
+stays-op : (op u w : ℕ) → op < opCount → staysAt op ≡ true → action (opOf op u w) ≡ stay
+stays-op op u w lt e =
+    stay-is (action (opOf op u w))
+    (each-op (λ o. isStay (action o)) (λ n. staysAt n || eqb n 0) u w refl op lt ∙ rw e)
 
 -- nothing of a shape is lost
-run-kept : (op u w k : ℕ) (h : Heap) → 8 ≤ op → Canon h → carryOut (opOf op u w) k h ≡ done h
-run-kept op u w k h le C = ap keep (keeps op u w le .0 k h) ∙ ap (λ b. cond b (done h) (fault leak)) (kept-test h (C .kept))
+run-kept : (d : Decoded) (k : ℕ) (h : Heap) → action (opIn d) ≡ stay → Canon h → carryOut (opIn d) k h ≡ done h
+run-kept d k h e C = ap (λ a. keep (perform a k h)) e ∙ ap (λ b. cond b (done h) (fault leak)) (kept-test h (C .kept))
 
 -- ---- the updates
 
 -- a node of its own carries its counter
-carried : (k i : ℕ) → i < k → 4096 + 2 ^ i ≡ updateCode (updateOf k (weightAt false 0 k) (single i))
+carried : (k i : ℕ) → i < k → 4096 + 2 ^ i ≡ updateCode (updateOf k (weightBy false 0 k) (single i))
 carried k i lt =
-    let here : plusBy (weightAt false 0 k i) ≡ 2 ^ i = rw (ne-eqb i k (λ e. omega arith)) in
+    let here : plusBy (weightBy false 0 k i) ≡ 2 ^ i = rw (ne-eqb i k (λ e. omega arith)) in
     omega (
       arith,
-      segment-update false i k (single i) (λ e. lt) (refl, tt) (λ c q. omega (arith, in-single c i (mem-in c (i ∷ []) q))),
+      segment-update false i k (single i) (λ e. lt) (refl, tt)
+          (λ c q. omega (arith, in-single c i (mem-in c (i ∷ []) q))),
     )
 
 codes-carried : (k : ℕ) (us : List ℕ) → k ≤ 12 → k ≤ length us → ((j : ℕ) → j < 12 → getD us j 0 ≡ 4096 + 2 ^ j)
-    → take k us ≡ map (λ x. updateCode (updateOf k (weightAt false 0 k) x)) (map single (numbers 0 k))
+    → take k us ≡ map (λ x. updateCode (updateOf k (weightBy false 0 k) x)) (map single (numbers 0 k))
 codes-carried k us few room codes =
-    let code : Seg → ℕ = λ x. updateCode (updateOf k (weightAt false 0 k) x) in
+    let code : Seg → ℕ = λ x. updateCode (updateOf k (weightBy false 0 k) x) in
     let f = take k us in
     let len = length-take-le k us room in
     sym (read-all 0 f) ∙ ap (λ n. map (λ j. getD f j 0) (numbers 0 n)) len
@@ -73,54 +92,52 @@ codes-carried k us few room codes =
 
 -- ---- the edge
 
--- no split is ready, as nothing is accessed
-pub keep-leaves : (l r : List ℕ) (p : ℕ) (t us : List ℕ) (a b : ℕ) → 8 ≤ byte r 1 → 12 ≤ length us
-    → b ≡ branch (stmtOf r .op) p (heapOf (take 6 (drop 4 l)) []) → a ≡ target (stmtOf r) b → t ≡ set l 1 a
-    → ((j : ℕ) → j < 12 → getD us j 0 ≡ 4096 + 2 ^ j) → (sp : Bool) (v : ℕ) → LeavesBy l r sp v p t us b (byte l 3)
-keep-leaves l r p t us a b le room be ae te codes true v n s h R g E e =
-    no-access (sym (keeps (byte r 1) (byte r 2) (byte r 3) le .1 h) ∙ R .isNode refl)
-keep-leaves l r p t us a b le room be ae te codes false v n s h R g E e =
-    let st = stmtOf r in
+-- no split is ready, as nothing is looked at
+pub keep-leaves : {l : List ℕ} {d : Decoded} {y : Way} (t us : List ℕ) (a b : ℕ) → staysAt (d .op) ≡ true
+    → 12 ≤ length us
+    → b ≡ branch (opIn d) (y .pick) (heapOf (take 6 (drop 4 l)) []) → a ≡ target (stmtIn d) b → t ≡ set l 1 a
+    → ((j : ℕ) → j < 12 → getD us j 0 ≡ 4096 + 2 ^ j)
+    → LeavesBy l d y t us (record { branch = b; guards = y .guards; nodes = byte l 3 })
+keep-leaves {l = l} {d = d} {y = y} t us a b le room be ae te codes s h R E e =
+    let st = stmtIn d in
     let k = length (h .slots) in
-    let y = wayOf false g v p h in
+    let w = wayIn y h in
     let few = nodes-few R in
     let is = nodes-is R in
-    let step : stepBy st k y ≡ answerOf st b (done h) =
-    step-way false g v p st h (R .goes) (R .pick) (R .isNode)
-    ∙ ap₂ (answerOf st) (ap (branch (st .op) p) (sym (shape-is R)) ∙ sym (be ∙ branch-pointers (st .op) p (heapOf (take 6 (drop 4 l)) []) (shapeOf l) refl))
-    (run-kept (byte r 1) (byte r 2) (byte r 3) k h le (R .isShape)) in
-    let q = went-edge s k y b (target st b) h (stepBy st k y) E step e in
-    let update = updateOf k (y .weight) in
+    let stays = stays-op (d .op) (d .u .0) (d .w .0) (R .statement .known) le in
+    let plain : y .split ≡ false = bool-case (y .split) (λ q. no-view (ap (λ x. view x h) (sym stays) ∙ R .isNode q))
+    (λ q. q) in
+    let whole-heap : w .heap ≡ h = rw plain in
+    let weight-is : w .weight ≡ weightBy false 0 k = rw plain in
+    let step : stepBy st k w ≡ answerOf st b (done h) =
+    step-way R
+    ∙ ap₂ (answerOf st)
+    (ap (branch (opIn d) (y .pick)) (sym (shape-is R))
+    ∙ sym (be ∙ branch-pointers (kind (opIn d)) (y .pick) (heapOf (take 6 (drop 4 l)) []) (shapeOf l) refl))
+    (ap (carryOut (opIn d) k) whole-heap ∙ run-kept d k h stays (R .isShape)) in
+    let q = went-edge s k w b (target st b) h (stepBy st k w) E step e in
+    let update = updateOf k (w .weight) in
     let ss = canon-segments h (R .isShape) in
     let number : length (map update (segments h)) ≡ k =
     length-map (segments h) update ∙ ap length ss ∙ length-map (numbers 0 k) single ∙ length-numbers 0 k in
     record {
       branch = ap (λ (x : Edge). x .branchNo) q;
-      target = te ∙ ap (λ x. set x 1 a) (R .isRecord) ∙ ap₂ (λ i x. locRecord (at i x)) ae (sym (canon-fold h (R .isShape)))
+      guards = ap (λ (x : Edge). guardBytes (x .guards)) (sym q) ∙ guards-is R;
+      target = te ∙ ap (λ x. set x 1 a) (R .isRecord)
+          ∙ ap₂ (λ i x. locRecord (at i x)) ae (sym (canon-fold h (R .isShape)))
           ∙ ap (λ (x : Edge). locRecord (x .to)) q;
       number = is ∙ sym number ∙ ap (λ (x : Edge). length (x .updates)) q;
       few = few;
       updates = ap (λ i. take i us) is ∙ codes-carried k us (omega arith) (omega arith) codes
+          ∙ ap (λ f. map (λ x. updateCode (updateOf k f x)) (map single (numbers 0 k))) (sym weight-is)
           ∙ ap (map (λ x. updateCode (update x))) (sym ss) ∙ sym (map-map updateCode update (segments h))
           ∙ ap (λ (x : Edge). map updateCode (x .updates)) q;
     }
 
--- ready for a way is ready for the whole
-pub ready-whole : {l r : List ℕ} {sp : Bool} {v p : ℕ} {t us : List ℕ} → EdgeReady l r sp v p t us → EdgeReady l r false 0 p t us
-ready-whole R = record {
-  statements = R .statements;
-  number = R .number;
-  shape = R .shape;
-  ready = record {
-    isRecord = R .ready .isRecord;
-    isShape = R .ready .isShape;
-    six = R .ready .six;
-    statement = R .ready .statement;
-    low = R .ready .low;
-    goes = R .ready .goes;
-    pick = R .ready .pick;
-    isNode = λ e. absurd (let z : _≡_ {A = ℕ} 0 1 = cc in omega arith);
-  };
-  wide = R .wide;
-  room = R .room;
-}
+-- any other op that goes may change the heap
+pub changes-op : {l : List ℕ} {s : ℕ} {h : Heap} {y : Way} (d : Decoded) → WayReady l d s h y → d .op < 8
+    → keepsAt (d .op) ≡ false
+changes-op d R lt =
+    let z : d .op ≡ 0 → ⊥ = λ e. clash (op-stops (d .op) (d .u .0) (d .w .0) (R .statement .known)
+    ∙ eq-eqb (d .op) 0 e) (R .goes) in
+    rw (ne-eqb (d .op) 0 z, lt-leb 8 (d .op) lt)

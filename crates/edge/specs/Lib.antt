@@ -1,3 +1,2 @@
 pub mod Edge
-pub mod Loss
-pub mod Parts
+pub mod WayRun

@@ -1,64 +1,47 @@
-// One edge of a location: the statement is run on the location's shape, opened for the way, and the result is folded. A statement that keeps the heap needs no run.
-mod fold;
-mod loss;
-
-use fold::leave;
-use loss::surely_lost;
-use model::Node;
-use model::Pointer;
+// One edge of a location: the statement is run on the location's shape, opened for the way, and the result is folded.
+// A statement that keeps the heap needs no run.
+use model::Decoded;
+use model::EdgeMade;
+use model::Guards;
 use model::Statement;
-ghost use Prim.Native.Nat.{ℕ, _≤_};
-ghost use mathlib.Core.Bool.{Bool, false};
+use update::Weights;
+use way::Way;
 ghost use mathlib.Core.Path.{_≡_};
+ghost use mathlib.Core.Bool.{true};
+ghost use Prim.Native.Nat.{_≤_};
 ghost use lib.ListN.{length, set};
-ghost use Rattle.model.specs.Machine.{target};
-ghost use Rattle.model.specs.Records.{byte, stmtOf};
+ghost use Rattle.model.specs.Records.{byte};
+ghost use Rattle.machine.specs.Run.{bytes};
 ghost use Rattle.edge.specs.Edge.{EdgeReady, LeavesBy};
-ghost use Rattle.record.specs.Written.{faultBytes};
-ghost use Rattle.edge.specs.Parts.{GoneReady, RunsReady, WayRan};
+ghost use Rattle.edge.specs.WayRun.{EdgeOn, FaultMade, RunsReady, WayRan, staysAt};
 
-// A way out of a location: split at a node, or whole with a pick; and the byte of its guard, which is on the node.
-pub struct Way {
-    pub split: bool,
-    pub node: Node,
-    pub pick: u8,
-    pub guard: u8,
-}
-
-// What leaving gives beside the target's record and the updates: the branch, and how many new nodes there are.
-pub struct Left {
+// What the run by a way gives beside the heap image: the fault (0 for none), the branch, how many cells there are, and
+// how many were visited.
+pub struct Gone {
+    pub fault: u8,
     pub branch: u8,
-    pub nodes: usize,
-}
-
-// What the run by a way gives beside the heap image: the fault (0 for none), the branch, how many cells there are, and how many were visited.
-struct Gone {
-    fault: u8,
-    branch: u8,
-    cells: usize,
-    visited: usize,
+    pub cells: usize,
+    pub visited: usize,
 }
 
 // Opens the location's shape for the way and runs the statement on it; the marks of the run count holders.
 fn run_way(
     location: &[u8],
-    statement: &[u8],
+    d: Decoded,
     way: Way,
     pointers: &mut [u8],
     cells: &mut [u8],
     order: &mut [u8],
     seen: &mut [u8],
 ) -> Gone
-    requires { ⌜ RunsReady (now location) (now statement) (way .split) (way .node .0) (way .pick) (now pointers) (now cells) (now order) (now seen) ⌝ }
-    ensures { λ r. ⌜ WayRan (now (location .entry)) (now (statement .entry)) (way .split) (way .node .0) (way .pick) (now (pointers .exit)) (now (cells .exit)) (now (order .exit)) (now (seen .exit)) (r .fault) (r .branch) (r .cells) (r .visited) ⌝ }
+    requires { ⌜ RunsReady (now location) d way (bytes (now pointers) (now cells)) (now order) (now seen) ⌝ }
+    ensures { λ r. ⌜ WayRan (now (location .entry)) d way (bytes (now (pointers .exit)) (now (cells .exit)))
+        (now (order .exit)) (now (seen .exit)) r ⌝ }
 {
-    let op = statement[1];
-    let u = Pointer(statement[2]);
-    let w = Pointer(statement[3]);
     let k = location[3] as usize;
-    let n = way::open_way(location, op, way.split, way.node, pointers, cells);
-    let branch = effect::branch_of(op, u, w, way.pick, &pointers[..]);
-    let ran = machine::run(op, u, w, k, pointers, &mut cells[..n], order, seen);
+    let n = way::open_way(location, d.op, way, pointers, cells);
+    let branch = effect::branch_of(d, way.pick, &pointers[..]);
+    let ran = machine::run(d, k, pointers, &mut cells[..n], order, seen);
     Gone {
         fault: ran.fault,
         branch: branch,
@@ -67,78 +50,57 @@ fn run_way(
     }
 }
 
-// Where a branch of a statement goes.
-fn target_of(statement: &[u8], branch: u8) -> Statement
-    requires { ⌜ length (now statement) ≡ 32 ⌝ }
-    ensures { λ r. ⌜ r .0 ≡ target (stmtOf (now (statement .entry))) branch ⌝ }
-{
-    if branch == 0 {
-        Statement(statement[4])
-    } else {
-        Statement(statement[5])
-    }
-}
-
 // The edge to a fault.
-fn fault_edge(location: &[u8], fault: u8, target: &mut [u8]) -> Left
+fn fault_edge(location: &[u8], fault: u8, guards: Guards, target: &mut [u8]) -> EdgeMade
     requires { ⌜ (length (now location) ≡ 32) × (length (now target) ≡ 32) ⌝ }
-    ensures { λ r. ⌜ (r .branch ≡ 0) × (r .nodes ≡ 0) × (now (target .exit) ≡ faultBytes (byte (now (location .entry)) 1) fault) ⌝ }
+    ensures { λ r. ⌜ FaultMade (now (location .entry)) fault guards (now (target .exit)) r ⌝ }
 {
     record::write_fault(target, Statement(location[1]), fault);
-    Left {
+    EdgeMade {
         branch: 0,
+        guards: guards,
         nodes: 0,
     }
 }
 
-// The edge of what the run by a way gave: to its fault, or to what it left, folded.
-fn gone_edge(
-    location: &[u8],
-    statement: &[u8],
-    way: Way,
-    gone: Gone,
-    pointers: &[u8],
-    cells: &[u8],
-    order: &[u8],
-    seen: &[u8],
-    target: &mut [u8],
-    updates: &mut [u16],
-) -> Left
-    requires { ⌜ GoneReady (now location) (now statement) (way .split) (way .node .0) (way .pick) (now pointers) (now cells) (now order) (now seen) (gone .fault) (gone .branch) (gone .cells) (gone .visited) (now target) (now updates) ⌝ }
-    ensures { λ r. ⌜ LeavesBy (now (location .entry)) (now (statement .entry)) (way .split) (way .node .0) (way .pick) (now (target .exit)) (now (updates .exit)) (r .branch) (r .nodes) ⌝ }
+// How much each cell counts where the way opens the location's shape.
+fn weights_of(location: &[u8], way: Way) -> Weights
+    requires { ⌜ (length (now location) ≡ 32) × (byte (now location) 3 ≤ 12) ⌝ }
+    ensures { λ r. ⌜ (r .nodes ≡ byte (now (location .entry)) 3) × (r .split ≡ way .split)
+        × (r .node .0 ≡ way .node .0) ⌝ }
 {
-    if gone.fault != 0 {
-        return fault_edge(location, gone.fault, target);
+    let node = way.node;
+    Weights {
+        nodes: location[3] as usize,
+        split: way.split,
+        node: node,
     }
-    let n = gone.cells;
-    Left {
-        branch: gone.branch,
-        nodes: leave(
-            pointers,
-            &cells[..n],
-            order,
-            gone.visited,
-            seen,
-            location[3] as usize,
-            way.split,
-            way.node,
-            target_of(statement, gone.branch),
-            target,
-            updates,
-        ),
+}
+
+// The edge to the statement of the branch, whose shape the target has already: the target's head, and what else there
+// is to an edge.
+fn edge_on(d: Decoded, branch: u8, guards: Guards, nodes: usize, target: &mut [u8]) -> EdgeMade
+    requires { ⌜ (length (now target) ≡ 32) × (nodes ≤ 12) ⌝ }
+    ensures { λ r. ⌜ EdgeOn d branch guards nodes (now (target .entry)) (now (target .exit)) r ⌝ }
+{
+    record::write_head(target, 0x4c, statement::next_of(d, branch), nodes);
+    EdgeMade {
+        branch: branch,
+        guards: guards,
+        nodes: nodes,
     }
 }
 
 // The edge by running the statement and folding what the run leaves.
 fn run_edge(
     location: &[u8],
-    statement: &[u8],
+    d: Decoded,
     way: Way,
     target: &mut [u8],
     updates: &mut [u16],
-) -> Left
-    requires { ⌜ EdgeReady (now location) (now statement) (way .split) (way .node .0) (way .pick) (now target) (now updates) ⌝ }
-    ensures { λ r. ⌜ LeavesBy (now (location .entry)) (now (statement .entry)) (way .split) (way .node .0) (way .pick) (now (target .exit)) (now (updates .exit)) (r .branch) (r .nodes) ⌝ }
+) -> EdgeMade
+    requires { ⌜ EdgeReady (now location) d way (now target) (now updates) ⌝ }
+    ensures { λ r. ⌜ LeavesBy (now (location .entry)) d way (now (target .exit)) (now (updates .exit)) r ⌝ }
 {
     let mut pointers = [0u8; 6];
     let mut cells = [0u8; 16];
@@ -146,25 +108,28 @@ fn run_edge(
     let mut seen = [0u8; 16];
     let gone = run_way(
         location,
-        statement,
+        d,
         way,
         &mut pointers,
         &mut cells,
         &mut order,
         &mut seen,
     );
-    gone_edge(
-        location,
-        statement,
-        way,
-        gone,
+    if gone.fault != 0 {
+        return fault_edge(location, gone.fault, way.guards, target);
+    }
+    let n = gone.cells;
+    let v = gone.visited;
+    let m = refold::leave(
         &pointers,
-        &cells,
-        &order,
+        &cells[..n],
+        &order[..v],
         &seen,
+        weights_of(location, way),
         target,
         updates,
-    )
+    );
+    edge_on(d, gone.branch, way.guards, m, target)
 }
 
 // Writes the location's record with another statement.
@@ -176,46 +141,45 @@ fn move_to(location: &[u8], to: Statement, target: &mut [u8])
     target[1] = to.0;
 }
 
-// The edge of a statement that leaves the heap as it is: a test, choose or skip. The shape and the counters stay, whatever the way.
+// The edge of a statement that keeps the heap: the shape and the counters stay.
 fn keep_edge(
     location: &[u8],
-    statement: &[u8],
-    pick: u8,
+    d: Decoded,
+    way: Way,
     target: &mut [u8],
     updates: &mut [u16],
-) -> Left
-    requires { ⌜ (8 ≤ byte (now statement) 1) × EdgeReady (now location) (now statement) false 0 pick (now target) (now updates) ⌝ }
-    ensures { λ r. ⌜ ((sp : Bool) (v : ℕ) → LeavesBy (now (location .entry)) (now (statement .entry)) sp v pick (now (target .exit)) (now (updates .exit)) (r .branch) (r .nodes)) ⌝ }
+) -> EdgeMade
+    requires { ⌜ (staysAt (d .op) ≡ true) × EdgeReady (now location) d way (now target) (now updates) ⌝ }
+    ensures { λ r. ⌜ LeavesBy (now (location .entry)) d way (now (target .exit)) (now (updates .exit)) r ⌝ }
 {
-    let op = statement[1];
-    let u = Pointer(statement[2]);
-    let w = Pointer(statement[3]);
-    let branch = effect::branch_of(op, u, w, pick, &location[4..10]);
-    let to = target_of(statement, branch);
-    move_to(location, to, target);
-    way::carry_updates(updates);
-    Left {
+    let branch = effect::branch_of(d, way.pick, &location[4..10]);
+    move_to(location, statement::next_of(d, branch), target);
+    update::carry_updates(updates);
+    let guards = way.guards;
+    EdgeMade {
         branch: branch,
+        guards: guards,
         nodes: location[3] as usize,
     }
 }
 
-// The edge by one way out of a location: its target's record, its updates, its branch, and how many new nodes there are.
+// The edge by one way out of a location: its target's record, its updates, its branch and guards, and how many new
+// nodes there are.
 pub fn one_edge(
     location: &[u8],
-    statement: &[u8],
+    d: Decoded,
     way: Way,
     target: &mut [u8],
     updates: &mut [u16],
-) -> Left
-    requires { ⌜ EdgeReady (now location) (now statement) (way .split) (way .node .0) (way .pick) (now target) (now updates) ⌝ }
-    ensures { λ r. ⌜ LeavesBy (now (location .entry)) (now (statement .entry)) (way .split) (way .node .0) (way .pick) (now (target .exit)) (now (updates .exit)) (r .branch) (r .nodes) ⌝ }
+) -> EdgeMade
+    requires { ⌜ EdgeReady (now location) d way (now target) (now updates) ⌝ }
+    ensures { λ r. ⌜ LeavesBy (now (location .entry)) d way (now (target .exit)) (now (updates .exit)) r ⌝ }
 {
-    if 8 <= statement[1] {
-        keep_edge(location, statement, way.pick, target, updates)
-    } else if surely_lost(location, statement, way.split) {
-        fault_edge(location, 3, target)
+    if 8 <= d.op {
+        keep_edge(location, d, way, target, updates)
+    } else if loss::surely_lost(location, d, way) {
+        fault_edge(location, 3, way.guards, target)
     } else {
-        run_edge(location, statement, way, target, updates)
+        run_edge(location, d, way, target, updates)
     }
 }

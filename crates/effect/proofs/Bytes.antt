@@ -6,20 +6,22 @@ use mathlib.Core.Bool.{Bool, true, false, cond}
 use mathlib.Core.List.{List, [], _∷_, map}
 use lib.Dec.{eqb}
 use lib.ListN.{getD, length, length-map, set}
-use borrow.Author.Tests.{eqb-true, ne-eqb}
+use borrow.Author.Tests.{leb-false, eqb-true, ne-eqb}
 use Rattle.model.specs.Heap.{Val, Slot, unused, holds, Heap, ptr, next, closed, undef}
-use Rattle.model.specs.Machine.{done, put, putSlot, setPtr, held, wipe, wipeSlot, freeVal, effect, new}
-use Rattle.model.specs.Records.{valOf}
-use Rattle.model.specs.Image.{cellSlot, heapOf}
-use Rattle.model.proofs.Bytes.{val-cell}
-use Rattle.model.proofs.Logic.{bool-case}
-use Rattle.model.proofs.Walks.{Closed, Used}
-use Rattle.model.proofs.Order.{used-below}
-use Rattle.model.proofs.Effects.{closed-ptr}
-use Rattle.model.proofs.Facts.{test-closed}
-use Rattle.model.proofs.Lists.{getD-map, map-set}
-use Rattle.model.proofs.Writes.{slot-clash}
-use Rattle.effect.specs.Effect.{Access, EffectReady, Named, Ran, assigned, loaded, stored, wipeByte}
+use Rattle.model.specs.Machine.{Effect, done, put, putSlot, setPtr, held, wipe, wipeSlot, freeVal, make, perform}
+use Rattle.model.specs.Machine.{action}
+use Rattle.model.specs.Records.{valOf, opOf}
+use Rattle.model.specs.Image.{cellSlot, heapOf, pastEnd}
+use Rattle.model.proofs.records.Bytes.{val-cell}
+use Rattle.model.proofs.lists.Logic.{bool-case}
+use Rattle.model.specs.Notions.{Closed, Used}
+use Rattle.model.proofs.visits.Order.{used-below}
+use Rattle.model.proofs.expansion.Effects.{closed-ptr}
+use Rattle.model.proofs.expansion.Facts.{test-closed}
+use Rattle.model.proofs.lists.Lists.{getD-map, map-set}
+use Rattle.model.proofs.expansion.Writes.{slot-clash}
+use Rattle.model.specs.declared.Decoded.{Decoded}
+use Rattle.effect.specs.Effect.{Access, EffectReady, Named, HasEffect, assigned, loaded, stored, wipeByte}
 
 -- ---- reading
 
@@ -44,27 +46,40 @@ ptr-named : (ps cs : List ℕ) (u : ℕ) → closed (heapOf ps cs) ≡ true → 
 ptr-named ps cs u k h p q =
     let e = ptr-byte ps cs u h ∙ val-cell (getD ps u 0) p q in
     used-named ps cs (getD ps u 0)
-    (subst (Closed (next (heapOf ps cs))) e (closed-ptr (next (heapOf ps cs)) (heapOf ps cs .ptrs) u (test-closed (heapOf ps cs) k .0)))
+    (subst (Closed (next (heapOf ps cs))) e
+    (closed-ptr (next (heapOf ps cs)) (heapOf ps cs .ptrs) u (test-closed (heapOf ps cs) k .0)))
 
 -- a value's byte is not that of a cell not in use
 value-byte : (cs : List ℕ) (b : ℕ) → length cs ≤ 240 → Named cs b → b ≡ 0xfd → ⊥
 value-byte cs b l n e = omega (arith, n (λ p. omega arith) (λ p. omega arith) .0)
 
 -- what a statement's pointers hold
-pub ready-u : {op u w x : ℕ} {ps cs : List ℕ} → EffectReady op u w x ps cs → ptr (heapOf ps cs) u ≡ valOf (getD ps u 0)
-ready-u {u} {ps} {cs} r = ptr-byte ps cs u (omega arith)
+module _ {d : Decoded} {x : ℕ} {ps cs : List ℕ} (r : EffectReady d x ps cs) where
+  pub ready-u : ptr (heapOf ps cs) (d .u .0) ≡ valOf (getD ps (d .u .0) 0)
+  ready-u = ptr-byte ps cs (d .u .0) (omega (arith, r .isU, r .six))
 
-pub ready-w : {op u w x : ℕ} {ps cs : List ℕ} → EffectReady op u w x ps cs → ptr (heapOf ps cs) w ≡ valOf (getD ps w 0)
-ready-w {w} {ps} {cs} r = ptr-byte ps cs w (omega arith)
+  pub ready-w : ptr (heapOf ps cs) (d .w .0) ≡ valOf (getD ps (d .w .0) 0)
+  ready-w = ptr-byte ps cs (d .w .0) (omega (arith, r .isW, r .six))
 
-pub named-u : {op u w x : ℕ} {ps cs : List ℕ} → EffectReady op u w x ps cs → Named cs (getD ps u 0)
-named-u {u} {ps} {cs} r = ptr-named ps cs u (r .isClosed) (omega arith)
+  pub named-u : Named cs (getD ps (d .u .0) 0)
+  named-u = ptr-named ps cs (d .u .0) (r .isClosed) (omega (arith, r .isU, r .six))
 
-pub named-w : {op u w x : ℕ} {ps cs : List ℕ} → EffectReady op u w x ps cs → Named cs (getD ps w 0)
-named-w {w} {ps} {cs} r = ptr-named ps cs w (r .isClosed) (omega arith)
+  pub named-w : Named cs (getD ps (d .w .0) 0)
+  named-w = ptr-named ps cs (d .w .0) (r .isClosed) (omega (arith, r .isW, r .six))
 
-pub value-w : {op u w x : ℕ} {ps cs : List ℕ} → EffectReady op u w x ps cs → getD ps w 0 ≡ 0xfd → ⊥
-value-w {w} {ps} {cs} r = value-byte cs (getD ps w 0) (r .few) (named-w r)
+  pub value-w : getD ps (d .w .0) 0 ≡ 0xfd → ⊥
+  value-w = value-byte cs (getD ps (d .w .0) 0) (r .few) named-w
+
+  -- op 6 takes the cell x
+  pub room-x : d .op ≡ 6 → x < length cs
+  room-x e =
+      leb-false (length cs) x
+      (subst (λ op. pastEnd (action (opOf op (d .u .0) (d .w .0))) x (length cs) ≡ false) e (r .room))
+
+-- what has one effect has another that does the same to this image
+pub as-effect : {f g : Heap → Effect} {ps cs : List ℕ} {r : ℕ} {qs ds : List ℕ} → HasEffect g ps cs r qs ds
+    → f (heapOf ps cs) ≡ g (heapOf ps cs) → HasEffect f ps cs r qs ds
+as-effect x e = record { outcome = x .outcome ∙ sym e; stays = x .stays }
 
 -- ---- writing
 
@@ -78,40 +93,46 @@ put-set (x ∷ l) (suc c) s h = ap (λ r. x ∷ r) (put-set l c s (omega arith))
 
 -- one cell byte is one slot
 put-byte : (cs : List ℕ) (c b : ℕ) → c < length cs → map cellSlot (set cs c b) ≡ put (map cellSlot cs) c (cellSlot b)
-put-byte cs c b h = map-set cellSlot cs c b ∙ sym (put-set (map cellSlot cs) c (cellSlot b) (omega (arith, length-map cs cellSlot)))
+put-byte cs c b h =
+    map-set cellSlot cs c b ∙ sym (put-set (map cellSlot cs) c (cellSlot b) (omega (arith, length-map cs cellSlot)))
 
-pub set-ran : (ps cs : List ℕ) (u v : ℕ) → Ran (assigned u (valOf v)) ps cs 0 (set ps u v) cs
+pub set-ran : (ps cs : List ℕ) (u v : ℕ) → HasEffect (assigned u (valOf v)) ps cs 0 (set ps u v) cs
 set-ran ps cs u v = record {
   outcome = ap (λ l. done (heap l (map cellSlot cs))) (map-set valOf ps u v);
   stays = λ z. absurd (z refl);
 }
 
-pub new-ran : (ps cs : List ℕ) (u x : ℕ) → x < length cs → length cs ≤ 240 → Ran (effect (new u) x) ps cs 0 (set ps u x) (set cs x 0xff)
+pub new-ran : (ps cs : List ℕ) (u x : ℕ) → x < length cs → length cs ≤ 240
+    → HasEffect (perform (make u) x) ps cs 0 (set ps u x) (set cs x 0xff)
 new-ran ps cs u x h l = record {
   outcome = ap₂ (λ vs ss. done (heap vs ss))
-      (map-set valOf ps u x ∙ ap (set (map valOf ps) u) (val-cell x (λ e. omega arith) (λ e. omega arith))) (put-byte cs x 0xff h);
+      (map-set valOf ps u x ∙ ap (set (map valOf ps) u) (val-cell x (λ e. omega arith) (λ e. omega arith)))
+      (put-byte cs x 0xff h);
   stays = λ z. absurd (z refl);
 }
 
 -- ---- through a value
 
 pub access-null : (v : ℕ) → v ≡ 0xfe → Access v 1
-access-null v e = record { faults = λ z h k. rw e; notNull = λ z. absurd (omega arith); notUndef = λ z. absurd (omega arith) }
+access-null v e =
+    record { faults = λ z h k. rw e; notNull = λ z. absurd (omega arith); notUndef = λ z. absurd (omega arith) }
 
 pub access-undef : (v : ℕ) → v ≡ 0xff → Access v 2
-access-undef v e = record { faults = λ z h k. rw e; notNull = λ z. absurd (omega arith); notUndef = λ z. absurd (omega arith) }
+access-undef v e =
+    record { faults = λ z h k. rw e; notNull = λ z. absurd (omega arith); notUndef = λ z. absurd (omega arith) }
 
 pub access-cell : (v : ℕ) → (v ≡ 0xfe → ⊥) → (v ≡ 0xff → ⊥) → Access v 0
 access-cell v p q = record { faults = λ z. absurd (z refl); notNull = λ z. p; notUndef = λ z. q }
 
 -- a fault leaves the image
-pub load-fault : (ps cs : List ℕ) (u v r : ℕ) → Access v r → (r ≡ 0 → ⊥) → Ran (loaded u (valOf v)) ps cs r ps cs
+pub load-fault : (ps cs : List ℕ) (u v r : ℕ) → Access v r → (r ≡ 0 → ⊥) → HasEffect (loaded u (valOf v)) ps cs r ps cs
 load-fault ps cs u v r a z = record {
   outcome = a .faults z (heapOf ps cs) (λ c. setPtr u (held (next (heapOf ps cs) c)) (heapOf ps cs));
   stays = λ y. (refl, refl);
 }
 
-pub store-fault : (ps cs : List ℕ) (a v r : ℕ) → Access a r → (r ≡ 0 → ⊥) → Ran (stored (valOf a) (valOf v)) ps cs r ps cs
+pub store-fault : (ps cs : List ℕ) (a v r : ℕ) → Access a r → (r ≡ 0 → ⊥)
+    → HasEffect (stored (valOf a) (valOf v)) ps cs r ps cs
 store-fault ps cs a v r b z = record {
   outcome = b .faults z (heapOf ps cs) (λ c. putSlot c (holds (valOf v)) (heapOf ps cs));
   stays = λ y. (refl, refl);
@@ -122,21 +143,26 @@ access-named cs v r a z n = n (a .notNull z) (a .notUndef z) .0
 
 -- a load sets the pointer to the byte of the cell
 pub load-cell : (ps cs : List ℕ) (u v f r : ℕ) (qs : List ℕ) → Access v f → f ≡ 0 → Named cs v
-    → Ran (assigned u (valOf (getD cs v 0))) ps cs r qs cs → Ran (loaded u (valOf v)) ps cs r qs cs
+    → HasEffect (assigned u (valOf (getD cs v 0))) ps cs r qs cs → HasEffect (loaded u (valOf v)) ps cs r qs cs
 load-cell ps cs u v f r qs a z n x =
     let p = a .notNull z in
     let q = a .notUndef z in
     let k = n p q in
-    record { outcome = rw (val-cell v p q, next-byte ps cs v (k .0), used-slot (getD cs v 0) (k .1)) (x .outcome); stays = x .stays }
+    record {
+      outcome = rw (val-cell v p q, next-byte ps cs v (k .0), used-slot (getD cs v 0) (k .1))
+          (x .outcome);
+      stays = x .stays;
+    }
 
 pub store-cell : (ps cs : List ℕ) (a v f : ℕ) → Access a f → f ≡ 0 → Named cs a → (v ≡ 0xfd → ⊥)
-    → Ran (stored (valOf a) (valOf v)) ps cs 0 ps (set cs a v)
+    → HasEffect (stored (valOf a) (valOf v)) ps cs 0 ps (set cs a v)
 store-cell ps cs a v f b z n y =
     let p = b .notNull z in
     let q = b .notUndef z in
     record {
       outcome = rw (val-cell a p q)
-          (ap (λ ss. done (heap (map valOf ps) ss)) (put-byte cs a v (n p q .0) ∙ ap (put (map cellSlot cs) a) (used-slot v y)));
+          (ap (λ ss. done (heap (map valOf ps) ss))
+          (put-byte cs a v (n p q .0) ∙ ap (put (map cellSlot cs) a) (used-slot v y)));
       stays = λ o. absurd (o refl);
     }
 
@@ -165,19 +191,20 @@ wipe-slots : (c : ℕ) (cs : List ℕ) → c < 0xfd → map cellSlot (map (wipeB
 wipe-slots c [] h = refl
 wipe-slots c (b ∷ cs) h = ap₂ _∷_ (wipe-slot c b h) (wipe-slots c cs h)
 
-pub free-null : (ps cs : List ℕ) (a : ℕ) → a ≡ 0xfe → Ran (freeVal (valOf a)) ps cs 0 ps cs
+pub free-null : (ps cs : List ℕ) (a : ℕ) → a ≡ 0xfe → HasEffect (freeVal (valOf a)) ps cs 0 ps cs
 free-null ps cs a e = record { outcome = rw e; stays = λ z. (refl, refl) }
 
-pub free-undef : (ps cs : List ℕ) (a : ℕ) → a ≡ 0xff → Ran (freeVal (valOf a)) ps cs 2 ps cs
+pub free-undef : (ps cs : List ℕ) (a : ℕ) → a ≡ 0xff → HasEffect (freeVal (valOf a)) ps cs 2 ps cs
 free-undef ps cs a e = record { outcome = rw e; stays = λ z. (refl, refl) }
 
 pub free-cell : (ps cs : List ℕ) (a : ℕ) → (a ≡ 0xfe → ⊥) → (a ≡ 0xff → ⊥) → Named cs a → length cs ≤ 240
-    → Ran (freeVal (valOf a)) ps cs 0 (map (wipeByte a) ps) (set (map (wipeByte a) cs) a 0xfd)
+    → HasEffect (freeVal (valOf a)) ps cs 0 (map (wipeByte a) ps) (set (map (wipeByte a) cs) a 0xfd)
 free-cell ps cs a p q n l =
     let small : a < 0xfd = omega (arith, n p q .0) in
     let k = put-byte (map (wipeByte a) cs) a 0xfd (omega (arith, n p q .0, length-map cs (wipeByte a))) in
     record {
       outcome = rw (val-cell a p q)
-          (ap₂ (λ vs ss. done (heap vs ss)) (wipe-vals a ps small) (k ∙ ap (λ ss. put ss a unused) (wipe-slots a cs small)));
+          (ap₂ (λ vs ss. done (heap vs ss)) (wipe-vals a ps small)
+          (k ∙ ap (λ ss. put ss a unused) (wipe-slots a cs small)));
       stays = λ z. absurd (z refl);
     }

@@ -1,3 +1,4 @@
+pub mod Laws
 pub mod ListLaws
 pub mod Bytes
 pub mod Ops

@@ -1,24 +1,26 @@
 -- What the effect of a statement on a heap image needs and answers; ps are the pointers' bytes and cs the cells' bytes.
 use Prim.Native.Nat.{ℕ, zero, suc, _≤_, _<_}
 use mathlib.Core.Path.{_≡_}
-use mathlib.Core.Bool.{true, cond}
+use mathlib.Core.Bool.{true, false, cond}
 use mathlib.Core.List.{List}
 use lib.Dec.{eqb}
 use lib.ListN.{length, getD}
 use Rattle.model.specs.Heap.{Val, Heap, holds, next, closed}
-use Rattle.model.specs.Machine.{Effect, done, fault, atNull, atUndef, leak, through, setPtr, putSlot, held}
-use Rattle.model.specs.Records.{valOf}
-use Rattle.model.specs.Image.{heapOf}
+use Rattle.model.specs.Machine.{Effect, action, done, fault, atNull, atUndef, leak, through, setPtr, putSlot, held}
+use Rattle.model.specs.Records.{opCount, valOf}
+use Rattle.model.specs.Image.{heapOf, pastEnd}
+use Rattle.model.specs.Structs.{opIn}
+use Rattle.model.specs.declared.Decoded.{Decoded}
 
 -- a known op on two of six pointers of a closed image; at new, the cell x is one of the image
-pub record EffectReady (op u w x : ℕ) (ps cs : List ℕ) : Type 0 where
-  pub known : op ≤ 11
-  pub isU : u < 6
-  pub isW : w < 6
+pub record EffectReady (d : Decoded) (x : ℕ) (ps cs : List ℕ) : Type 0 where
+  pub known : d .op < opCount
+  pub isU : d .u .0 < 6
+  pub isW : d .w .0 < 6
   pub six : length ps ≡ 6
   pub few : length cs ≤ 240
   pub isClosed : closed (heapOf ps cs) ≡ true
-  pub room : op ≡ 6 → x < length cs
+  pub room : pastEnd (action (opIn d)) x (length cs) ≡ false
 
 -- the effect that a number answers, with the heap afterwards: 0 is done, else a fault's number
 abbrev pub effectOf : ℕ → Heap → Effect
@@ -28,7 +30,7 @@ effectOf (suc (suc zero)) h = fault atUndef
 effectOf (suc (suc (suc n))) h = fault leak
 
 -- the answer r and the image qs, ds afterwards are the effect f on the image ps, cs; a fault leaves the image
-pub record Ran (f : Heap → Effect) (ps cs : List ℕ) (r : ℕ) (qs ds : List ℕ) : Type 0 where
+pub record HasEffect (f : Heap → Effect) (ps cs : List ℕ) (r : ℕ) (qs ds : List ℕ) : Type 0 where
   pub outcome : effectOf r (heapOf qs ds) ≡ f (heapOf ps cs)
   pub stays : (r ≡ 0 → ⊥) → (qs ≡ ps) × (ds ≡ cs)
 

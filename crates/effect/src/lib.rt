@@ -1,15 +1,17 @@
 // The effect of a statement on a heap image that is lent, and the branch that the statement takes.
-// An effect answers 0 where it is done, else the fault's number; a fault leaves the image. Leaks are not looked at here.
+// An effect answers 0 where it is done, else the fault's number; a fault leaves the image. It does not look for leaks.
+use model::Decoded;
 use model::Pointer;
 ghost use mathlib.Core.Path.{_≡_};
 ghost use mathlib.Core.List.{List, map};
 ghost use Prim.Native.Nat.{ℕ, _≤_, _<_};
 ghost use lib.ListN.{length};
 ghost use Rattle.model.specs.Heap.{sameVal};
-ghost use Rattle.model.specs.Machine.{new, effect, freeVal, branch, test};
-ghost use Rattle.model.specs.Records.{opOf, valOf};
+ghost use Rattle.model.specs.Machine.{branch, effect, freeVal, make, perform, test};
+ghost use Rattle.model.specs.Records.{opCount, valOf};
 ghost use Rattle.model.specs.Image.{heapOf};
-ghost use Rattle.effect.specs.Effect.{EffectReady, Access, Named, Ran, effectOf, assigned, loaded, stored, wipeByte};
+ghost use Rattle.model.specs.Structs.{opIn};
+ghost use Rattle.effect.specs.Effect.{EffectReady, Access, Named, HasEffect, assigned, loaded, stored, wipeByte};
 
 // Reading or writing through the value v: fault 1 through null, 2 through undefined, else 0.
 fn access_fault(v: u8) -> u8
@@ -27,7 +29,8 @@ fn access_fault(v: u8) -> u8
 // The pointer u holds the value v.
 fn set_pointer(u: Pointer, v: u8, pointers: &mut [u8]) -> u8
     requires { ⌜ u .0 < length (now pointers) ⌝ }
-    ensures { λ r. ⌜ ((cs : List ℕ) → Ran (assigned (u .0) (valOf v)) (now (pointers .entry)) cs r (now (pointers .exit)) cs) ⌝ }
+    ensures { λ r. ⌜ ((cs : List ℕ) → HasEffect (assigned (u .0) (valOf v)) (now (pointers .entry)) cs
+        r (now (pointers .exit)) cs) ⌝ }
 {
     let i = u.0 as usize;
     pointers[i] = v;
@@ -37,7 +40,8 @@ fn set_pointer(u: Pointer, v: u8, pointers: &mut [u8]) -> u8
 // The pointer u holds the successor of the cell that the value v names.
 fn load_through(u: Pointer, v: u8, pointers: &mut [u8], cells: &[u8]) -> u8
     requires { ⌜ (u .0 < length (now pointers)) × Named (now cells) v ⌝ }
-    ensures { λ r. ⌜ Ran (loaded (u .0) (valOf v)) (now (pointers .entry)) (now (cells .entry)) r (now (pointers .exit)) (now (cells .entry)) ⌝ }
+    ensures { λ r. ⌜ HasEffect (loaded (u .0) (valOf v)) (now (pointers .entry)) (now (cells .entry))
+        r (now (pointers .exit)) (now (cells .entry)) ⌝ }
 {
     let fault = access_fault(v);
     if fault != 0 {
@@ -50,7 +54,8 @@ fn load_through(u: Pointer, v: u8, pointers: &mut [u8], cells: &[u8]) -> u8
 // The successor of the cell that the value at names becomes the value v.
 fn store_through(at: u8, v: u8, cells: &mut [u8]) -> u8
     requires { ⌜ Named (now cells) at × (v ≡ 0xfd → ⊥) ⌝ }
-    ensures { λ r. ⌜ ((ps : List ℕ) → Ran (stored (valOf at) (valOf v)) ps (now (cells .entry)) r ps (now (cells .exit))) ⌝ }
+    ensures { λ r. ⌜ ((ps : List ℕ) → HasEffect (stored (valOf at) (valOf v)) ps (now (cells .entry))
+        r ps (now (cells .exit))) ⌝ }
 {
     let fault = access_fault(at);
     if fault != 0 {
@@ -64,7 +69,8 @@ fn store_through(at: u8, v: u8, cells: &mut [u8]) -> u8
 // The pointer u holds the cell x, whose successor is undefined.
 fn new_cell(u: Pointer, x: usize, pointers: &mut [u8], cells: &mut [u8]) -> u8
     requires { ⌜ (u .0 < length (now pointers)) × (x < length (now cells)) × (length (now cells) ≤ 240) ⌝ }
-    ensures { λ r. ⌜ Ran (effect (new (u .0)) x) (now (pointers .entry)) (now (cells .entry)) r (now (pointers .exit)) (now (cells .exit)) ⌝ }
+    ensures { λ r. ⌜ HasEffect (perform (make (u .0)) x) (now (pointers .entry)) (now (cells .entry))
+        r (now (pointers .exit)) (now (cells .exit)) ⌝ }
 {
     cells[x] = 0xff;
     let i = u.0 as usize;
@@ -93,7 +99,8 @@ fn wipe_holders(c: u8, list: &mut [u8])
 // The cell that the value at names is freed; freeing null does nothing.
 fn free_at(at: u8, pointers: &mut [u8], cells: &mut [u8]) -> u8
     requires { ⌜ Named (now cells) at × (length (now cells) ≤ 240) ⌝ }
-    ensures { λ r. ⌜ Ran (freeVal (valOf at)) (now (pointers .entry)) (now (cells .entry)) r (now (pointers .exit)) (now (cells .exit)) ⌝ }
+    ensures { λ r. ⌜ HasEffect (freeVal (valOf at)) (now (pointers .entry)) (now (cells .entry))
+        r (now (pointers .exit)) (now (cells .exit)) ⌝ }
 {
     if at == 0xfe {
         return 0;
@@ -109,30 +116,23 @@ fn free_at(at: u8, pointers: &mut [u8], cells: &mut [u8]) -> u8
 }
 
 // The effect of a statement; x is the cell for new.
-pub fn run_effect(
-    op: u8,
-    u: Pointer,
-    w: Pointer,
-    x: usize,
-    pointers: &mut [u8],
-    cells: &mut [u8],
-) -> u8
-    requires { ⌜ EffectReady op (u .0) (w .0) x (now pointers) (now cells) ⌝ }
-    ensures outcome { λ r. ⌜ effectOf r (heapOf (now (pointers .exit)) (now (cells .exit)))
-        ≡ effect (opOf op (u .0) (w .0)) x (heapOf (now (pointers .entry)) (now (cells .entry))) ⌝ }
-    ensures stays { λ r. ⌜ ((r ≡ 0 → ⊥) → (now (pointers .exit) ≡ now (pointers .entry)) × (now (cells .exit) ≡ now (cells .entry))) ⌝ }
+pub fn run_effect(d: Decoded, x: usize, pointers: &mut [u8], cells: &mut [u8]) -> u8
+    requires { ⌜ EffectReady d x (now pointers) (now cells) ⌝ }
+    ensures { λ r. ⌜ HasEffect (effect (opIn d) x) (now (pointers .entry)) (now (cells .entry))
+        r (now (pointers .exit)) (now (cells .exit)) ⌝ }
 {
-    let i = u.0 as usize;
-    let j = w.0 as usize;
+    let op = d.op;
+    let i = d.u.0 as usize;
+    let j = d.w.0 as usize;
     let at = pointers[i];
     let v = pointers[j];
     match op {
-        1 => set_pointer(u, 0xfe, pointers),
-        2 => set_pointer(u, v, pointers),
-        3 => load_through(u, v, pointers, &cells[..]),
+        1 => set_pointer(d.u, 0xfe, pointers),
+        2 => set_pointer(d.u, v, pointers),
+        3 => load_through(d.u, v, pointers, &cells[..]),
         4 => store_through(at, 0xfe, cells),
         5 => store_through(at, v, cells),
-        6 => new_cell(u, x, pointers, cells),
+        6 => new_cell(d.u, x, pointers, cells),
         7 => free_at(at, pointers, cells),
         _ => 0,
     }
@@ -146,12 +146,13 @@ fn test_branch(a: u8, b: u8) -> u8
 }
 
 // The branch that a statement takes; the pick is read by choose only.
-pub fn branch_of(op: u8, u: Pointer, w: Pointer, pick: u8, pointers: &[u8]) -> u8
-    requires { ⌜ (op ≤ 11) × (u .0 < 6) × (w .0 < 6) × (length (now pointers) ≡ 6) ⌝ }
-    ensures { λ r. ⌜ ((cs : List ℕ) → r ≡ branch (opOf op (u .0) (w .0)) pick (heapOf (now (pointers .entry)) cs)) ⌝ }
+pub fn branch_of(d: Decoded, pick: u8, pointers: &[u8]) -> u8
+    requires { ⌜ (d .op < opCount) × (d .u .0 < 6) × (d .w .0 < 6) × (length (now pointers) ≡ 6) ⌝ }
+    ensures { λ r. ⌜ ((cs : List ℕ) → r ≡ branch (opIn d) pick (heapOf (now (pointers .entry)) cs)) ⌝ }
 {
-    let i = u.0 as usize;
-    let j = w.0 as usize;
+    let op = d.op;
+    let i = d.u.0 as usize;
+    let j = d.w.0 as usize;
     match op {
         8 => test_branch(pointers[i], 0xfe),
         9 => test_branch(pointers[i], pointers[j]),

@@ -1,7 +1,7 @@
-pub mod Ops
-pub mod Made
+pub mod Targets
+pub mod EdgesByWay
 pub mod Added
-pub mod Here
-pub mod Ways
+pub mod WayByWay
+pub mod LocationBytes
 pub mod Located
-pub mod Turns
+pub mod Exploration

@@ -1,20 +1,29 @@
 -- Exploring the locations of a listing held in the tables: what it asks and what it leaves. Assumes nothing.
 use Prim.Native.Nat.{ℕ, _≤_, _<_, _*_}
+use mathlib.Core.Bool.{true}
 use mathlib.Core.Path.{_≡_}
 use mathlib.Core.List.{List}
 use lib.ListN.{length}
-use Rattle.model.specs.Edges.{Loc, at, failed, stmtAt}
+use Rattle.model.specs.Base.{mostEdges, mostLocations, mostStatements}
+use Rattle.model.specs.Edges.{Edge, Loc, at, edgesOf, failed, stmtAt}
 use Rattle.model.specs.Machine.{Stmt}
-use Rattle.model.specs.Records.{recordAt, refusal, stmtOf}
-use Rattle.model.specs.Translate.{Listing, Explored, full, listed}
-use Rattle.model.proofs.Lists.{In}
-use Rattle.model.proofs.Reached.{GoodLoc}
-use Rattle.edge.specs.Edge.{StatementOk}
-use Rattle.grow.specs.Grow.{Holds}
-use Rattle.grow.specs.declared.Grown.{Grown}
-use Rattle.grow.specs.declared.Grown.the-variants as grown
+use Rattle.model.specs.Records.{isS, recordAt, refusal, refusalS, stmtOf}
+use Rattle.model.specs.Translate.{Explored, Listing, addEdges, explore, full, listed, places}
+use Rattle.model.specs.Notions.{In}
+use Rattle.model.specs.Listings.{GoodLoc, locAt}
+use Rattle.model.specs.declared.Counts.{Counts}
+use Rattle.listing.specs.Grow.{Holds}
+use Rattle.listing.specs.declared.Grown.{Grown}
+use Rattle.listing.specs.declared.Grown.the-variants as grown
 use Rattle.explore.specs.declared.Explored as declared
 use Rattle.explore.specs.declared.Explored.the-variants as explored
+
+-- an accepted S record among n statements
+pub record StatementOk (r : List ℕ) (n : ℕ) : Type 0 where
+  pub wide : length r ≡ 32
+  pub isStatement : isS r ≡ true
+  pub accepted : refusalS n r ≡ 0
+  pub few : n ≤ mostStatements
 
 -- the first n records of the input are the statements sts
 pub record StatementsOk (s : List ℕ) (n : ℕ) (sts : List Stmt) : Type 0 where
@@ -33,21 +42,41 @@ LocsOk n t = (l : Loc) → In l (t .locs) → LocOk n l
 
 -- the tables hold what an exploration gives; or it found no place, at location i for the first form
 abbrev pub AddedTo : ℕ → ℕ → Explored → List ℕ → List ℕ → Grown → Type 0
-AddedTo n i (listed t) ls es (grown.Added nl ne) = Holds t ls es nl ne × LocsOk n t
+AddedTo n i (listed t) ls es (grown.Added c) = Holds t ls es c × LocsOk n t
 AddedTo n i (listed t) ls es (grown.Full m) = ⊥
-AddedTo n i (full x) ls es (grown.Added nl ne) = ⊥
+AddedTo n i (full x) ls es (grown.Added c) = ⊥
 AddedTo n i (full x) ls es (grown.Full m) = x ≡ refusal m i
 
 abbrev pub ExploredTo : ℕ → Explored → List ℕ → List ℕ → declared.Explored → Type 0
-ExploredTo n (listed t) ls es (explored.Listed nl ne) = Holds t ls es nl ne × LocsOk n t
+ExploredTo n (listed t) ls es (explored.Listed c) = Holds t ls es c × LocsOk n t
 ExploredTo n (listed t) ls es (explored.Full m p) = ⊥
-ExploredTo n (full x) ls es (explored.Listed nl ne) = ⊥
+ExploredTo n (full x) ls es (explored.Listed c) = ⊥
 ExploredTo n (full x) ls es (explored.Full m p) = x ≡ refusal m p
 
 -- some statements and some listing are given
-pub record ExploreReady (s : List ℕ) (n : ℕ) (ls es : List ℕ) (nl ne : ℕ) : Type 0 where
+pub record ExploreReady (s : List ℕ) (n : ℕ) (ls es : List ℕ) (c : Counts) : Type 0 where
   pub statements : List Stmt
   pub readable : StatementsOk s n statements
   pub list : Listing
-  pub held : Holds list ls es nl ne
+  pub held : Holds list ls es c
   pub fine : LocsOk n list
+
+-- edges of location i added to the listing t, and t explored, with the places of the tables ls and es
+abbrev pub addedIn : List ℕ → List ℕ → ℕ → List Edge → Listing → Explored
+addedIn ls es i e t = addEdges (places mostLocations (length ls)) (places mostEdges (length es)) i e t
+
+abbrev pub exploredIn : List ℕ → List ℕ → List Stmt → Listing → Explored
+exploredIn ls es sts t =
+    explore sts (places mostLocations (length ls)) (places mostEdges (length es)) (places mostLocations (length ls)) 0 t
+
+-- whichever the statements and whichever listing was held, the edges of location i are added
+abbrev pub LocationExplored : List ℕ → ℕ → List ℕ → List ℕ → Counts → ℕ → List ℕ → List ℕ → Grown → Type 0
+LocationExplored s n ls es c i ls′ es′ x =
+    (sts : List Stmt) (t : Listing) → StatementsOk s n sts → Holds t ls es c → LocsOk n t
+    → AddedTo n i (addedIn ls es i (edgesOf sts (locAt (t .locs) i)) t) ls′ es′ x
+
+-- the same for all locations
+abbrev pub AllExplored : List ℕ → ℕ → List ℕ → List ℕ → Counts → List ℕ → List ℕ → declared.Explored → Type 0
+AllExplored s n ls es c ls′ es′ x =
+    (sts : List Stmt) (t : Listing) → StatementsOk s n sts → Holds t ls es c → LocsOk n t
+    → ExploredTo n (exploredIn ls es sts t) ls′ es′ x

@@ -1,2 +1,2 @@
 pub mod Explore
-pub mod Parts
+pub mod LocationEdges

@@ -1,25 +1,25 @@
 // The exploration: the edges of each location, by number, into the two tables.
-use edge::Way;
-use grow::Grown;
-use model::Node;
-use model::Pointer;
+use listing::Grown;
+use model::Counts;
+use model::Decoded;
 use model::Statement;
+use way::Way;
 ghost use mathlib.Core.Path.{_≡_};
-ghost use mathlib.Core.List.{List};
 ghost use Prim.Native.Nat.{_*_, _≤_, _<_};
 ghost use lib.ListN.{length, take};
-ghost use Rattle.model.specs.Edges.{edgesOf};
-ghost use Rattle.model.specs.Machine.{Stmt};
-ghost use Rattle.model.specs.Translate.{Listing, places, addEdges, explore};
-ghost use Rattle.model.proofs.Listings.{locAt};
-ghost use Rattle.grow.specs.Grow.{Holds};
-ghost use Rattle.explore.specs.Explore.{StatementsOk, LocsOk, AddedTo, ExploredTo, ExploreReady};
-ghost use Rattle.explore.specs.Parts.{wayCount, wayAt, WayGiven, WayAdded, AreWays, ShapeGiven, EdgesAdded};
+ghost use Rattle.explore.specs.Explore.{AllExplored, ExploreReady, LocationExplored};
+ghost use Rattle.explore.specs.LocationEdges.{AreWays, EdgesAdded, ShapeGiven, WayAdded, WayGiven};
 
 // The counts of a full listing, or the refusal: 11 or 12, and the number of the location being explored.
 pub enum Explored {
-    Listed { locations: usize, edges: usize },
+    Listed { counts: Counts },
     Full { number: u8, place: usize },
+}
+
+// The ways out of a location: the value that its statement looks at, and how many there are.
+struct Ways {
+    value: u8,
+    count: u8,
 }
 
 // Copies the record that the part begins with: the table that it stands in grows while the location is explored.
@@ -30,130 +30,79 @@ fn copy_record(part: &[u8], rec: &mut [u8])
     bytes::copy(&part[..32], rec);
 }
 
-// How many ways lead out of a location whose statement has the op and goes through the value v: counter = 1 and counter at
-// least 2 for a node, two picks for a choice, none for a stop, else one.
-fn way_count(op: u8, v: u8) -> u8
-    ensures { λ r. ⌜ r ≡ wayCount op v ⌝ }
-{
-    if op == 0 {
-        return 0;
-    }
-    if v < 0xfd {
-        return 2;
-    }
-    if op == 10 { 2 } else { 1 }
-}
-
-// Way j of these.
-fn way_at(v: u8, j: u8) -> Way
-    requires { ⌜ j < 255 ⌝ }
-    ensures { λ r. ⌜ r ≡ wayAt v j ⌝ }
-{
-    if v < 0xfd {
-        return Way {
-            split: j == 1,
-            node: Node(v),
-            pick: 0,
-            guard: 1 + j,
-        };
-    }
-    Way {
-        split: false,
-        node: Node(0),
-        pick: j,
-        guard: 0,
-    }
-}
-
 // Adds the edge of location i by one way.
 fn add_way(
-    statement: &[u8],
+    d: Decoded,
     location: &[u8],
     way: Way,
     locations: &mut [u8],
     edges: &mut [u8],
-    nl: usize,
-    ne: usize,
+    counts: Counts,
     i: usize,
 ) -> Grown
-    requires { ⌜ WayGiven (now location) (now statement) way (now locations) (now edges) nl ne i ⌝ }
-    ensures { λ r. ⌜ WayAdded (now (location .entry)) (now (statement .entry)) way (now (locations .entry)) (now (edges .entry)) nl ne i (now (locations .exit)) (now (edges .exit)) r ⌝ }
+    requires { ⌜ WayGiven (now location) d way (now locations) (now edges) counts i ⌝ }
+    ensures { λ r. ⌜ WayAdded (now (location .entry)) d way (now (locations .entry)) (now (edges .entry)) counts i
+        (now (locations .exit)) (now (edges .exit)) r ⌝ }
 {
     let mut target = [0u8; 32];
     let mut updates = [0u16; 16];
-    let left = edge::one_edge(location, statement, way, &mut target, &mut updates);
-    grow::add_edge(
-        locations,
-        edges,
-        nl,
-        ne,
-        i,
-        &target,
-        &updates,
-        left.branch,
-        way.guard,
-        way.node,
-        left.nodes,
-    )
+    let made = edge::one_edge(location, d, way, &mut target, &mut updates);
+    listing::add_edge(locations, edges, counts, i, made, &target, &updates)
 }
 
 // Adds the edges by the ways, in order. One call for all of them, which the compiler then inlines.
 fn add_ways(
-    statement: &[u8],
+    d: Decoded,
     location: &[u8],
-    v: u8,
-    count: u8,
+    ways: Ways,
     locations: &mut [u8],
     edges: &mut [u8],
-    nl: usize,
-    ne: usize,
+    counts: Counts,
     i: usize,
 ) -> Grown
-    requires { ⌜ ShapeGiven (now location) (now statement) (now locations) (now edges) nl ne i × AreWays (now location) (now statement) v count ⌝ }
-    ensures { λ r. ⌜ EdgesAdded (now (location .entry)) (now (statement .entry)) (now (locations .entry)) (now (edges .entry)) nl ne i (now (locations .exit)) (now (edges .exit)) r ⌝ }
+    requires { ⌜ ShapeGiven (now location) d (now locations) (now edges) counts i × AreWays (now location) d ways ⌝ }
+    ensures { λ r. ⌜ EdgesAdded (now (location .entry)) d (now (locations .entry)) (now (edges .entry)) counts i
+        (now (locations .exit)) (now (edges .exit)) r ⌝ }
 {
-    let mut listed = nl;
-    let mut added = ne;
+    let mut held = counts;
     let mut j = 0;
-    while j < count {
-        let way = way_at(v, j);
-        match add_way(statement, location, way, locations, edges, listed, added, i) {
-            Grown::Added {
-                locations: a,
-                edges: b,
-            } => {
-                listed = a;
-                added = b;
+    while j < ways.count {
+        let way = way::way_at(ways.value, j);
+        match add_way(d, location, way, locations, edges, held, i) {
+            Grown::Added { counts: more } => {
+                held = more;
             }
             Grown::Full { number } => return Grown::Full { number },
         }
         j += 1;
     }
-    Grown::Added {
-        locations: listed,
-        edges: added,
-    }
+    Grown::Added { counts: held }
 }
 
 // Adds the edges of a location with a shape.
 fn add_edges(
-    statement: &[u8],
+    d: Decoded,
     location: &[u8],
     locations: &mut [u8],
     edges: &mut [u8],
-    nl: usize,
-    ne: usize,
+    counts: Counts,
     i: usize,
 ) -> Grown
-    requires { ⌜ ShapeGiven (now location) (now statement) (now locations) (now edges) nl ne i ⌝ }
-    ensures { λ r. ⌜ EdgesAdded (now (location .entry)) (now (statement .entry)) (now (locations .entry)) (now (edges .entry)) nl ne i (now (locations .exit)) (now (edges .exit)) r ⌝ }
+    requires { ⌜ ShapeGiven (now location) d (now locations) (now edges) counts i ⌝ }
+    ensures { λ r. ⌜ EdgesAdded (now (location .entry)) d (now (locations .entry)) (now (edges .entry)) counts i
+        (now (locations .exit)) (now (edges .exit)) r ⌝ }
 {
-    let op = statement[1];
-    let u = Pointer(statement[2]);
-    let w = Pointer(statement[3]);
-    let v = way::access(op, u, w, &location[4..10]);
-    let count = way_count(op, v);
-    add_ways(statement, location, v, count, locations, edges, nl, ne, i)
+    let value = way::view(d, &location[4..10]);
+    let count = way::way_count(d.op, value);
+    add_ways(
+        d,
+        location,
+        Ways { value, count },
+        locations,
+        edges,
+        counts,
+        i,
+    )
 }
 
 // Where a statement's record begins in the input.
@@ -169,27 +118,23 @@ pub fn explore_location(
     n: usize,
     locations: &mut [u8],
     edges: &mut [u8],
-    nl: usize,
-    ne: usize,
+    counts: Counts,
     i: usize,
 ) -> Grown
-    requires { ⌜ ExploreReady (now input) n (now locations) (now edges) nl ne × (i < nl) ⌝ }
-    ensures { λ r. ⌜ ((sts : List Stmt) (t : Listing) → StatementsOk (now (input .entry)) n sts → Holds t (now (locations .entry)) (now (edges .entry)) nl ne → LocsOk n t
-        → AddedTo n i (addEdges (places 1024 (length (now (locations .entry)))) (places 2048 (length (now (edges .entry)))) i (edgesOf sts (locAt (t .locs) i)) t)
-        (now (locations .exit)) (now (edges .exit)) r) ⌝ }
+    requires { ⌜ ExploreReady (now input) n (now locations) (now edges) counts × (i < counts .locations) ⌝ }
+    ensures { λ r. ⌜ LocationExplored (now (input .entry)) n (now (locations .entry)) (now (edges .entry)) counts i
+        (now (locations .exit)) (now (edges .exit)) r ⌝ }
 {
     let mut location = [0u8; 32];
     let at = 32 * i;
     copy_record(&locations[at..], &mut location);
     if location[2] != 0 {
-        return Grown::Added {
-            locations: nl,
-            edges: ne,
-        };
+        return Grown::Added { counts };
     }
     let start = record_start(Statement(location[1]));
     let end = start + 32;
-    add_edges(&input[start..end], &location, locations, edges, nl, ne, i)
+    let d = statement::decode(&input[start..end]);
+    add_edges(d, &location, locations, edges, counts, i)
 }
 
 // Explores all locations, by number.
@@ -198,32 +143,22 @@ pub fn explore_all(
     n: usize,
     locations: &mut [u8],
     edges: &mut [u8],
-    nl: usize,
-    ne: usize,
+    counts: Counts,
 ) -> Explored
-    requires { ⌜ ExploreReady (now input) n (now locations) (now edges) nl ne ⌝ }
-    ensures { λ r. ⌜ ((sts : List Stmt) (t : Listing) → StatementsOk (now (input .entry)) n sts → Holds t (now (locations .entry)) (now (edges .entry)) nl ne → LocsOk n t
-        → ExploredTo n (explore sts (places 1024 (length (now (locations .entry)))) (places 2048 (length (now (edges .entry)))) (places 1024 (length (now (locations .entry)))) 0 t)
-        (now (locations .exit)) (now (edges .exit)) r) ⌝ }
+    requires { ⌜ ExploreReady (now input) n (now locations) (now edges) counts ⌝ }
+    ensures { λ r. ⌜ AllExplored (now (input .entry)) n (now (locations .entry)) (now (edges .entry)) counts
+        (now (locations .exit)) (now (edges .exit)) r ⌝ }
 {
-    let mut listed = nl;
-    let mut added = ne;
+    let mut held = counts;
     let mut i = 0;
-    while i < listed {
-        match explore_location(input, n, locations, edges, listed, added, i) {
-            Grown::Added {
-                locations: a,
-                edges: b,
-            } => {
-                listed = a;
-                added = b;
+    while i < held.locations {
+        match explore_location(input, n, locations, edges, held, i) {
+            Grown::Added { counts: more } => {
+                held = more;
             }
             Grown::Full { number } => return Explored::Full { number, place: i },
         }
         i += 1;
     }
-    Explored::Listed {
-        locations: listed,
-        edges: added,
-    }
+    Explored::Listed { counts: held }
 }

@@ -14,15 +14,15 @@ use Rattle.model.specs.Edges.{at, stmtAt}
 use Rattle.model.specs.Records.{isH, isS, layoutH, locRecord, recordAt, shapeOf, stmtOf}
 use Rattle.model.specs.Shape.{canonical}
 use Rattle.model.specs.Translate.{Routine, between, check, good}
-use Rattle.model.proofs.Checked.{accepted-h}
-use Rattle.model.proofs.Sorted.{Sorted, kinds-sorted, not-both}
-use Rattle.model.proofs.Listings.{recordsOf}
-use Rattle.model.proofs.Lists.{all-at, getD-map}
-use Rattle.model.proofs.Logic.{and-l, and-r}
-use Rattle.model.proofs.ShapeBack.{shape-record-back}
+use Rattle.model.proofs.records.Checked.{accepted-h}
+use Rattle.model.proofs.lists.Sorted.{Sorted, kinds-sorted, not-both}
+use Rattle.model.specs.Listings.{recordsOf}
+use Rattle.model.proofs.lists.Lists.{all-at, getD-map}
+use Rattle.model.proofs.lists.Logic.{and-l, and-r}
+use Rattle.model.proofs.records.ShapeBack.{shape-record-back}
 use Rattle.input.specs.declared.Checked.the-variants.{Good}
 use Rattle.input.specs.Input.{checkedOf, GoodCounts, routineOf}
-use Rattle.input.specs.Parts.{earlier, recordRefusal}
+use Rattle.input.specs.RecordChecks.{earlier, recordRefusal}
 use Rattle.input.specs.Accepted.{Accepted}
 use Rattle.input.proofs.Records.{counts-whole, record-wide, records-at, records-length}
 use Rattle.input.proofs.Shapes.{refusal-by-h, refusal-by-s}
@@ -32,19 +32,23 @@ use Rattle.input.proofs.Opened.{Opened, check-opened, record-passed}
 
 module _ (s : List ℕ) (n m : ℕ) (w : 32 * (n + m) ≡ length s) where
   pub stmts-length : length (routineOf n s .stmts) ≡ n
-  stmts-length = length-map (take n (recordsOf s)) stmtOf ∙ length-take-le n (recordsOf s) (omega (arith, records-length s (n + m) w))
+  stmts-length = length-map (take n (recordsOf s)) stmtOf
+      ∙ length-take-le n (recordsOf s) (omega (arith, records-length s (n + m) w))
 
   pub starts-length : length (routineOf n s .starts) ≡ m
-  starts-length = length-map (drop n (recordsOf s)) shapeOf ∙ omega (arith, length-drop n (recordsOf s), records-length s (n + m) w)
+  starts-length = length-map (drop n (recordsOf s)) shapeOf
+      ∙ omega (arith, length-drop n (recordsOf s), records-length s (n + m) w)
 
   pub stmt-at : (i : ℕ) → i < n → stmtAt (routineOf n s .stmts) i ≡ stmtOf (recordAt s i)
   stmt-at i h =
-      getD-map stmtOf (take n (recordsOf s)) i [] _ (omega (arith, length-take-le n (recordsOf s) (omega (arith, records-length s (n + m) w))))
+      getD-map stmtOf (take n (recordsOf s)) i [] _
+      (omega (arith, length-take-le n (recordsOf s) (omega (arith, records-length s (n + m) w))))
       ∙ ap stmtOf (getD-take n (recordsOf s) i [] h ∙ records-at s (n + m) w i (omega arith))
 
   pub start-at : (j : ℕ) (d : Heap) → j < m → getD (routineOf n s .starts) j d ≡ shapeOf (recordAt s (n + j))
   start-at j d h =
-      getD-map shapeOf (drop n (recordsOf s)) j [] d (omega (arith, length-drop n (recordsOf s), records-length s (n + m) w))
+      getD-map shapeOf (drop n (recordsOf s)) j [] d
+      (omega (arith, length-drop n (recordsOf s), records-length s (n + m) w))
       ∙ ap shapeOf (getD-drop n (recordsOf s) j [] ∙ records-at s (n + m) w (n + j) (omega arith))
 
 -- ---- an accepted input
@@ -56,7 +60,8 @@ between-high : (a b n : ℕ) → between a b n ≡ true → n ≤ b
 between-high a b n h = leb-true n b (and-r (leb a n) (leb n b) h)
 
 -- the number of statements that a routine was read with
-statements-are : (s : List ℕ) (n m k l : ℕ) → 32 * (n + m) ≡ length s → k + l ≡ n + m → routineOf n s ≡ routineOf k s → n ≡ k
+statements-are : (s : List ℕ) (n m k l : ℕ) → 32 * (n + m) ≡ length s → k + l ≡ n + m → routineOf n s ≡ routineOf k s
+    → n ≡ k
 statements-are s n m k l w q e =
     sym (stmts-length s n m w) ∙ ap (λ r. length (r .stmts)) e ∙ stmts-length s k l (rw q w)
 
@@ -65,7 +70,8 @@ module _ (s : List ℕ) (n m : ℕ) (w : 32 * (n + m) ≡ length s) (o : Opened 
   counted = counts-whole s (n + m) w (o .kinds)
 
   statements-counted : count isS (recordsOf s) ≡ n
-  statements-counted = sym (statements-are s n m (count isS (recordsOf s)) (count isH (recordsOf s)) w counted (o .routine))
+  statements-counted = sym (statements-are s n m (count isS (recordsOf s)) (count isH (recordsOf s)) w counted
+      (o .routine))
 
   sorted : Sorted (recordsOf s)
   sorted = kinds-sorted 0 (recordsOf s) (o .kinds)
@@ -78,13 +84,16 @@ module _ (s : List ℕ) (n m : ℕ) (w : 32 * (n + m) ≡ length s) (o : Opened 
 
   at-shape : (j : ℕ) → j < m → isS (recordAt s (n + j)) ≡ false
   at-shape j h =
-      let t = all-at isH (drop n (recordsOf s)) [] j (rw statements-counted at (sorted .shapes)) (omega (arith, length-drop n (recordsOf s), records-length s (n + m) w)) in
-      not-both (recordAt s (n + j)) (ap isH (sym (getD-drop n (recordsOf s) j [] ∙ records-at s (n + m) w (n + j) (omega arith))) ∙ t)
+      let t = all-at isH (drop n (recordsOf s)) [] j (rw statements-counted at (sorted .shapes))
+      (omega (arith, length-drop n (recordsOf s), records-length s (n + m) w)) in
+      not-both (recordAt s (n + j)) (ap isH (sym (getD-drop n (recordsOf s) j []
+      ∙ records-at s (n + m) w (n + j) (omega arith))) ∙ t)
 
   at-record : (i : ℕ) → i < n + m → recordRefusal n s i ≡ 0
   at-record i h = record-passed s (n + m) w n (rw statements-counted at (o .records)) i h
 
-  layout-and-shape : (j : ℕ) → j < m → (layoutH (recordAt s (n + j)) ≡ true) × (canonical (shapeOf (recordAt s (n + j))) ≡ true)
+  layout-and-shape : (j : ℕ) → j < m → (layoutH (recordAt s (n + j)) ≡ true)
+      × (canonical (shapeOf (recordAt s (n + j))) ≡ true)
   layout-and-shape j h =
       let q = accepted-h (earlier s (n + j)) (recordAt s (n + j))
       (refusal-by-h (earlier s (n + j)) (recordAt s (n + j)) n (at-shape j h) ∙ at-record (n + j) (omega arith)) in
@@ -108,7 +117,8 @@ pub accepted : (s : List ℕ) (n m : ℕ) → checkedOf (Good n m) s ≡ check s
 accepted s n m e g = opened-accepted s n m (g .4) (check-opened s (routineOf n s) (sym e))
 
 -- from the definition: the numbers are those of the routine's statements and shapes
-pub good-accepted : (s : List ℕ) (r : Routine) → check s ≡ good r → Accepted s (length (r .stmts)) (length (r .starts)) × (r ≡ routineOf (length (r .stmts)) s)
+pub good-accepted : (s : List ℕ) (r : Routine) → check s ≡ good r
+    → Accepted s (length (r .stmts)) (length (r .starts)) × (r ≡ routineOf (length (r .stmts)) s)
 good-accepted s r e =
     let o = check-opened s r e in
     let k = count isS (recordsOf s) in
@@ -123,6 +133,8 @@ module _ (s : List ℕ) (n m : ℕ) (A : Accepted s n m) where
   accepted-wide i h = let w = A .whole in record-wide s i (omega arith)
 
   -- the location record of a starting shape is its shape record with another tag
-  pub start-record : (j : ℕ) → j < m → locRecord (at 0 (shapeOf (recordAt s (n + j)))) ≡ 0x4c ∷ 0 ∷ 0 ∷ drop 3 (recordAt s (n + j))
+  pub start-record : (j : ℕ) → j < m → locRecord (at 0 (shapeOf (recordAt s (n + j)))) ≡ 0x4c ∷ 0 ∷ 0
+      ∷ drop 3 (recordAt s (n + j))
   start-record j h =
-      ap (λ l. 0x4c ∷ 0 ∷ 0 ∷ drop 3 l) (shape-record-back (recordAt s (n + j)) (accepted-wide (n + j) (omega arith)) (A .isLayout j h))
+      ap (λ l. 0x4c ∷ 0 ∷ 0 ∷ drop 3 l) (shape-record-back (recordAt s (n + j)) (accepted-wide (n + j) (omega arith))
+      (A .isLayout j h))

@@ -1,23 +1,22 @@
 -- An input that is accepted has passed each of the checks, and each record is accepted after those before it.
-use Prim.Native.Nat.{ℕ, zero, suc, _*_, _/_, _%_, _<_, _≤_}
+use Prim.Native.Nat.{ℕ, zero, suc, _*_, _/_, _<_, _≤_}
 use native.Mathlib.Numerals.{add-one}
 use native.Mathlib.Omega.{arith}
 use mathlib.Core.Path.{_≡_, refl, sym, ap, _∙_}
-use mathlib.Core.Bool.{true, false, not, _||_}
+use mathlib.Core.Bool.{true, false}
 use mathlib.Core.Option.{Option, none, some}
 use mathlib.Core.List.{List, [], map}
-use lib.Dec.{eqb}
 use lib.ListN.{length, take, drop}
-use borrow.Author.Tests.{eqb-true, not-false}
 use Rattle.model.specs.Base.{count}
 use Rattle.model.specs.Records.{Refusal, isH, isS, shapeOf, stmtOf}
 use Rattle.model.specs.Translate.{Routine, good, badKind, badRecord, between, check, checkCounts, checkKinds, checkRecords}
-use Rattle.model.proofs.Checked.{bad-good, good-inj}
-use Rattle.model.proofs.Listings.{recordsOf}
-use Rattle.model.proofs.Lists.{some-none}
-use Rattle.model.proofs.Logic.{bool-case, or-false-r}
+use Rattle.model.proofs.records.Checked.{bad-good, good-inj}
+use Rattle.model.specs.Listings.{recordsOf}
+use Rattle.model.proofs.lists.Lists.{some-none}
+use Rattle.model.proofs.lists.Logic.{bool-case}
 use Rattle.input.specs.Input.{routineOf}
-use Rattle.input.specs.Parts.{earlier, recordRefusal}
+use Rattle.input.specs.RecordChecks.{earlier, recordRefusal}
+use Rattle.input.proofs.Outcomes.{badLength, length-even}
 use Rattle.input.proofs.Records.{records-fail, records-pass}
 
 pub record Opened (s : List ℕ) (r : Routine) : Type 0 where
@@ -34,18 +33,24 @@ records-open : (n : ℕ) (rs : List (List ℕ)) (r : Routine) → checkRecords n
 records-open n rs r e = by-bad (badRecord n 0 [] rs) refl
   where
     by-bad : (o : Option Refusal) → badRecord n 0 [] rs ≡ o
-        → (badRecord n 0 [] rs ≡ none) × (r ≡ record { stmts = map stmtOf (take n rs); starts = map shapeOf (drop n rs) })
+        → (badRecord n 0 [] rs ≡ none) × (r ≡ record {
+          stmts = map stmtOf (take n rs);
+          starts = map shapeOf (drop n rs);
+        })
     by-bad (some x) q = bad-good (rw (q, checkRecords) at e)
     by-bad none q = (q, sym (good-inj (rw (q, checkRecords) at e)))
 
 counts-open : (rs : List (List ℕ)) (r : Routine) → checkCounts rs ≡ good r
-    → (between 1 64 (count isS rs) ≡ true) × (between 1 16 (count isH rs) ≡ true) × (checkRecords (count isS rs) rs ≡ good r)
+    → (between 1 64 (count isS rs) ≡ true) × (between 1 16 (count isH rs) ≡ true)
+    × (checkRecords (count isS rs) rs ≡ good r)
 counts-open rs r e = bool-case (between 1 64 (count isS rs))
     (λ a. let e1 = rw (a, checkCounts) at e in
-    bool-case (between 1 16 (count isH rs)) (λ b. (a, b, rw (b, checkCounts) at e1)) (λ b. bad-good (rw (b, checkCounts) at e1)))
+    bool-case (between 1 16 (count isH rs)) (λ b. (a, b, rw (b, checkCounts) at e1))
+    (λ b. bad-good (rw (b, checkCounts) at e1)))
     (λ a. bad-good (rw (a, checkCounts) at e))
 
-kinds-open : (rs : List (List ℕ)) (r : Routine) → checkKinds rs ≡ good r → (badKind false 0 rs ≡ none) × (checkCounts rs ≡ good r)
+kinds-open : (rs : List (List ℕ)) (r : Routine) → checkKinds rs ≡ good r → (badKind false 0 rs ≡ none)
+    × (checkCounts rs ≡ good r)
 kinds-open rs r e = by-kind (badKind false 0 rs) refl
   where
     by-kind : (o : Option ℕ) → badKind false 0 rs ≡ o → (badKind false 0 rs ≡ none) × (checkCounts rs ≡ good r)
@@ -54,13 +59,19 @@ kinds-open rs r e = by-kind (badKind false 0 rs) refl
 
 pub check-opened : (s : List ℕ) (r : Routine) → check s ≡ good r → Opened s r
 unfolding check
-check-opened s r e = bool-case (eqb (length s) 0 || not (eqb (length s % 32) 0))
+check-opened s r e = bool-case (badLength (length s))
     (λ a. bad-good (rw (a, check) at e))
-    (λ a. let m = eqb-true (length s % 32) 0 (not-false _ (or-false-r (eqb (length s) 0) (not (eqb (length s % 32) 0)) a)) in
-    let k = kinds-open (recordsOf s) r (rw (a, check) at e) in
+    (λ a. let k = kinds-open (recordsOf s) r (rw (a, check) at e) in
     let c = counts-open (recordsOf s) r (k .1) in
     let d = records-open (count isS (recordsOf s)) (recordsOf s) r (c .2) in
-    record { even = omega arith; kinds = k .0; statements = c .0; shapes = c .1; records = d .0; routine = d .1 })
+    record {
+      even = length-even (length s) a;
+      kinds = k .0;
+      statements = c .0;
+      shapes = c .1;
+      records = d .0;
+      routine = d .1;
+    })
 
 -- ---- each record after those before it
 
@@ -76,7 +87,8 @@ module _ (s : List ℕ) (n : ℕ) (w : 32 * n ≡ length s) (m : ℕ) (e : badRe
   passed zero h = e
   passed (suc i) h =
       let q = passed i (omega arith) in
-      ap (λ j. badRecord m j (earlier s j) (drop j (recordsOf s))) (sym (add-one i)) ∙ sym (records-pass s n w m i (omega arith) (one-more i (omega arith) q)) ∙ q
+      ap (λ j. badRecord m j (earlier s j) (drop j (recordsOf s))) (sym (add-one i))
+      ∙ sym (records-pass s n w m i (omega arith) (one-more i (omega arith) q)) ∙ q
 
   pub record-passed : (i : ℕ) → i < n → recordRefusal m s i ≡ 0
   record-passed i h = one-more i h (passed i (omega arith))

@@ -1,22 +1,25 @@
 -- The records of an input by place, and the checks of them taken one record at a time.
-use Prim.Native.Nat.{ℕ, zero, suc, _+_, _-_, _*_, _/_, _<_, _≤_}
+use Prim.Native.Nat.{ℕ, zero, suc, _+_, _*_, _/_, _<_, _≤_}
 use native.Mathlib.Nat.{add-zero}
 use native.Mathlib.Numerals.{add-one}
 use native.Mathlib.Omega.{arith}
-use mathlib.Core.Path.{_≡_, refl, sym, ap, _∙_}
+use mathlib.Core.Path.{_≡_, refl, sym, ap, ap₂, _∙_}
 use mathlib.Core.Bool.{Bool, true, false, cond, _||_}
 use mathlib.Core.Option.{none, some}
-use mathlib.Core.List.{List, [], _∷_}
-use lib.Dec.{eqb}
+use mathlib.Core.List.{List, [], _∷_, _++_}
+use lib.Dec.{eqb, ltb}
 use lib.ListN.{length, getD, take, drop, drop-of-length-le, length-drop}
 use lib.Seq.{drop-cons, drop-drop, getD-drop, getD-take, length-take-le}
-use Rattle.model.specs.Base.{any, count}
+use Rattle.model.specs.Base.{any, count, numbers, sameList}
 use Rattle.model.specs.Records.{byte, isH, isS, recordAt, refusal, refusalH, refusalS}
 use Rattle.model.specs.Translate.{badKind, badRecord, chunks}
-use Rattle.model.proofs.Sorted.{kinds-sorted}
-use Rattle.model.proofs.Listings.{recordsOf}
-use Rattle.model.proofs.Logic.{bool-case, clash, or-l}
-use Rattle.input.specs.Parts.{kindFits, earlier, recordRefusal}
+use Rattle.model.proofs.lists.Sorted.{kinds-sorted}
+use Rattle.model.specs.Listings.{recordsOf}
+use Rattle.model.proofs.lists.Logic.{bool-case, bool-ext, clash, or-l}
+use Rattle.model.proofs.lists.Numbers.{length-numbers, numbers-snoc}
+use Rattle.model.proofs.shapes.Same.{bytes-same, place-test, same-bytes-refl}
+use Rattle.search.specs.Search.{foundAt}
+use Rattle.input.specs.RecordChecks.{kindFits, earlier, recordRefusal}
 
 chunks-length : (n : ℕ) (s : List ℕ) → length (chunks n s) ≡ n
 chunks-length zero s = refl
@@ -31,32 +34,61 @@ chunks-at (suc n) s (suc i) h =
 
 -- a record's tag is the byte where it begins
 pub record-tag : (s : List ℕ) (i : ℕ) → byte (recordAt s i) 0 ≡ getD s (32 * i) 0
-record-tag s i = getD-take 32 (drop (32 * i) s) 0 0 (omega arith) ∙ getD-drop (32 * i) s 0 0 ∙ ap (λ m. getD s m 0) (add-zero (32 * i))
+record-tag s i = getD-take 32 (drop (32 * i) s) 0 0 (omega arith) ∙ getD-drop (32 * i) s 0 0
+    ∙ ap (λ m. getD s m 0) (add-zero (32 * i))
 
 pub record-wide : (s : List ℕ) (i : ℕ) → 32 * (i + 1) ≤ length s → length (recordAt s i) ≡ 32
 record-wide s i h = length-take-le 32 (drop (32 * i) s) (omega (arith, length-drop (32 * i) s))
 
 -- the kind of the first record
-kind-pass : (a : Bool) (i : ℕ) (r : List ℕ) (rs : List (List ℕ)) → kindFits a (byte r 0) ≡ true → badKind a i (r ∷ rs) ≡ badKind (isH r) (suc i) rs
+kind-pass : (a : Bool) (i : ℕ) (r : List ℕ) (rs : List (List ℕ)) → kindFits a (byte r 0) ≡ true → badKind a i (r ∷ rs)
+    ≡ badKind (isH r) (suc i) rs
 kind-pass a i r rs h = bool-case (isH r) (λ e. rw (e, badKind)) (λ e. rw (e, badKind) (rw (rw e at h, badKind)))
 
-kind-fail : (a : Bool) (i : ℕ) (r : List ℕ) (rs : List (List ℕ)) → kindFits a (byte r 0) ≡ false → badKind a i (r ∷ rs) ≡ some i
-kind-fail a i r rs h = bool-case (isH r) (λ e. clash (or-l (isH r) _ e) h) (λ e. rw (e, badKind) (rw (rw e at h, badKind)))
+kind-fail : (a : Bool) (i : ℕ) (r : List ℕ) (rs : List (List ℕ)) → kindFits a (byte r 0) ≡ false
+    → badKind a i (r ∷ rs) ≡ some i
+kind-fail a i r rs h = bool-case (isH r) (λ e. clash (or-l (isH r) _ e) h)
+    (λ e. rw (e, badKind) (rw (rw e at h, badKind)))
 
 -- the refusal of the first record
-refusal-pass : (n i : ℕ) (e : List (List ℕ)) (r : List ℕ) (rs : List (List ℕ)) → cond (isS r) (refusalS n r) (refusalH e r) ≡ 0
+refusal-pass : (n i : ℕ) (e : List (List ℕ)) (r : List ℕ) (rs : List (List ℕ))
+    → cond (isS r) (refusalS n r) (refusalH e r) ≡ 0
     → badRecord n i e (r ∷ rs) ≡ badRecord n (suc i) (r ∷ e) rs
 refusal-pass n i e r rs h = rw (h, badRecord)
 
-refusal-fail : (n i k : ℕ) (e : List (List ℕ)) (r : List ℕ) (rs : List (List ℕ)) → cond (isS r) (refusalS n r) (refusalH e r) ≡ k → (k ≡ 0 → ⊥)
+refusal-fail : (n i k : ℕ) (e : List (List ℕ)) (r : List ℕ) (rs : List (List ℕ))
+    → cond (isS r) (refusalS n r) (refusalH e r) ≡ k → (k ≡ 0 → ⊥)
     → badRecord n i e (r ∷ rs) ≡ some (refusal k i)
 refusal-fail n i zero e r rs h z = absurd (z refl)
 refusal-fail n i (suc k) e r rs h z = rw (h, badRecord)
 
--- the last of the first j records, and those before it
-pub earlier-step : (p : List ℕ → Bool) (s : List ℕ) (j : ℕ) → 0 < j → any p (earlier s j) ≡ p (recordAt s (j - 1)) || any p (earlier s (j - 1))
-earlier-step p s zero h = absurd (omega arith)
-earlier-step p s (suc j) h = let e : suc j - 1 ≡ j = omega arith in rw e
+-- the first i records, by their numbers and as a list
+or-swap : (a b c : Bool) → a || (b || c) ≡ b || (a || c)
+or-swap true true c = refl
+or-swap true false c = refl
+or-swap false b c = refl
+
+any-snoc : {A : Type 0} (p : A → Bool) (l : List A) (x : A) → any p (l ++ x ∷ []) ≡ p x || any p l
+any-snoc p [] x = refl
+any-snoc p (y ∷ l) x = ap (λ b. p y || b) (any-snoc p l x) ∙ or-swap (p y) (p x) (any p l)
+
+any-earlier : (p : ℕ → Bool) (q : List ℕ → Bool) (s : List ℕ) → ((j : ℕ) → p j ≡ q (recordAt s j))
+    → (i : ℕ) → any p (numbers 0 i) ≡ any q (earlier s i)
+any-earlier p q s h zero = refl
+any-earlier p q s h (suc i) =
+    let z : 0 + i ≡ i = omega arith in
+    ap (any p) (numbers-snoc 0 i) ∙ any-snoc p (numbers 0 i) (0 + i) ∙ ap₂ _||_ (ap p z ∙ h i) (any-earlier p q s h i)
+
+bytes-sym : (a b : List ℕ) → sameList eqb a b ≡ sameList eqb b a
+bytes-sym a b = bool-ext (sameList eqb a b) (sameList eqb b a)
+    (λ e. ap (sameList eqb b) (bytes-same a b e) ∙ same-bytes-refl b)
+    (λ e. ap (sameList eqb a) (bytes-same b a e) ∙ same-bytes-refl a)
+
+-- a record that is found among the first i is one of them
+pub found-earlier : (s r : List ℕ) (i : ℕ) → ltb (foundAt s r i) i ≡ any (sameList eqb r) (earlier s i)
+found-earlier s r i =
+    ap (ltb (foundAt s r i)) (sym (length-numbers 0 i)) ∙ place-test (λ j. sameList eqb (recordAt s j) r) (numbers 0 i)
+    ∙ any-earlier (λ j. sameList eqb (recordAt s j) r) (sameList eqb r) s (λ j. bytes-sym (recordAt s j) r) i
 
 module _ (s : List ℕ) (n : ℕ) (w : 32 * n ≡ length s) where
   pub records-length : length (recordsOf s) ≡ n
@@ -67,7 +99,8 @@ module _ (s : List ℕ) (n : ℕ) (w : 32 * n ≡ length s) where
 
   pub records-step : (i : ℕ) → i < n → drop i (recordsOf s) ≡ recordAt s i ∷ drop (i + 1) (recordsOf s)
   records-step i h =
-      rw add-one (drop-cons (recordsOf s) i [] (omega (arith, records-length)) ∙ ap (λ r. r ∷ drop (suc i) (recordsOf s)) (records-at i h))
+      rw add-one (drop-cons (recordsOf s) i [] (omega (arith, records-length))
+      ∙ ap (λ r. r ∷ drop (suc i) (recordsOf s)) (records-at i h))
 
   pub records-end : (i : ℕ) → n ≤ i → drop i (recordsOf s) ≡ []
   records-end i h = drop-of-length-le (recordsOf s) {i = i} (omega (arith, records-length))
@@ -77,17 +110,21 @@ module _ (s : List ℕ) (n : ℕ) (w : 32 * n ≡ length s) where
       → badKind a i (drop i (recordsOf s)) ≡ badKind (eqb (getD s (32 * i) 0) 0x48) (i + 1) (drop (i + 1) (recordsOf s))
   kinds-pass a i h k =
       let rs = drop (i + 1) (recordsOf s) in
-      let e : badKind (isH (recordAt s i)) (suc i) rs ≡ badKind (eqb (getD s (32 * i) 0) 0x48) (i + 1) rs = rw (record-tag s i, add-one) in
+      let e : badKind (isH (recordAt s i)) (suc i) rs ≡ badKind (eqb (getD s (32 * i) 0) 0x48) (i + 1) rs =
+      rw (record-tag s i, add-one) in
       ap (badKind a i) (records-step i h) ∙ kind-pass a i (recordAt s i) rs (ap (kindFits a) (record-tag s i) ∙ k) ∙ e
 
-  pub kinds-fail : (a : Bool) (i : ℕ) → i < n → kindFits a (getD s (32 * i) 0) ≡ false → badKind a i (drop i (recordsOf s)) ≡ some i
-  kinds-fail a i h k = ap (badKind a i) (records-step i h) ∙ kind-fail a i (recordAt s i) (drop (i + 1) (recordsOf s)) (ap (kindFits a) (record-tag s i) ∙ k)
+  pub kinds-fail : (a : Bool) (i : ℕ) → i < n → kindFits a (getD s (32 * i) 0) ≡ false
+      → badKind a i (drop i (recordsOf s)) ≡ some i
+  kinds-fail a i h k = ap (badKind a i) (records-step i h) ∙ kind-fail a i (recordAt s i) (drop (i + 1) (recordsOf s))
+      (ap (kindFits a) (record-tag s i) ∙ k)
 
   pub kinds-end : (a : Bool) (i : ℕ) → n ≤ i → badKind a i (drop i (recordsOf s)) ≡ none
   kinds-end a i h = ap (badKind a i) (records-end i h)
 
   -- the statements from record i on
-  pub count-step : (i : ℕ) → i < n → count isS (drop i (recordsOf s)) ≡ cond (eqb (getD s (32 * i) 0) 0x53) 1 0 + count isS (drop (i + 1) (recordsOf s))
+  pub count-step : (i : ℕ) → i < n → count isS (drop i (recordsOf s)) ≡ cond (eqb (getD s (32 * i) 0) 0x53) 1
+      0 + count isS (drop (i + 1) (recordsOf s))
   count-step i h = ap (count isS) (records-step i h) ∙ rw (record-tag s i)
 
   pub count-end : (i : ℕ) → n ≤ i → count isS (drop i (recordsOf s)) ≡ 0
@@ -95,19 +132,23 @@ module _ (s : List ℕ) (n : ℕ) (w : 32 * n ≡ length s) where
 
   -- the refusals from record i on
   pub records-pass : (m i : ℕ) → i < n → recordRefusal m s i ≡ 0
-      → badRecord m i (earlier s i) (drop i (recordsOf s)) ≡ badRecord m (i + 1) (earlier s (i + 1)) (drop (i + 1) (recordsOf s))
+      → badRecord m i (earlier s i) (drop i (recordsOf s)) ≡ badRecord m (i + 1) (earlier s (i + 1))
+      (drop (i + 1) (recordsOf s))
   records-pass m i h z =
       let rs = drop (i + 1) (recordsOf s) in
       ap (badRecord m i (earlier s i)) (records-step i h) ∙ refusal-pass m i (earlier s i) (recordAt s i) rs z
       ∙ ap (λ j. badRecord m j (earlier s j) rs) (sym (add-one i))
 
-  pub records-fail : (m i k : ℕ) → i < n → recordRefusal m s i ≡ k → (k ≡ 0 → ⊥) → badRecord m i (earlier s i) (drop i (recordsOf s)) ≡ some (refusal k i)
+  pub records-fail : (m i k : ℕ) → i < n → recordRefusal m s i ≡ k → (k ≡ 0 → ⊥)
+      → badRecord m i (earlier s i) (drop i (recordsOf s)) ≡ some (refusal k i)
   records-fail m i k h e z =
-      ap (badRecord m i (earlier s i)) (records-step i h) ∙ refusal-fail m i k (earlier s i) (recordAt s i) (drop (i + 1) (recordsOf s)) e z
+      ap (badRecord m i (earlier s i)) (records-step i h) ∙ refusal-fail m i k (earlier s i) (recordAt s i)
+      (drop (i + 1) (recordsOf s)) e z
 
   pub records-pass-end : (m i : ℕ) → n ≤ i → badRecord m i (earlier s i) (drop i (recordsOf s)) ≡ none
   records-pass-end m i h = ap (badRecord m i (earlier s i)) (records-end i h)
 
 -- the records of an input are its statements and its shapes
-pub counts-whole : (s : List ℕ) (n : ℕ) → 32 * n ≡ length s → badKind false 0 (recordsOf s) ≡ none → count isS (recordsOf s) + count isH (recordsOf s) ≡ n
+pub counts-whole : (s : List ℕ) (n : ℕ) → 32 * n ≡ length s → badKind false 0 (recordsOf s) ≡ none
+    → count isS (recordsOf s) + count isH (recordsOf s) ≡ n
 counts-whole s n w e = kinds-sorted 0 (recordsOf s) e .whole ∙ records-length s n w

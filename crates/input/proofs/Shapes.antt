@@ -1,25 +1,17 @@
--- The shape of an H record that keeps the layout, as the heap image of its pointer and successor bytes; the refusals' numbers.
+-- The refusals of H records, and of any record by its kind.
 use Prim.Native.Nat.{ℕ, _≤_}
-use Rattle.model.proofs.Checks.{given-failed, pass-none}
+use Rattle.model.proofs.records.Checks.{given-failed, pass-none}
 use native.Mathlib.Omega.{arith}
-use mathlib.Core.Path.{_≡_, sym, ap, _∙_, refl}
+use mathlib.Core.Path.{_≡_, sym, ap, refl}
 use mathlib.Core.Bool.{true, false, cond, not}
 use mathlib.Core.List.{List, [], _∷_}
 use lib.Dec.{eqb, leb}
-use lib.ListN.{length, take, drop}
 use Rattle.model.specs.Base.{any, sameList, all}
-use Rattle.model.specs.Heap.{closed}
-use Rattle.model.specs.Image.{heapOf}
-use Rattle.model.specs.Records.{byte, isS, layoutH, refusalH, refusalS, shapeOf, Row, checksS, checksH, firstFailed}
+use Rattle.model.specs.Records.{isS, layoutH, refusalH, refusalS, shapeOf, Row, checksS, checksH, firstFailed}
 use Rattle.model.specs.Shape.{canonical}
-use Rattle.model.proofs.Logic.{bool-case, and-l, and-r}
-use Rattle.model.proofs.ShapeBack.{layout-closed, shape-image}
+use Rattle.model.proofs.lists.Logic.{bool-case, and-l, and-r}
 use mathlib.Core.Logic.{inl, inr}
 use borrow.Author.Tests.{leb-true}
-
-module _ (r : List ℕ) (l : length r ≡ 32) (h : layoutH r ≡ true) where
-  pub image-closed : closed (heapOf (take 6 (drop 4 r)) (take (byte r 3) (drop 10 r))) ≡ true
-  image-closed = ap closed (sym (shape-image r l h)) ∙ layout-closed r l h
 
 -- ---- the refusals of an H record after the records e, in the order of its tests
 
@@ -50,7 +42,9 @@ number-low : (cs : List Row) → all (λ (c : Row). leb (c .number) 10) cs ≡ t
 number-low [] h = omega arith
 number-low (c ∷ cs) h = bool-case (c .passes)
     (λ p. rw (p, firstFailed) (number-low cs (and-r (leb (c .number) 10) (all (λ (x : Row). leb (x .number) 10) cs) h)))
-    (λ p. rw (p, firstFailed) (leb-true (c .number) 10 (and-l (leb (c .number) 10) (all (λ (x : Row). leb (x .number) 10) cs) h)))
+    (λ p. rw (p, firstFailed) (leb-true (c .number) 10
+    (and-l (leb (c .number) 10) (all (λ (x : Row). leb (x .number) 10) cs) h)))
 
 pub number-few : (n : ℕ) (e : List (List ℕ)) (r : List ℕ) → cond (isS r) (refusalS n r) (refusalH e r) ≤ 10
-number-few n e r = bool-case (isS r) (λ a. rw a (number-low (checksS n r) refl)) (λ a. rw a (number-low (checksH e r) refl))
+number-few n e r = bool-case (isS r) (λ a. rw a (number-low (checksS n r) refl))
+    (λ a. rw a (number-low (checksH e r) refl))

@@ -1,3 +1,3 @@
 pub mod Input
-pub mod Parts
+pub mod RecordChecks
 pub mod Accepted

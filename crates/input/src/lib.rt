@@ -1,21 +1,20 @@
-// The checks of the translator's input: S records, then H records, 32 bytes each. The first that fails gives the refusal.
-use record::layout_ok;
-use record::same_record;
-use record::statement_refusal;
-use visit::is_canonical;
+// The checks of the translator's input: S records, then H records, 32 bytes each. The first that fails gives the
+// refusal.
+use layout::canonical_shape;
+use layout::layout_ok;
+use layout::statement_refusal;
 ghost use mathlib.Core.Path.{_≡_};
-ghost use mathlib.Core.Bool.{true, false};
+ghost use mathlib.Core.Bool.{false};
 ghost use mathlib.Core.Option.{none};
 ghost use Prim.Native.Nat.{_+_, _*_, _≤_};
 ghost use lib.Dec.{eqb};
 ghost use lib.ListN.{length};
 ghost use Rattle.model.specs.Base.{any, count, sameList};
-ghost use Rattle.model.specs.Records.{isS, layoutH, recordAt, refusalH, shapeOf};
-ghost use Rattle.model.specs.Shape.{canonical};
+ghost use Rattle.model.specs.Records.{isS, refusalH};
 ghost use Rattle.model.specs.Translate.{badKind, between, check, checkCounts, checkKinds, checkRecords};
-ghost use Rattle.model.proofs.Listings.{recordsOf};
+ghost use Rattle.model.specs.Listings.{recordsOf};
 ghost use Rattle.input.specs.Input.{checkedOf, GoodCounts};
-ghost use Rattle.input.specs.Parts.{kindFits, kindFound, earlier, recordRefusal};
+ghost use Rattle.input.specs.RecordChecks.{kindFits, kindFound, earlier, recordRefusal};
 
 // A routine with its numbers of statements and of starting shapes, or the refusal's number and place.
 pub enum Checked {
@@ -29,13 +28,7 @@ pub enum Checked {
 fn kind_fits(after: bool, tag: u8) -> bool
     ensures { λ r. ⌜ r ≡ kindFits after tag ⌝ }
 {
-    if tag == 0x48 {
-        return true;
-    }
-    if tag == 0x53 {
-        return !after;
-    }
-    false
+    (tag == 0x48) | ((tag == 0x53) & !after)
 }
 
 // The first record of a wrong kind; the number of records where there is none.
@@ -74,38 +67,12 @@ fn count_statements(input: &[u8], records: usize) -> usize
 
 // ---- a single record
 
-// Whether the shape of an H record, which keeps the layout, is canonical.
-fn canonical_shape(rec: &[u8]) -> bool
-    requires { ⌜ (length (now rec) ≡ 32) × (layoutH (now rec) ≡ true) ⌝ }
-    ensures { λ r. ⌜ r ≡ canonical (shapeOf (now (rec .entry))) ⌝ }
-{
-    let end = 10 + rec[3] as usize;
-    is_canonical(&rec[4..10], &rec[10..end])
-}
-
-// Whether a record equals record j of the input.
-fn same_as(input: &[u8], j: usize, rec: &[u8]) -> bool
-    requires { ⌜ (32 * (j + 1) ≤ length (now input)) × (length (now rec) ≡ 32) ⌝ }
-    ensures { λ r. ⌜ r ≡ sameList eqb (now (rec .entry)) (recordAt (now (input .entry)) j) ⌝ }
-{
-    let at = 32 * j;
-    let end = at + 32;
-    same_record(rec, &input[at..end])
-}
-
 // Whether a record equals one of the first i records of the input.
 fn repeats(input: &[u8], i: usize, rec: &[u8]) -> bool
     requires { ⌜ (32 * i ≤ length (now input)) × (length (now rec) ≡ 32) ⌝ }
     ensures { λ r. ⌜ r ≡ any (sameList eqb (now (rec .entry))) (earlier (now (input .entry)) i) ⌝ }
 {
-    let mut j = i;
-    while 0 < j {
-        j -= 1;
-        if same_as(input, j, rec) {
-            return true;
-        }
-    }
-    false
+    search::find(input, i, rec) < i
 }
 
 // The refusal of an H record after the first i records of the input, 0 for none.
@@ -144,7 +111,8 @@ fn record_refusal(input: &[u8], i: usize, statements: usize) -> u8
 // The records one after the other.
 fn check_records(input: &[u8], statements: usize, shapes: usize) -> Checked
     requires { ⌜ GoodCounts (Checked.Good statements shapes) (now input) ⌝ }
-    ensures outcome { λ r. ⌜ checkedOf r (now (input .entry)) ≡ checkRecords statements (recordsOf (now (input .entry))) ⌝ }
+    ensures outcome { λ r. ⌜ checkedOf r (now (input .entry))
+        ≡ checkRecords statements (recordsOf (now (input .entry))) ⌝ }
     ensures counts { λ r. ⌜ GoodCounts r (now (input .entry)) ⌝ }
 {
     let records = statements + shapes;
@@ -163,7 +131,7 @@ fn check_records(input: &[u8], statements: usize, shapes: usize) -> Checked
 fn within(low: usize, high: usize, n: usize) -> bool
     ensures { λ r. ⌜ r ≡ between low high n ⌝ }
 {
-    low <= n && n <= high
+    (low <= n) & (n <= high)
 }
 
 // The numbers of statements and of shapes, then the records.
@@ -173,14 +141,14 @@ fn check_counts(input: &[u8], records: usize) -> Checked
     ensures counts { λ r. ⌜ GoodCounts r (now (input .entry)) ⌝ }
 {
     let statements = count_statements(input, records);
-    if !within(1, 64, statements) {
+    if !within(1, model::MOST_STATEMENTS, statements) {
         return Checked::Bad {
             number: 2,
             place: 0,
         };
     }
     let shapes = records - statements;
-    if !within(1, 16, shapes) {
+    if !within(1, model::MOST_SHAPES, shapes) {
         return Checked::Bad {
             number: 3,
             place: 0,
@@ -208,13 +176,7 @@ pub fn check(input: &[u8]) -> Checked
     ensures counts { λ r. ⌜ GoodCounts r (now (input .entry)) ⌝ }
 {
     let length = input.len();
-    if length == 0 {
-        return Checked::Bad {
-            number: 1,
-            place: 0,
-        };
-    }
-    if length % 32 != 0 {
+    if (length == 0) | (length % 32 != 0) {
         return Checked::Bad {
             number: 1,
             place: 0,

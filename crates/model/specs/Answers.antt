@@ -1,4 +1,5 @@
--- What each case of an answer says, in 01's numbers. The contracts go by these: no two answers say the same. Assumes nothing.
+-- What each case of an answer says, in 01's numbers. The contracts go by these: no two answers say the same. Assumes
+-- nothing.
 use Prim.Native.Nat.{ℕ}
 use mathlib.Core.List.{List, [], _∷_}
 use Rattle.model.specs.Records.{Refusal, refusal, Verdict, isAccepted, isRefused}
@@ -21,7 +22,15 @@ abbrev pub outcomeOf : Translated → List ℕ → List ℕ → Outcome
 outcomeOf (translated.Listed l e) ls es =
     record { verdict = isAccepted; tables = record { locBytes = ls; edgeBytes = es; locCount = l; edgeCount = e } }
 outcomeOf (translated.Refused n p) ls es =
-    record { verdict = isRefused (refusal n p); tables = record { locBytes = ls; edgeBytes = es; locCount = 0; edgeCount = 0 } }
+    record {
+      verdict = isRefused (refusal n p);
+      tables = record {
+        locBytes = ls;
+        edgeBytes = es;
+        locCount = 0;
+        edgeCount = 0;
+      };
+    }
 
 abbrev pub foldingOf : Folded → Folding
 foldingOf f = record { verdict = verdictOf (f .ended); recordBytes = f .shape; counts = f .counters }

@@ -1,8 +1,35 @@
--- Small functions on numbers and lists, used by all that follows. Assumes nothing.
+-- The sizes that 01 names, and small functions on numbers and lists, used by all that follows. Assumes nothing.
 use Prim.Native.Nat.{ℕ, zero, suc, _+_}
 use mathlib.Core.Bool.{Bool, true, false, _&&_, _||_, cond}
 use mathlib.Core.List.{List, [], _∷_, _++_}
 use lib.Dec.{eqb}
+
+-- "Six pointers"; "A shape has 0 to 12 nodes"
+abbrev pub pointerCount : ℕ
+pointerCount = 6
+
+abbrev pub mostNodes : ℕ
+mostNodes = 12
+
+-- "All are 32 bytes"; "1 to 64 S, then 1 to 16 H"
+abbrev pub recordSize : ℕ
+recordSize = 32
+
+abbrev pub mostStatements : ℕ
+mostStatements = 64
+
+abbrev pub mostShapes : ℕ
+mostShapes = 16
+
+-- "at most 1,024 locations and 2,048 edges"; "0 to 240 cell bytes"
+abbrev pub mostLocations : ℕ
+mostLocations = 1024
+
+abbrev pub mostEdges : ℕ
+mostEdges = 2048
+
+abbrev pub mostCells : ℕ
+mostCells = 240
 
 abbrev pub any : {A : Type 0} → (A → Bool) → List A → Bool
 any p [] = false

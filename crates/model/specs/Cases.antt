@@ -1,12 +1,11 @@
--- 01, "Shelf cases": the cases marked P, as one table that antt computes through the whole translator. Assumes nothing.
+-- 01, "Shelf cases": the cases marked P, as one table of inputs and outputs. Assumes nothing.
 use Prim.Native.Nat.{ℕ, zero, suc, _+_, _*_, _/_, _%_, _^_}
-use mathlib.Core.Path.{_≡_, refl}
 use mathlib.Core.Bool.{Bool, true, false, _&&_}
 use mathlib.Core.List.{List, [], _∷_, _++_, map}
 use lib.Dec.{eqb}
-use Rattle.model.specs.Base.{all, sameList, numbers, joined}
+use Rattle.model.specs.Base.{sameList, numbers, joined}
 use Rattle.model.specs.Records.{Verdict, isAccepted, isRefused, recordAt}
-use Rattle.model.specs.Translate.{Tables, check, listing, translate}
+use Rattle.model.specs.Translate.{Tables, translate}
 
 -- the n bytes of a number, high byte first
 abbrev bytesOf : ℕ → ℕ → List ℕ
@@ -19,23 +18,24 @@ line x z = bytesOf 32 (x * 16 ^ z)
 
 -- the records in use, each L and then each E, as the program `translate` prints them
 abbrev printed : Tables → List (List ℕ)
-printed t = map (recordAt (t .locBytes)) (numbers 0 (t .locCount)) ++ map (recordAt (t .edgeBytes)) (numbers 0 (t .edgeCount))
+printed t = map (recordAt (t .locBytes)) (numbers 0 (t .locCount))
+    ++ map (recordAt (t .edgeBytes)) (numbers 0 (t .edgeCount))
 
-record Case : Type 0 where
-  input : List (List ℕ)
-  output : List (List ℕ)
+pub record Case : Type 0 where
+  pub input : List (List ℕ)
+  pub output : List (List ℕ)
 
 abbrev isListed : Verdict → Bool
 isListed isAccepted = true
 isListed (isRefused x) = false
 
 -- accepted with tables of 32 places, which then hold the output
-abbrev holdsFor : Case → Bool
+abbrev pub holdsFor : Case → Bool
 holdsFor c =
     let o = translate (joined (c .input)) 1024 1024 in
     isListed (o .verdict) && sameList (sameList eqb) (printed (o .tables)) (c .output)
 
-abbrev cases : List Case
+abbrev pub cases : List Case
 cases =
     -- P1: statement 0 frees pointer 0; pointer 0 at node 0
     record {
@@ -146,7 +146,3 @@ cases =
           ∷ [];
     }
     ∷ []
-
-pub shelf : all holdsFor cases ≡ true
-unfolding check listing translate
-shelf = refl

@@ -7,7 +7,7 @@ use lib.ListN.{length, getD}
 use Rattle.model.specs.Base.{any, count, numbers, joined}
 use Rattle.model.specs.Heap.{Val, cell, null, undef, holds, Heap, ptr, next, sameHeap}
 use Rattle.model.specs.Shape.{Seg, cells, segments, foldBy}
-use Rattle.model.specs.Machine.{Op, stop, setNull, copy, load, clear, store, new, free, isNull, same, choose, skip, Stmt, Fault, faultNumber, putSlot, Kind, stops, picks, allocates, other, kind, entry, Answer, refused, stopped, faulted, went, step}
+use Rattle.model.specs.Machine.{Op, stop, Stmt, Action, stay, point, follow, link, make, release, action, Kind, halts, acts, ifNull, ifSame, picks, kind, Fault, faultNumber, putSlot, entry, Answer, refused, stopped, faulted, went, step}
 
 -- "A location is a statement with a shape, or a statement with a fault."
 pub data Loc : Type 0 where
@@ -20,13 +20,23 @@ sameLoc (at s h) (failed t f) = false
 sameLoc (failed s f) (at t g) = false
 sameLoc (failed s f) (failed t g) = eqb s t && eqb (faultNumber f) (faultNumber g)
 
--- a guard on a node's counter: none, = 1, ≥ 2
-pub data Guard : Type 0 where
-  always : Guard
-  isOne : ℕ → Guard
-  isMore : ℕ → Guard
+-- a guard on a node's counter: = 1, or ≥ 2
+pub data Test : Type 0 where
+  isOne : Test
+  isMore : Test
 
--- How many cells of a heap a cell of the shape stands for: as many as the counter of node n says, one, or one less than that counter.
+pub record Guard : Type 0 where
+  pub node : ℕ
+  pub test : Test
+
+abbrev pub oneAt : ℕ → Guard
+oneAt n = record { node = n; test = isOne }
+
+abbrev pub moreAt : ℕ → Guard
+moreAt n = record { node = n; test = isMore }
+
+-- How many cells of a heap a cell of the shape stands for: as many as the counter of node n says, one, or one less
+-- than that counter.
 pub data Weight : Type 0 where
   counter : ℕ → Weight
   one : Weight
@@ -52,25 +62,25 @@ pub record Update : Type 0 where
   pub adds : List Bool
   pub plus : ℕ
 
--- The update that adds up what the cells of a segment stand for, over k old nodes. At most one cell of the heap is one less than a
--- counter, since one node is split, so nothing is cut off where subtraction stops at 0.
+-- The update that adds up what the cells of a segment stand for, over k old nodes. At most one cell of the heap is one
+-- less than a counter, since one node is split, so nothing is cut off where subtraction stops at 0.
 abbrev pub updateOf : ℕ → (ℕ → Weight) → Seg → Update
 updateOf k w s = record {
   adds = map (λ i. any (λ c. addsCounter i (w c)) (cells s)) (numbers 0 k);
   plus = (1 + count (λ c. isOneCell (w c)) (cells s)) - count (λ c. isLess (w c)) (cells s);
 }
 
--- A way to leave a location: the guard, the pick, the heap that the statement is run on, and what its cells stand for.
+-- A way to leave a location: the guards, the pick, the heap that the statement is run on, and what its cells stand for.
 pub record Way : Type 0 where
-  pub guard : Guard
+  pub guards : List Guard
   pub pick : ℕ
   pub heap : Heap
   pub weight : ℕ → Weight
 
 -- nothing split; a new cell, numbered past the nodes, stands for one
-abbrev pub whole : Guard → ℕ → Heap → Way
-whole g p h = record {
-  guard = g;
+abbrev pub whole : List Guard → ℕ → Heap → Way
+whole gs p h = record {
+  guards = gs;
   pick = p;
   heap = h;
   weight = λ c. cond (eqb c (length (h .slots))) one (counter c);
@@ -80,47 +90,51 @@ whole g p h = record {
 abbrev pub splitHeap : ℕ → ℕ → Heap → Heap
 splitHeap n k h = putSlot n (holds (cell k)) (putSlot k (next h n) h)
 
-abbrev pub split : ℕ → Heap → Way
-split n h = record {
-  guard = isMore n;
+abbrev pub split : List Guard → ℕ → Heap → Way
+split gs n h = record {
+  guards = gs;
   pick = 0;
   heap = splitHeap n (length (h .slots)) h;
   weight = λ c. cond (eqb c n) one (cond (eqb c (length (h .slots))) (less n) (counter c));
 }
 
--- the value through which ops 3, 4, 5 and 7 read, write or free; null for the others
-abbrev pub access : Op → Heap → Val
-access stop h = null
-access (setNull u) h = null
-access (copy u w) h = null
-access (load u w) h = ptr h w
-access (clear u) h = ptr h u
-access (store u w) h = ptr h u
-access (new u) h = null
-access (free u) h = ptr h u
-access (isNull u) h = null
-access (same u w) h = null
-access choose h = null
-access skip h = null
+-- what a statement looks at: no node, or one that it reads, writes or frees through
+pub data View : Type 0 where
+  noNode : View
+  oneNode : ℕ → View
+
+abbrev pub viewVal : Val → View
+viewVal (cell n) = oneNode n
+viewVal null = noNode
+viewVal undef = noNode
+
+abbrev pub view : Action → Heap → View
+view stay h = noNode
+view (point u s) h = noNode
+view (follow u w) h = viewVal (ptr h w)
+view (link u s) h = viewVal (ptr h u)
+view (make u) h = noNode
+view (release u) h = viewVal (ptr h u)
 
 abbrev pub picksOf : Kind → List ℕ
-picksOf stops = 0 ∷ []
+picksOf halts = 0 ∷ []
+picksOf (acts a) = 0 ∷ []
+picksOf (ifNull u) = 0 ∷ []
+picksOf (ifSame u w) = 0 ∷ []
 picksOf picks = 0 ∷ 1 ∷ []
-picksOf allocates = 0 ∷ []
-picksOf other = 0 ∷ []
 
--- "Ops 3, 4, 5 and 7 on a pointer to a node give two edges: counter = 1, with nothing split, then counter ≥ 2, with the head split off"
-abbrev pub waysAt : Val → Op → Heap → List Way
-waysAt (cell n) op h = whole (isOne n) 0 h ∷ split n h ∷ []
-waysAt null op h = map (λ p. whole always p h) (picksOf (kind op))
-waysAt undef op h = map (λ p. whole always p h) (picksOf (kind op))
+-- "Ops 3, 4, 5 and 7 on a pointer to a node give two edges: counter = 1, with nothing split, then counter ≥ 2, with
+-- the head split off .. Every other statement gives one unguarded edge, except choose"
+abbrev pub waysOf : Kind → View → Heap → List Way
+waysOf k noNode h = map (λ p. whole [] p h) (picksOf k)
+waysOf k (oneNode n) h = whole (oneAt n ∷ []) 0 h ∷ split (moreAt n ∷ []) n h ∷ []
 
 abbrev pub ways : Op → Heap → List Way
-ways op h = waysAt (access op h) op h
+ways op h = waysOf (kind op) (view (action op) h) h
 
 pub record Edge : Type 0 where
   pub branchNo : ℕ
-  pub guard : Guard
+  pub guards : List Guard
   pub to : Loc
   pub updates : List Update
 
@@ -128,12 +142,12 @@ pub record Edge : Type 0 where
 abbrev pub edgeBy : ℕ → ℕ → Way → Answer → List Edge
 edgeBy s k y refused = []
 edgeBy s k y stopped = []
-edgeBy s k y (faulted f) = record { branchNo = 0; guard = y .guard; to = failed s f; updates = [] } ∷ []
+edgeBy s k y (faulted f) = record { branchNo = 0; guards = y .guards; to = failed s f; updates = [] } ∷ []
 edgeBy s k y (went b t h) =
     let ss = segments h in
     record {
       branchNo = b;
-      guard = y .guard;
+      guards = y .guards;
       to = at t (foldBy ss h);
       updates = map (updateOf k (y .weight)) ss;
     }

@@ -68,8 +68,8 @@ slotNamed nx (holds v) = named nx v
 abbrev pub closed : Heap → Bool
 closed h = all (named (next h)) (h .ptrs) && all (slotNamed (next h)) (h .slots)
 
--- The visit. A walk follows nexts from a value and adds each cell to those seen, until null, undefined or a cell seen before.
--- The fuel f bounds its steps; the number of slots is enough.
+-- The visit. A walk follows nexts from a value and adds each cell to those seen, until null, undefined or a cell seen
+-- before. The fuel f bounds its steps; the number of slots is enough.
 abbrev pub walk : (ℕ → Slot) → ℕ → List ℕ → Val → List ℕ
 walk nx zero seen v = seen
 walk nx (suc f) seen null = seen
@@ -85,7 +85,8 @@ abbrev pub tour : (ℕ → Slot) → ℕ → List ℕ → List Val → List ℕ
 tour nx f seen [] = seen
 tour nx f seen (v ∷ vs) = tour nx f (walk nx f seen v) vs
 
--- the cells in order of first visit: "from pointer 0 along successors until the walk ends or repeats, then pointer 1, and so on"
+-- the cells in order of first visit: "from pointer 0 along successors until the walk ends or repeats, then pointer 1,
+-- and so on"
 abbrev pub order : Heap → List ℕ
 order h = tour (next h) (length (h .slots)) [] (h .ptrs)
 

@@ -1,13 +1,14 @@
--- 01, "Records", heap images: folding, unfolding and the plain step on bytes, each with its whole outcome. Assumes nothing.
+-- 01, "Records", heap images: folding, unfolding and the plain step on bytes, each with its whole outcome. Assumes
+-- nothing.
 use Prim.Native.Nat.{ℕ, zero, suc, _-_, _+_}
 use mathlib.Core.Bool.{Bool, false, _&&_, cond, not}
 use mathlib.Core.List.{List, [], _∷_, _++_, map}
 use lib.Dec.{eqb, leb}
 use lib.ListN.{length, take, drop, replicate}
-use Rattle.model.specs.Base.{all, sum}
+use Rattle.model.specs.Base.{all, sum, mostCells, mostNodes, mostStatements, pointerCount, recordSize}
 use Rattle.model.specs.Heap.{Val, cell, null, undef, Slot, unused, holds, Heap, closed, kept}
 use Rattle.model.specs.Shape.{shape, counters, canonical}
-use Rattle.model.specs.Machine.{faultNumber, Kind, stops, picks, allocates, other, kind, Entry, entry, accepts, Answer, refused, stopped, faulted, went, step}
+use Rattle.model.specs.Machine.{Op, faultNumber, Action, stay, point, follow, link, make, release, action, Entry, entry, accepts, Answer, refused, stopped, faulted, went, step}
 use Rattle.model.specs.Records.{valByte, valOf, slotByte, byte, isZero, isS, filled, shapeRecord, layoutH, shapeOf, stmtOf, Refusal, refusal, Verdict, isAccepted, isRefused, Row, unless, firstFailed, checksS}
 
 -- "six pointer bytes and 0 to 240 cell bytes: a cell number, 0xfe, 0xff, or for a cell 0xfd (not in use)"
@@ -18,7 +19,7 @@ abbrev pub heapOf : List ℕ → List ℕ → Heap
 heapOf ps cs = record { ptrs = map valOf ps; slots = map cellSlot cs }
 
 abbrev pub lengths : List ℕ → List ℕ → Bool
-lengths ps cs = eqb (length ps) 6 && leb (length cs) 240
+lengths ps cs = eqb (length ps) pointerCount && leb (length cs) mostCells
 
 -- "13: pointers not six bytes, over 240 cells, or a value naming no cell in use", "14: a used cell unreachable"
 abbrev pub checksImage : List ℕ → List ℕ → List Row
@@ -45,8 +46,16 @@ pub record Folding : Type 0 where
 unfoldable pub foldImage : List ℕ → List ℕ → Folding
 foldImage ps cs =
     elim (refusalImage ps cs) [
-      | zero ↦ let h = heapOf ps cs in record { verdict = isAccepted; recordBytes = shapeRecord (shape h); counts = filled 12 (counters h) }
-      | suc n ↦ record { verdict = verdictBy (suc n); recordBytes = replicate 32 0; counts = replicate 12 0 }
+      | zero ↦ let h = heapOf ps cs in record {
+        verdict = isAccepted;
+        recordBytes = shapeRecord (shape h);
+        counts = filled mostNodes (counters h);
+      }
+      | suc n ↦ record {
+        verdict = verdictBy (suc n);
+        recordBytes = replicate recordSize 0;
+        counts = replicate mostNodes 0;
+      }
     ]
 
 -- ---- unfolding: "numbers cells from 0, node by node, head to tail"
@@ -86,13 +95,14 @@ countsFit k vs n = all (leb 1) (take k vs) && all isZero (drop k vs) && leb (sum
 
 -- there are twelve counters
 abbrev pub countersFit : ℕ → List ℕ → ℕ → Bool
-countersFit k vs n = eqb (length vs) 12 && countsFit k vs n
+countersFit k vs n = eqb (length vs) mostNodes && countsFit k vs n
 
--- "Unfolding checks the lengths (13), then 8, 9, 15"; r a record, vs the counters, np and nc the lengths of pointers and cells
+-- "Unfolding checks the lengths (13), then 8, 9, 15"; r a record, vs the counters, np and nc the lengths of pointers
+-- and cells
 abbrev pub checksUnfold : List ℕ → List ℕ → ℕ → ℕ → List Row
 checksUnfold r vs np nc =
-    unless 13 (eqb np 6 && leb nc 240)
-    ∷ unless 8 (eqb (length r) 32 && layoutH r)
+    unless 13 (eqb np pointerCount && leb nc mostCells)
+    ∷ unless 8 (eqb (length r) recordSize && layoutH r)
     ∷ unless 9 (canonical (shapeOf r))
     ∷ unless 15 (countersFit (byte r 3) vs nc)
     ∷ []
@@ -105,7 +115,8 @@ pub record Unfolding : Type 0 where
   pub ptrBytes : List ℕ
   pub cellBytes : List ℕ
 
--- the heap's bytes, "and marks the rest 0xfd" up to n cells; they fit, so nothing is cut off where subtraction stops at 0
+-- the heap's bytes, "and marks the rest 0xfd" up to n cells; they fit, so nothing is cut off where subtraction stops
+-- at 0
 abbrev pub cellBytesOf : ℕ → Heap → List ℕ
 cellBytesOf n h = let ss = map slotByte (h .slots) in ss ++ replicate (n - length ss) 0xfd
 
@@ -143,11 +154,13 @@ stepVerdict toStop = isAccepted
 stepVerdict (noStep x) = isRefused x
 
 -- at new, the cell c is past the end of n cells
-abbrev pub pastEnd : Kind → ℕ → ℕ → Bool
-pastEnd stops c n = false
-pastEnd picks c n = false
-pastEnd allocates c n = leb n c
-pastEnd other c n = false
+abbrev pub pastEnd : Action → ℕ → ℕ → Bool
+pastEnd stay c n = false
+pastEnd (point u s) c n = false
+pastEnd (follow u w) c n = false
+pastEnd (link u s) c n = false
+pastEnd (make u) c n = leb n c
+pastEnd (release u) c n = false
 
 abbrev pub answered : Answer → List ℕ → List ℕ → Stepping
 answered refused ps cs = stays (noStep (refusal 16 0)) ps cs
@@ -160,16 +173,16 @@ answered (went b t h) ps cs = record {
 }
 
 -- "16: pick above 1 at choose; at new, a cell in use or past the end"
-abbrev pub entryFits : Kind → Entry → Heap → Bool
-entryFits k e h = not (pastEnd k (e .cellNo) (length (h .slots))) && accepts k e h
+abbrev pub entryFits : Op → Entry → Heap → Bool
+entryFits op e h = not (pastEnd (action op) (e .cellNo) (length (h .slots))) && accepts op e h
 
 -- "a plain step 13, 14, 4 (its record is no S), 5, 6, 7": "Its targets need only be below 64."
 abbrev pub checksStatement : List ℕ → List ℕ → List ℕ → List Row
-checksStatement r ps cs = checksImage ps cs ++ unless 4 (eqb (length r) 32 && isS r) ∷ checksS 64 r
+checksStatement r ps cs = checksImage ps cs ++ unless 4 (eqb (length r) recordSize && isS r) ∷ checksS mostStatements r
 
 -- and then 16
 abbrev pub checksStep : List ℕ → Entry → List ℕ → List ℕ → List Row
-checksStep r e ps cs = checksStatement r ps cs ++ unless 16 (entryFits (kind (stmtOf r .op)) e (heapOf ps cs)) ∷ []
+checksStep r e ps cs = checksStatement r ps cs ++ unless 16 (entryFits (stmtOf r .op) e (heapOf ps cs)) ∷ []
 
 -- statement record r, pick p, cell c, pointers ps, cells cs
 unfoldable pub stepImage : List ℕ → ℕ → ℕ → List ℕ → List ℕ → Stepping

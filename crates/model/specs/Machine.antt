@@ -1,6 +1,6 @@
 -- 01, "The plain machine": the statements, their effects, and one step. Assumes nothing.
 use Prim.Native.Nat.{ℕ, zero, suc}
-use mathlib.Core.Bool.{Bool, true, false, cond, not}
+use mathlib.Core.Bool.{Bool, true, false, _&&_, cond, not}
 use mathlib.Core.List.{List, [], _∷_, map}
 use lib.Dec.{eqb, leb}
 use lib.ListN.{set}
@@ -25,6 +25,53 @@ pub record Stmt : Type 0 where
   pub op : Op
   pub firstTarget : ℕ
   pub secondTarget : ℕ
+
+-- What the ops do, in a few kinds: effects and branches, and the laws about them, go by these.
+
+-- where a value comes from: null, or what a pointer holds
+pub data Source : Type 0 where
+  nil : Source
+  from : ℕ → Source
+
+pub data Action : Type 0 where
+  stay : Action  -- the heap stays
+  point : ℕ → Source → Action  -- pointer u becomes the value
+  follow : ℕ → ℕ → Action  -- pointer u becomes the next of the cell that w holds
+  link : ℕ → Source → Action  -- the next of the cell that u holds becomes the value
+  make : ℕ → Action  -- pointer u becomes a new cell
+  release : ℕ → Action  -- the cell that u holds goes
+
+-- An op halts, or acts and goes to the first target, or tests, or chooses.
+pub data Kind : Type 0 where
+  halts : Kind
+  acts : Action → Kind
+  ifNull : ℕ → Kind
+  ifSame : ℕ → ℕ → Kind
+  picks : Kind
+
+abbrev pub kind : Op → Kind
+kind stop = halts
+kind (setNull u) = acts (point u nil)
+kind (copy u w) = acts (point u (from w))
+kind (load u w) = acts (follow u w)
+kind (clear u) = acts (link u nil)
+kind (store u w) = acts (link u (from w))
+kind (new u) = acts (make u)
+kind (free u) = acts (release u)
+kind (isNull u) = ifNull u
+kind (same u w) = ifSame u w
+kind choose = picks
+kind skip = acts stay
+
+abbrev pub actionOf : Kind → Action
+actionOf halts = stay
+actionOf (acts a) = a
+actionOf (ifNull u) = stay
+actionOf (ifSame u w) = stay
+actionOf picks = stay
+
+abbrev pub action : Op → Action
+action op = actionOf (kind op)
 
 -- "Reading or writing through null is fault 1; through undefined, fault 2. .. fault 3 (a leak)"
 pub data Fault : Type 0 where
@@ -85,20 +132,22 @@ freeVal (cell c) h = done (freeCell c h)
 freeVal null h = done h
 freeVal undef h = fault atUndef
 
--- the finished effect; n is the cell for new
+abbrev pub valueOf : Source → Heap → Val
+valueOf nil h = null
+valueOf (from w) h = ptr h w
+
+-- n is the cell for new
+abbrev pub perform : Action → ℕ → Heap → Effect
+perform stay n h = done h
+perform (point u s) n h = done (setPtr u (valueOf s h) h)
+perform (follow u w) n h = through (ptr h w) (λ c. setPtr u (held (next h c)) h)
+perform (link u s) n h = through (ptr h u) (λ c. putSlot c (holds (valueOf s h)) h)
+perform (make u) n h = done (setPtr u (cell n) (putSlot n (holds undef) h))
+perform (release u) n h = freeVal (ptr h u) h
+
+-- the finished effect
 abbrev pub effect : Op → ℕ → Heap → Effect
-effect stop n h = done h
-effect (setNull u) n h = done (setPtr u null h)
-effect (copy u w) n h = done (setPtr u (ptr h w) h)
-effect (load u w) n h = through (ptr h w) (λ c. setPtr u (held (next h c)) h)
-effect (clear u) n h = through (ptr h u) (λ c. putSlot c (holds null) h)
-effect (store u w) n h = through (ptr h u) (λ c. putSlot c (holds (ptr h w)) h)
-effect (new u) n h = done (setPtr u (cell n) (putSlot n (holds undef) h))
-effect (free u) n h = freeVal (ptr h u) h
-effect (isNull u) n h = done h
-effect (same u w) n h = done h
-effect choose n h = done h
-effect skip n h = done h
+effect op n h = perform (action op) n h
 
 -- "Then, if the finished effect leaves a cell unreachable, the step is fault 3 (a leak)."
 abbrev pub keep : Effect → Effect
@@ -115,44 +164,19 @@ abbrev pub test : Bool → ℕ
 test true = 0
 test false = 1
 
+abbrev pub branchBy : Kind → ℕ → Heap → ℕ
+branchBy halts p h = 0
+branchBy (acts x) p h = 0
+branchBy (ifNull u) p h = test (sameVal (ptr h u) null)
+branchBy (ifSame u w) p h = test (sameVal (ptr h u) (ptr h w))
+branchBy picks p h = p
+
 abbrev pub branch : Op → ℕ → Heap → ℕ
-branch stop p h = 0
-branch (setNull u) p h = 0
-branch (copy u w) p h = 0
-branch (load u w) p h = 0
-branch (clear u) p h = 0
-branch (store u w) p h = 0
-branch (new u) p h = 0
-branch (free u) p h = 0
-branch (isNull u) p h = test (sameVal (ptr h u) null)
-branch (same u w) p h = test (sameVal (ptr h u) (ptr h w))
-branch choose p h = p
-branch skip p h = 0
+branch op p h = branchBy (kind op) p h
 
 abbrev pub target : Stmt → ℕ → ℕ
 target st zero = st .firstTarget
 target st (suc b) = st .secondTarget
-
--- what an entry is looked at for
-pub data Kind : Type 0 where
-  stops : Kind
-  picks : Kind
-  allocates : Kind
-  other : Kind
-
-abbrev pub kind : Op → Kind
-kind stop = stops
-kind (setNull u) = other
-kind (copy u w) = other
-kind (load u w) = other
-kind (clear u) = other
-kind (store u w) = other
-kind (new u) = allocates
-kind (free u) = other
-kind (isNull u) = other
-kind (same u w) = other
-kind choose = picks
-kind skip = other
 
 -- an entry of the list that a routine is fed
 pub record Entry : Type 0 where
@@ -163,11 +187,23 @@ abbrev pub entry : ℕ → ℕ → Entry
 entry p c = record { pick = p; cellNo = c }
 
 -- "Refused are a pick above 1 at choose and a cell in use at new."
-abbrev pub accepts : Kind → Entry → Heap → Bool
-accepts stops e h = true
-accepts picks e h = leb (e .pick) 1
-accepts allocates e h = not (inUse (next h (e .cellNo)))
-accepts other e h = true
+abbrev pub acceptsPick : Kind → ℕ → Bool
+acceptsPick halts p = true
+acceptsPick (acts x) p = true
+acceptsPick (ifNull u) p = true
+acceptsPick (ifSame u w) p = true
+acceptsPick picks p = leb p 1
+
+abbrev pub acceptsCell : Action → Slot → Bool
+acceptsCell stay s = true
+acceptsCell (point u v) s = true
+acceptsCell (follow u w) s = true
+acceptsCell (link u v) s = true
+acceptsCell (make u) s = not (inUse s)
+acceptsCell (release u) s = true
+
+abbrev pub accepts : Op → Entry → Heap → Bool
+accepts op e h = acceptsPick (kind op) (e .pick) && acceptsCell (action op) (next h (e .cellNo))
 
 -- what a step answers; a fault has branch 0 and leaves heap and statement
 pub data Answer : Type 0 where
@@ -180,13 +216,16 @@ abbrev pub answerOf : Stmt → ℕ → Effect → Answer
 answerOf st b (fault f) = faulted f
 answerOf st b (done h) = went b (target st b) h
 
-abbrev pub unlessStop : Kind → Answer → Answer
-unlessStop stops a = stopped
-unlessStop picks a = a
-unlessStop allocates a = a
-unlessStop other a = a
+abbrev pub isStop : Kind → Bool
+isStop halts = true
+isStop (acts x) = false
+isStop (ifNull u) = false
+isStop (ifSame u w) = false
+isStop picks = false
 
 abbrev pub step : Stmt → Entry → Heap → Answer
 step st e h =
-    let k = kind (st .op) in
-    cond (accepts k e h) (unlessStop k (answerOf st (branch (st .op) (e .pick) h) (carryOut (st .op) (e .cellNo) h))) refused
+    let op = st .op in
+    cond (accepts op e h)
+    (cond (isStop (kind op)) stopped (answerOf st (branch op (e .pick) h) (carryOut op (e .cellNo) h)))
+    refused

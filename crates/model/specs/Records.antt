@@ -1,15 +1,15 @@
--- 01, "Records": 32 bytes each. How locations and edges are written, and how statements, shapes, locations and edges are read.
--- Assumes nothing.
+-- 01, "Records": 32 bytes each. How locations and edges are written, and how statements, shapes, locations and edges
+-- are read. Assumes nothing.
 use Prim.Native.Nat.{ℕ, suc, _-_, _+_, _*_, _/_, _%_}
 use mathlib.Core.Bool.{Bool, true, false, _&&_, _||_, cond, not}
 use mathlib.Core.List.{List, [], _∷_, _++_, map}
 use lib.Dec.{eqb, leb, ltb}
 use lib.ListN.{length, getD, take, drop, replicate}
-use Rattle.model.specs.Base.{all, any, mem, joined, sameList}
+use Rattle.model.specs.Base.{all, any, mem, joined, sameList, mostNodes, pointerCount, recordSize}
 use Rattle.model.specs.Heap.{Val, cell, null, undef, Slot, unused, holds, Heap}
 use Rattle.model.specs.Shape.{canonical}
 use Rattle.model.specs.Machine.{Op, stop, setNull, copy, load, clear, store, new, free, isNull, same, choose, skip, Stmt, faultNumber}
-use Rattle.model.specs.Edges.{Loc, at, failed, Guard, always, isOne, isMore, Update, Edge}
+use Rattle.model.specs.Edges.{Loc, at, failed, Test, isOne, isMore, Guard, Update, Edge}
 
 -- ---- writing
 
@@ -42,10 +42,14 @@ locRecord (failed s f) = 0x4c ∷ s ∷ faultNumber f ∷ replicate 29 0
 abbrev pub twoBytes : ℕ → List ℕ
 twoBytes n = n % 256 ∷ n / 256 ∷ []
 
-abbrev pub guardBytes : Guard → List ℕ
-guardBytes always = 0 ∷ 0 ∷ []
-guardBytes (isOne n) = 1 ∷ n ∷ []
-guardBytes (isMore n) = 2 ∷ n ∷ []
+-- "6 guard (0 none, 1 for = 1, 2 for ≥ 2), 7 its node (0 if none)": a record holds one guard at most
+abbrev pub testNumber : Test → ℕ
+testNumber isOne = 1
+testNumber isMore = 2
+
+abbrev pub guardBytes : List Guard → List ℕ
+guardBytes [] = 0 ∷ 0 ∷ []
+guardBytes (g ∷ gs) = testNumber (g .test) ∷ g .node ∷ []
 
 -- the number whose bits, lowest first, are given
 abbrev pub bits : List Bool → ℕ
@@ -59,7 +63,8 @@ updateCode u = bits (u .adds) + 4096 * u .plus
 abbrev pub edgeRecord : ℕ → ℕ → Edge → List ℕ
 edgeRecord from to e =
     0x45 ∷ e .branchNo
-    ∷ (twoBytes from ++ twoBytes to ++ guardBytes (e .guard) ++ filled 24 (joined (map (λ u. twoBytes (updateCode u)) (e .updates))))
+    ∷ (twoBytes from ++ twoBytes to ++ guardBytes (e .guards)
+    ++ filled 24 (joined (map (λ u. twoBytes (updateCode u)) (e .updates))))
 
 -- ---- reading
 
@@ -71,7 +76,7 @@ word r i = byte r i + 256 * byte r (suc i)
 
 -- record n of a table
 abbrev pub recordAt : List ℕ → ℕ → List ℕ
-recordAt t n = take 32 (drop (32 * n) t)
+recordAt t n = take recordSize (drop (recordSize * n) t)
 
 abbrev pub isZero : ℕ → Bool
 isZero b = eqb b 0
@@ -83,9 +88,17 @@ abbrev pub isH : List ℕ → Bool
 isH r = eqb (byte r 0) 0x48
 
 -- S: 1 op, 2 u, 3 w, 4 first target, 5 second target
+abbrev pub opsBy : ℕ → ℕ → List Op
+opsBy u w =
+    stop ∷ setNull u ∷ copy u w ∷ load u w ∷ clear u ∷ store u w ∷ new u ∷ free u ∷ isNull u ∷ same u w ∷ choose
+    ∷ skip ∷ []
+
+-- how many ops there are
+abbrev pub opCount : ℕ
+opCount = 12
+
 abbrev pub opOf : ℕ → ℕ → ℕ → Op
-opOf op u w =
-    getD (stop ∷ setNull u ∷ copy u w ∷ load u w ∷ clear u ∷ store u w ∷ new u ∷ free u ∷ isNull u ∷ same u w ∷ choose ∷ skip ∷ []) op stop
+opOf op u w = getD (opsBy u w) op stop
 
 abbrev pub stmtOf : List ℕ → Stmt
 stmtOf r = record { op = opOf (byte r 1) (byte r 2) (byte r 3); firstTarget = byte r 4; secondTarget = byte r 5 }
@@ -96,7 +109,7 @@ valOf b = cond (eqb b 0xfe) null (cond (eqb b 0xff) undef (cell b))
 
 abbrev pub shapeOf : List ℕ → Heap
 shapeOf r = record {
-  ptrs = map valOf (take 6 (drop 4 r));
+  ptrs = map valOf (take pointerCount (drop 4 r));
   slots = map (λ b. holds (valOf b)) (take (byte r 3) (drop 10 r));
 }
 
@@ -145,7 +158,7 @@ usesSecond op = leb 8 op && leb op 10
 
 -- a used pointer is below 6, and "a field that the op doesn't use is zero"
 abbrev pub pointerField : Bool → ℕ → Bool
-pointerField used b = cond used (ltb b 6) (isZero b)
+pointerField used b = cond used (ltb b pointerCount) (isZero b)
 
 abbrev pub targetField : Bool → ℕ → Bool
 targetField used b = used || isZero b
@@ -169,7 +182,7 @@ targetsS n r =
 
 -- "5: op above 11", then 6 and 7; among n statements
 abbrev pub checksS : ℕ → List ℕ → List Row
-checksS n r = unless 5 (leb (byte r 1) 11) ∷ unless 6 (fieldsS r) ∷ unless 7 (targetsS n r) ∷ []
+checksS n r = unless 5 (ltb (byte r 1) opCount) ∷ unless 6 (fieldsS r) ∷ unless 7 (targetsS n r) ∷ []
 
 abbrev pub refusalS : ℕ → List ℕ → ℕ
 refusalS n r = firstFailed (checksS n r)
@@ -182,8 +195,8 @@ valueByte k b = ltb b k || eqb b 0xfe || eqb b 0xff
 abbrev pub layoutH : List ℕ → Bool
 layoutH r =
     let k = byte r 3 in
-    isH r && isZero (byte r 1) && isZero (byte r 2) && leb k 12
-    && all (valueByte k) (take (6 + k) (drop 4 r)) && all isZero (drop (10 + k) r)
+    isH r && isZero (byte r 1) && isZero (byte r 2) && leb k mostNodes
+    && all (valueByte k) (take (pointerCount + k) (drop 4 r)) && all isZero (drop (10 + k) r)
 
 -- "9: a node unreachable or not core, or another numbering", "10: equal to an earlier H"
 abbrev pub checksH : List (List ℕ) → List ℕ → List Row

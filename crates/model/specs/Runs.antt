@@ -1,5 +1,5 @@
--- 01, "Runs": the routine fed entries, the automaton fed edge numbers, the match between the two, and demand 3 as one type.
--- The automaton is read from the bytes of the two tables with the counts reported. Assumes nothing.
+-- 01, "Runs": the routine fed entries, the automaton fed edge numbers, the match between the two, and demand 3 as one
+-- type. The automaton is read from the bytes of the two tables with the counts reported. Assumes nothing.
 use Prim.Native.Nat.{ℕ, _-_, _+_, _*_, _/_, _%_, _<_}
 use mathlib.Core.Path.{_≡_}
 use mathlib.Core.Bool.{Bool, true, false, _&&_, cond, not}
@@ -7,10 +7,10 @@ use mathlib.Core.Option.{Option, none, some}
 use mathlib.Core.List.{List, [], _∷_, map}
 use lib.Dec.{eqb, leb, ltb}
 use lib.ListN.{length, getD, getElem?}
-use Rattle.model.specs.Base.{any, numbers}
+use Rattle.model.specs.Base.{any, all, numbers}
 use Rattle.model.specs.Heap.{Heap, IsHeap, next, inUse}
 use Rattle.model.specs.Shape.{shape, counters}
-use Rattle.model.specs.Machine.{Stmt, Fault, faultNumber, Kind, stops, picks, allocates, other, kind, Entry, Answer, refused, stopped, faulted, went, step}
+use Rattle.model.specs.Machine.{Stmt, Fault, faultNumber, isStop, kind, Entry, Answer, refused, stopped, faulted, went, step}
 use Rattle.model.specs.Edges.{stmtAt}
 use Rattle.model.specs.Records.{isAccepted, byte, word, recordAt, shapeOf}
 use Rattle.model.specs.Translate.{good, check, Routine, Tables, translate}
@@ -56,12 +56,6 @@ abbrev pub stepOf : List Stmt → State → Entry → Option (Advance State)
 stepOf sts q e = stepIn (q .status) sts q e
 
 -- "at a stop or past a fault"
-abbrev pub isStop : Kind → Bool
-isStop stops = true
-isStop picks = false
-isStop allocates = false
-isStop other = false
-
 abbrev pub endedIn : Status → Stmt → Bool
 endedIn running st = isStop (kind (st .op))
 endedIn (past f) st = true
@@ -80,14 +74,24 @@ abbrev pub added : ℕ → List ℕ → ℕ
 added m [] = 0
 added m (c ∷ cs) = m % 2 * c + added (m / 2) cs
 
--- "each new counter its constant plus the old counters that it adds"; the constant stands plus one in bits 12 and 13. Where it is −1 a
--- counter of 1 or more is added, so nothing is cut off where subtraction stops at 0.
+-- "each new counter its constant plus the old counters that it adds"; the constant stands plus one in bits 12 and 13.
+-- Where it is −1 a counter of 1 or more is added, so nothing is cut off where subtraction stops at 0.
 abbrev pub applied : List ℕ → ℕ → ℕ
 applied cs u = (added (u % 4096) cs + u / 4096 % 4) - 1
 
--- byte 6 of an edge: 0 none, 1 for = 1, 2 for ≥ 2
+-- the guards that an edge's record holds, in numbers: byte 6 is 0 for none, 1 for = 1, 2 for ≥ 2, and byte 7 its node
+pub record GuardRead : Type 0 where
+  pub test : ℕ
+  pub node : ℕ
+
+abbrev pub guardsOf : List ℕ → List GuardRead
+guardsOf r = record { test = byte r 6; node = byte r 7 } ∷ []
+
 abbrev pub guardHolds : ℕ → ℕ → Bool
 guardHolds g c = cond (eqb g 0) true (cond (eqb g 1) (eqb c 1) (eqb g 2 && leb 2 c))
+
+abbrev pub guardsHold : List ℕ → List GuardRead → Bool
+guardsHold cs = all (λ (g : GuardRead). guardHolds (g .test) (getD cs (g .node) 0))
 
 -- the node count of a location, and the updates of an edge for so many new nodes
 abbrev pub nodesAt : Tables → ℕ → ℕ
@@ -100,7 +104,8 @@ updatesOf k r = map (λ i. word r (8 + 2 * i)) (numbers 0 k)
 abbrev pub enabled : Tables → Config → ℕ → Bool
 enabled t c n =
     let r = recordAt (t .edgeBytes) n in
-    ltb n (t .edgeCount) && eqb (word r 2) (c .loc) && guardHolds (byte r 6) (getD (c .values) (byte r 7) 0)
+    ltb n (t .edgeCount) && eqb (word r 2) (c .loc)
+    && guardsHold (c .values) (guardsOf r)
 
 abbrev pub taken : Tables → Config → List ℕ → Advance Config
 taken t c r = record {
@@ -131,8 +136,9 @@ abbrev pub DescribesIn : Status → Heap → List ℕ → Heap → Type 0
 DescribesIn running sh cs h = Describes sh cs h
 DescribesIn (past f) sh cs h = Unit {0}
 
--- "The two match when the location's statement and fault are the routine's and, without a fault, its shape with the automaton's
--- counters describes the heap. .. No edge leaves the location exactly when the routine is at a stop or past a fault."
+-- "The two match when the location's statement and fault are the routine's and, without a fault, its shape with the
+-- automaton's counters describes the heap. .. No edge leaves the location exactly when the routine is at a stop or
+-- past a fault."
 pub record Match (sts : List Stmt) (t : Tables) (q : State) (c : Config) : Type 0 where
   pub isLocation : c .loc < t .locCount
   pub statementIs : byte (recordAt (t .locBytes) (c .loc)) 1 ≡ q .stmt
@@ -148,7 +154,8 @@ Paired sts t (x ∷ xs) [] = ⊥
 Paired sts t (x ∷ xs) (y ∷ ys) = (x .branchNo ≡ y .branchNo) × Match sts t (x .after) (y .after) × Paired sts t xs ys
 
 -- two whole lists: the steps and the edges pair off, and the two match where the lists end
-pub record Matched (sts : List Stmt) (t : Tables) (q : State) (c : Config) (xs : List (Advance State)) (ys : List (Advance Config)) : Type 0 where
+pub record Matched (sts : List Stmt) (t : Tables) (q : State) (c : Config) (xs : List (Advance State))
+    (ys : List (Advance Config)) : Type 0 where
   pub pairs : Paired sts t xs ys
   pub atEnd : Match sts t (final q xs) (final c ys)
 
@@ -157,7 +164,8 @@ abbrev pub Forced : Tables → Config → List ℕ → Type 0
 Forced t c [] = Unit {0}
 Forced t c (n ∷ ns) =
     (y : Advance Config) × (moveOf t c n ≡ some y)
-    × ((m : ℕ) (z : Advance Config) → moveOf t c m ≡ some z → z .branchNo ≡ y .branchNo → m ≡ n) × Forced t (y .after) ns
+    × ((m : ℕ) (z : Advance Config) → moveOf t c m ≡ some z → z .branchNo ≡ y .branchNo → m ≡ n)
+    × Forced t (y .after) ns
 
 -- the entries with the branches of the edges taken as picks, and given cells
 abbrev pub fed : List (Advance Config) → List ℕ → List Entry
@@ -172,7 +180,8 @@ afterEntry q (some x) = x .after
 
 abbrev pub AreUnused : List Stmt → State → List Entry → Type 0
 AreUnused sts q [] = Unit {0}
-AreUnused sts q (e ∷ es) = (inUse (next (q .heap) (e .cellNo)) ≡ false) × AreUnused sts (afterEntry q (stepOf sts q e)) es
+AreUnused sts q (e ∷ es) = (inUse (next (q .heap) (e .cellNo)) ≡ false)
+    × AreUnused sts (afterEntry q (stepOf sts q e)) es
 
 -- cells for the edges taken, each not in use when its turn comes
 pub record Supply (sts : List Stmt) (q : State) (ys : List (Advance Config)) (cs : List ℕ) : Type 0 where
@@ -183,14 +192,15 @@ pub record Supply (sts : List Stmt) (q : State) (ys : List (Advance Config)) (cs
 pub record Matching (sts : List Stmt) (t : Tables) (q : State) (c : Config) : Type 0 where
   pub start : Match sts t q c
   pub toAutomaton :
-      (es : List Entry) → (ns : List ℕ) × Forced t c ns × Matched sts t q c (trace (stepOf sts) q es) (trace (moveOf t) c ns)
+      (es : List Entry) → (ns : List ℕ) × Forced t c ns × Matched sts t q c (trace (stepOf sts) q es)
+      (trace (moveOf t) c ns)
   pub toRoutine :
       (ns cs : List ℕ) → Supply sts q (trace (moveOf t) c ns) cs
       → Matched sts t q c (trace (stepOf sts) q (fed (trace (moveOf t) c ns) cs)) (trace (moveOf t) c ns)
   pub supply : (ns : List ℕ) → (cs : List ℕ) × Supply sts q (trace (moveOf t) c ns) cs
 
--- The automaton in the tables is the routine: from statement 0 on any heap that a starting shape describes, and from that shape's
--- location with those counters, whole lists are matched.
+-- The automaton in the tables is the routine: from statement 0 on any heap that a starting shape describes, and from
+-- that shape's location with those counters, whole lists are matched.
 abbrev pub IsRoutine : Routine → Tables → Type 0
 IsRoutine r t =
     (i : ℕ) (sh h : Heap) (cs : List ℕ) → getElem? (r .starts) i ≡ some sh → Describes sh cs h

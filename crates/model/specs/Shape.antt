@@ -1,5 +1,5 @@
--- 01, "Shapes": core cells, segments, and the shape and counters of a heap. A shape is a heap whose cells are the nodes.
--- Assumes nothing.
+-- 01, "Shapes": core cells, segments, and the shape and counters of a heap. A shape is a heap whose cells are the
+-- nodes. Assumes nothing.
 use Prim.Native.Nat.{ℕ, suc}
 use mathlib.Core.Bool.{Bool, true, false, _&&_, _||_}
 use mathlib.Core.List.{List, [], _∷_, _++_, map}
@@ -83,7 +83,8 @@ size s = suc (length (s .rest))
 abbrev pub counters : Heap → List ℕ
 counters h = map size (segments h)
 
--- What a shape must be, in the order in which refusal 9 names it: every node reachable, every node core, and the walk's numbering.
+-- What a shape must be, in the order in which refusal 9 names it: every node reachable, every node core, and the
+-- walk's numbering.
 abbrev pub allCore : Heap → Bool
 allCore h = all (core h) (numbers 0 (length (h .slots)))
 

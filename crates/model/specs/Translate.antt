@@ -1,12 +1,12 @@
--- 01, "Records" and "Refusals by place of check": the whole translator, from the input's bytes and the lengths of the two tables to
--- the answer and every byte of both tables. Assumes nothing.
+-- 01, "Records" and "Refusals by place of check": the whole translator, from the input's bytes and the lengths of the
+-- two tables to the answer and every byte of both tables. Assumes nothing.
 use Prim.Native.Nat.{ℕ, zero, suc, _-_, _+_, _*_, _/_, _%_, min}
 use mathlib.Core.Bool.{Bool, true, false, _&&_, _||_, cond, not}
 use mathlib.Core.Option.{Option, none, some}
 use mathlib.Core.List.{List, [], _∷_, _++_, map}
 use lib.Dec.{eqb, leb, ltb}
 use lib.ListN.{length, take, drop, replicate, getElem?}
-use Rattle.model.specs.Base.{count, placeOf, joined}
+use Rattle.model.specs.Base.{count, placeOf, joined, mostEdges, mostLocations, mostShapes, mostStatements, recordSize}
 use Rattle.model.specs.Heap.{Heap}
 use Rattle.model.specs.Machine.{Stmt}
 use Rattle.model.specs.Edges.{Loc, at, Edge, sameLoc, edgesOf}
@@ -14,10 +14,10 @@ use Rattle.model.specs.Records.{Refusal, refusal, Verdict, isAccepted, i
 
 -- ---- the input
 
--- the records of n times 32 bytes
+-- n records of a text
 abbrev pub chunks : ℕ → List ℕ → List (List ℕ)
 chunks zero s = []
-chunks (suc n) s = take 32 s ∷ chunks n (drop 32 s)
+chunks (suc n) s = take recordSize s ∷ chunks n (drop recordSize s)
 
 -- 4: the first record, counted from i, that is neither S nor H, or is an S after an H
 abbrev pub badKind : Bool → ℕ → List (List ℕ) → Option ℕ
@@ -58,9 +58,13 @@ checkRecords n rs =
 
 abbrev pub checkCounts : List (List ℕ) → Checked
 checkCounts rs =
-    elim (between 1 64 (count isS rs)) [
+    elim (between 1 mostStatements (count isS rs)) [
       | false ↦ bad (refusal 2 0)
-      | true ↦ elim (between 1 16 (count isH rs)) [ false ↦ bad (refusal 3 0) | true ↦ checkRecords (count isS rs) rs ]
+      | true ↦ elim (between 1 mostShapes (count isH rs)) [
+        | false ↦ bad (refusal 3 0)
+        | true ↦ checkRecords
+            (count isS rs) rs
+      ]
     ]
 
 abbrev pub checkKinds : List (List ℕ) → Checked
@@ -69,9 +73,9 @@ checkKinds rs = elim (badKind false 0 rs) [ some i ↦ bad (refusal 4 i) | none 
 unfoldable pub check : List ℕ → Checked
 check s =
     let n = length s in
-    elim (eqb n 0 || not (eqb (n % 32) 0)) [
+    elim (eqb n 0 || not (eqb (n % recordSize) 0)) [
       | true ↦ bad (refusal 1 0)
-      | false ↦ checkKinds (chunks (n / 32) s)
+      | false ↦ checkKinds (chunks (n / recordSize) s)
     ]
 
 -- ---- the exploration
@@ -97,7 +101,8 @@ grown i j e t = record {
   links = t .links ++ record { from = i; dest = j; edge = e } ∷ [];
 }
 
--- The edges of location i are added in order. A known target has its number; a new one has the next, so that one test gives 11.
+-- The edges of location i are added in order. A known target has its number; a new one has the next, so that one test
+-- gives 11.
 abbrev pub addEdges : ℕ → ℕ → ℕ → List Edge → Listing → Explored
 addEdges cl ce i [] t = listed t
 addEdges cl ce i (e ∷ es) t =
@@ -146,10 +151,10 @@ pub record Outcome : Type 0 where
 abbrev pub linkRecord : Link → List ℕ
 linkRecord l = edgeRecord (l .from) (l .dest) (l .edge)
 
--- "Each record is written into its lent table from its own offset onward; bytes after the last are zero." The records fit into the n
--- bytes, so nothing is cut off where subtraction stops at 0.
+-- "Each record is written into its lent table from its own offset onward; bytes after the last are zero." The records
+-- fit into the n bytes, so nothing is cut off where subtraction stops at 0.
 abbrev pub tableOf : ℕ → List (List ℕ) → List ℕ
-tableOf n rs = joined rs ++ replicate (n - 32 * length rs) 0
+tableOf n rs = joined rs ++ replicate (n - recordSize * length rs) 0
 
 abbrev pub tablesOf : ℕ → ℕ → Listing → Tables
 tablesOf a b t = record {
@@ -168,14 +173,14 @@ listedWith a b t = record { verdict = isAccepted; tables = tablesOf a b t }
 
 -- "at most 1,024 locations and 2,048 edges, and no more than length ÷ 32 rounded down"
 abbrev pub places : ℕ → ℕ → ℕ
-places most n = min most (n / 32)
+places most n = min most (n / recordSize)
 
 -- the outcome for input s and lent tables of a and b bytes
 unfoldable pub translate : List ℕ → ℕ → ℕ → Outcome
 translate s a b =
     elim (check s) [
       | bad x ↦ refusedWith a b x
-      | good r ↦ elim (listing r (places 1024 a) (places 2048 b)) [
+      | good r ↦ elim (listing r (places mostLocations a) (places mostEdges b)) [
         | full x ↦ refusedWith a b x
         | listed t ↦ listedWith a b t
       ]

@@ -1,6 +1,25 @@
 // The types that the code shares, and the definitions that every contract cites (specs/).
 // Numbers of three kinds that must not be mixed up, each a type of its own.
 
+// The sizes that the request names.
+pub const POINTERS: usize = 6;
+
+pub const MOST_NODES: usize = 12;
+
+pub const RECORD: usize = 32;
+
+pub const MOST_STATEMENTS: usize = 64;
+
+pub const MOST_SHAPES: usize = 16;
+
+pub const MOST_LOCATIONS: usize = 1024;
+
+pub const MOST_EDGES: usize = 2048;
+
+pub const MOST_CELLS: usize = 240;
+
+pub const OPS: u8 = 12;
+
 // A pointer's number, 0 to 5.
 pub struct Pointer(pub u8);
 
@@ -35,4 +54,47 @@ pub enum Stepped {
     Faulted { fault: u8 },
     Stopped,
     Refused { number: u8, place: usize },
+}
+
+// A statement's record, decoded: the op, its pointers and its targets.
+pub struct Decoded {
+    pub op: u8,
+    pub u: Pointer,
+    pub w: Pointer,
+    pub first: Statement,
+    pub second: Statement,
+}
+
+// A guard on the counter of a node: 0 for none, 1 for = 1, 2 for at least 2.
+pub struct Guard {
+    pub test: u8,
+    pub node: Node,
+}
+
+// The guards of a way or an edge: as many as an E record holds.
+pub struct Guards {
+    pub first: Guard,
+}
+
+// What a way makes beside the target's record and the updates: the branch, the guards, and how many new nodes there
+// are.
+pub struct EdgeMade {
+    pub branch: u8,
+    pub guards: Guards,
+    pub nodes: usize,
+}
+
+// How many locations and edges a listing has.
+pub struct Counts {
+    pub locations: usize,
+    pub edges: usize,
+}
+
+// An edge's fields beside its updates: its branch, its ends, its guards, and how many new nodes there are.
+pub struct EdgeFields {
+    pub branch: u8,
+    pub from: usize,
+    pub to: usize,
+    pub guards: Guards,
+    pub nodes: usize,
 }

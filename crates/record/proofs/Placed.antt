@@ -7,13 +7,15 @@ use lib.ListN.{length, take, drop, replicate, length-append}
 use lib.Seq.{drop-append-add, take-at}
 use Rattle.model.specs.Base.{joined}
 use Rattle.model.specs.Translate.{tableOf}
-use Rattle.model.proofs.Bytes.{joined-length}
-use Rattle.model.proofs.Lists.{In, joined-snoc}
+use Rattle.model.proofs.records.Bytes.{joined-length}
+use Rattle.model.specs.Notions.{In}
+use Rattle.model.proofs.lists.Lists.{joined-snoc}
 use Rattle.record.specs.Written.{placed}
 use Rattle.record.proofs.ListLaws.{drop-zeros}
 
 -- The table of n bytes with records rs, with one more behind them.
-pub placed-next : (n : ℕ) (rs : List (List ℕ)) (r : List ℕ) → ((x : List ℕ) → In x rs → length x ≡ 32) → 32 * length rs + 32 ≤ n
+pub placed-next : (n : ℕ) (rs : List (List ℕ)) (r : List ℕ) → ((x : List ℕ) → In x rs → length x ≡ 32)
+    → 32 * length rs + 32 ≤ n
     → placed (tableOf n rs) (length rs) r ≡ tableOf n (rs ++ r ∷ [])
 placed-next n rs r w h =
     let l = joined-length rs w in

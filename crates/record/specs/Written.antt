@@ -1,10 +1,12 @@
 -- The bytes that are written for a fault, a location and an edge, and a table with a record put at its place.
 -- Assumes nothing.
-use Prim.Native.Nat.{ℕ, _+_, _*_}
-use mathlib.Core.List.{List, _∷_, _++_, map}
-use lib.ListN.{take, drop, replicate}
+use Prim.Native.Nat.{ℕ, _+_, _*_, _<_, _≤_}
+use mathlib.Core.List.{List, [], _∷_, _++_, map}
+use lib.ListN.{length, take, drop, replicate}
 use Rattle.model.specs.Base.{joined}
 use Rattle.model.specs.Records.{filled, twoBytes}
+use Rattle.model.specs.Structs.{guardsBytes}
+use Rattle.model.specs.declared.EdgeFields.{EdgeFields}
 
 abbrev pub faultBytes : ℕ → ℕ → List ℕ
 faultBytes s f = 0x4c ∷ s ∷ f ∷ replicate 29 0
@@ -17,9 +19,15 @@ locationBytes s f r = 0x4c ∷ s ∷ f ∷ drop 3 r
 abbrev pub updateBytes : List ℕ → ℕ → List ℕ
 updateBytes us k = joined (map twoBytes (take k us))
 
-abbrev pub edgeBytes : ℕ → ℕ → ℕ → ℕ → ℕ → List ℕ → ℕ → List ℕ
-edgeBytes branch from to guard node us k =
-    0x45 ∷ branch ∷ (twoBytes «from» ++ (twoBytes to ++ (guard ∷ node ∷ filled 24 (updateBytes us k))))
+-- an E record: its fields e and its updates us
+abbrev pub edgeBytes : EdgeFields → List ℕ → List ℕ
+edgeBytes e us =
+    let updates = filled 24 (updateBytes us (e .nodes)) in
+    0x45 ∷ e .branch ∷ (twoBytes (e .from) ++ (twoBytes (e .to) ++ (guardsBytes (e .guards) ++ updates)))
+
+-- the fields fit an E record, and there is an update for each new node
+abbrev pub EdgeFits : EdgeFields → List ℕ → Type 0
+EdgeFits e us = (e .from < 65536) × (e .to < 65536) × (e .nodes ≤ 12) × (e .nodes ≤ length us)
 
 -- the table t with the record r at place n
 abbrev pub placed : List ℕ → ℕ → List ℕ → List ℕ

@@ -1,79 +1,18 @@
-// Records of 32 bytes: S and H records are checked, L, H and E records written into a lent table.
-pub mod fields;
-
-use fields::all_values;
-use fields::all_zero;
-use fields::fields_ok;
-use fields::head_ok;
-use fields::targets_ok;
-use model::Node;
+// L, H and E records of 32 bytes: each writer is lent the part of a table that starts at its record.
+use model::EdgeFields;
 use model::Statement;
 ghost use mathlib.Core.Path.{_≡_};
 ghost use mathlib.Core.List.{_∷_, _++_};
-ghost use Prim.Native.Nat.{_+_, _*_, _≤_, _<_};
-ghost use lib.Dec.{eqb};
+ghost use Prim.Native.Nat.{_+_, _*_, _≤_};
 ghost use lib.ListN.{length, take, drop, replicate};
-ghost use Rattle.model.specs.Base.{sameList};
-ghost use Rattle.model.specs.Records.{refusalS, layoutH};
-ghost use Rattle.record.specs.Written.{faultBytes, locationBytes, edgeBytes, updateBytes, placed};
-
-// The refusal of an S record among n statements, 0 for none.
-pub fn statement_refusal(rec: &[u8], n: usize) -> u8
-    requires { ⌜ length (now rec) ≡ 32 ⌝ }
-    ensures { λ r. ⌜ r ≡ refusalS n (now (rec .entry)) ⌝ }
-{
-    if 11 < rec[1] {
-        return 5;
-    }
-    if !fields_ok(rec) {
-        return 6;
-    }
-    if !targets_ok(n, rec) {
-        return 7;
-    }
-    0
-}
-
-// Whether an H record keeps the layout.
-pub fn layout_ok(rec: &[u8]) -> bool
-    requires { ⌜ length (now rec) ≡ 32 ⌝ }
-    ensures { λ r. ⌜ r ≡ layoutH (now (rec .entry)) ⌝ }
-{
-    let k = rec[3];
-    if !head_ok(rec[0], rec[1], rec[2], k) {
-        return false;
-    }
-    let end = 10 + k as usize;
-    all_values(&rec[4..end], k) && all_zero(&rec[end..])
-}
-
-// Whether two records are equal.
-pub fn same_record(a: &[u8], b: &[u8]) -> bool
-    requires { ⌜ (length (now a) ≡ 32) × (length (now b) ≡ 32) ⌝ }
-    ensures { λ r. ⌜ r ≡ sameList eqb (now (a .entry)) (now (b .entry)) ⌝ }
-{
-    let mut i = 0;
-    while i < 32 {
-        if a[i] != b[i] {
-            return false;
-        }
-        i += 1;
-    }
-    true
-}
-
-// ---- writing: each writer is lent the part of a table that starts at its record
+ghost use Rattle.record.specs.Written.{faultBytes, locationBytes, edgeBytes, updateBytes, placed, EdgeFits};
 
 // Makes the first 32 bytes zero.
 pub fn blank(part: &mut [u8])
     requires { ⌜ 32 ≤ length (now part) ⌝ }
     ensures { λ _. ⌜ now (part .exit) ≡ replicate 32 0 ++ drop 32 (now (part .entry)) ⌝ }
 {
-    let mut i = 0;
-    while i < 32 {
-        part[i] = 0;
-        i += 1;
-    }
+    fill::fill(&mut part[..32], 0);
 }
 
 // The first four bytes of an L or H record without fault: its tag, the statement, no fault, the number of nodes.
@@ -98,10 +37,12 @@ pub fn write_fault(part: &mut [u8], statement: Statement, fault: u8)
     part[2] = fault;
 }
 
-// An L record with the shape that the record rec has: the part is that of the location table from 32 times its number on.
+// An L record with the shape that the record rec has: the part is that of the location table from 32 times its number
+// on.
 pub fn write_location(part: &mut [u8], statement: Statement, fault: u8, rec: &[u8])
     requires { ⌜ (32 ≤ length (now part)) × (length (now rec) ≡ 32) ⌝ }
-    ensures { λ _. ⌜ now (part .exit) ≡ locationBytes (statement .0) fault (now (rec .entry)) ++ drop 32 (now (part .entry)) ⌝ }
+    ensures { λ _. ⌜ now (part .exit) ≡ locationBytes (statement .0) fault (now (rec .entry))
+        ++ drop 32 (now (part .entry)) ⌝ }
 {
     bytes::copy(rec, part);
     part[0] = 0x4c;
@@ -112,7 +53,8 @@ pub fn write_location(part: &mut [u8], statement: Statement, fault: u8, rec: &[u
 // The first k updates, two bytes each, the low byte first, from byte 8 on.
 fn write_updates(part: &mut [u8], updates: &[u16], k: usize)
     requires { ⌜ (8 + 2 * k ≤ length (now part)) × (k ≤ length (now updates)) ⌝ }
-    ensures { λ _. ⌜ now (part .exit) ≡ take 8 (now (part .entry)) ++ (updateBytes (now (updates .entry)) k ++ drop (8 + 2 * k) (now (part .entry))) ⌝ }
+    ensures { λ _. ⌜ now (part .exit) ≡ take 8 (now (part .entry))
+        ++ (updateBytes (now (updates .entry)) k ++ drop (8 + 2 * k) (now (part .entry))) ⌝ }
 {
     let mut j = 0;
     while j < k {
@@ -123,58 +65,35 @@ fn write_updates(part: &mut [u8], updates: &[u16], k: usize)
     }
 }
 
-// An E record with k updates.
-pub fn write_edge(
-    part: &mut [u8],
-    branch: u8,
-    from: usize,
-    to: usize,
-    guard: u8,
-    node: Node,
-    updates: &[u16],
-    k: usize,
-)
-    requires { ⌜ (32 ≤ length (now part)) × (from < 65536) × (to < 65536) × (k ≤ 12) × (k ≤ length (now updates)) ⌝ }
-    ensures { λ _. ⌜ now (part .exit) ≡ edgeBytes branch from to guard (node .0) (now (updates .entry)) k ++ drop 32 (now (part .entry)) ⌝ }
+// An E record: its fields, and an update for each new node.
+pub fn write_edge(part: &mut [u8], fields: EdgeFields, updates: &[u16])
+    requires { ⌜ (32 ≤ length (now part)) × EdgeFits fields (now updates) ⌝ }
+    ensures { λ _. ⌜ now (part .exit) ≡ edgeBytes fields (now (updates .entry)) ++ drop 32 (now (part .entry)) ⌝ }
 {
     blank(part);
     part[0] = 0x45;
-    part[1] = branch;
-    part[2] = (from % 256) as u8;
-    part[3] = (from / 256) as u8;
-    part[4] = (to % 256) as u8;
-    part[5] = (to / 256) as u8;
-    part[6] = guard;
-    part[7] = node.0;
-    write_updates(part, updates, k);
+    part[1] = fields.branch;
+    part[2] = (fields.from % 256) as u8;
+    part[3] = (fields.from / 256) as u8;
+    part[4] = (fields.to % 256) as u8;
+    part[5] = (fields.to / 256) as u8;
+    part[6] = fields.guards.first.test;
+    part[7] = fields.guards.first.node.0;
+    write_updates(part, updates, fields.nodes);
 }
 
 // An E record in its place: the part of the table from 32 times the record number on is lent to the writer.
-pub fn put_edge(
-    table: &mut [u8],
-    n: usize,
-    branch: u8,
-    from: usize,
-    to: usize,
-    guard: u8,
-    node: Node,
-    updates: &[u16],
-    k: usize,
-)
-    requires { ⌜ (32 * n + 32 ≤ length (now table)) × (from < 65536) × (to < 65536) × (k ≤ 12) × (k ≤ length (now updates)) ⌝ }
-    ensures { λ _. ⌜ now (table .exit) ≡ placed (now (table .entry)) n (edgeBytes branch from to guard (node .0) (now (updates .entry)) k) ⌝ }
+pub fn put_edge(table: &mut [u8], n: usize, fields: EdgeFields, updates: &[u16])
+    requires { ⌜ (32 * n + 32 ≤ length (now table)) × EdgeFits fields (now updates) ⌝ }
+    ensures { λ _. ⌜ now (table .exit) ≡ placed (now (table .entry)) n (edgeBytes fields (now (updates .entry))) ⌝ }
 {
     let at = 32 * n;
-    write_edge(&mut table[at..], branch, from, to, guard, node, updates, k);
+    write_edge(&mut table[at..], fields, updates);
 }
 
 // Clears a table.
 pub fn clear(table: &mut [u8])
     ensures { λ _. ⌜ now (table .exit) ≡ replicate (length (now (table .entry))) 0 ⌝ }
 {
-    let mut i = 0;
-    while i < table.len() {
-        table[i] = 0;
-        i += 1;
-    }
+    fill::fill(table, 0);
 }

@@ -11,12 +11,13 @@ use Rattle.model.specs.Base.{sameList, placeOf, numbers}
 use Rattle.model.specs.Edges.{Loc, sameLoc}
 use Rattle.model.specs.Records.{locRecord, recordAt}
 use Rattle.model.specs.Translate.{tableOf}
-use Rattle.model.proofs.Bytes.{records-wide, table-record}
-use Rattle.model.proofs.Listings.{WritableLoc}
-use Rattle.model.proofs.Lists.{In, getD-in, getD-map}
-use Rattle.model.proofs.Logic.{bool-ext}
-use Rattle.model.proofs.ReadBack.{location-injective, record-length}
-use Rattle.model.proofs.Same.{bytes-same, same-bytes-refl, loc-same, same-loc-refl}
+use Rattle.model.proofs.records.Bytes.{records-wide, table-record}
+use Rattle.model.specs.Listings.{WritableLoc}
+use Rattle.model.specs.Notions.{In}
+use Rattle.model.proofs.lists.Lists.{getD-in, getD-map}
+use Rattle.model.proofs.lists.Logic.{bool-ext}
+use Rattle.model.proofs.records.ReadBack.{location-injective, record-length}
+use Rattle.model.proofs.shapes.Same.{bytes-same, same-bytes-refl, loc-same, same-loc-refl}
 use Rattle.search.specs.Search.{foundAt}
 use Rattle.search.proofs.ListLaws.{place-numbers}
 
@@ -49,7 +50,8 @@ same-record m l M L = bool-ext (sameList eqb (locRecord m) (locRecord l)) (sameL
     (λ e. ap (λ z. sameList eqb (locRecord m) (locRecord z)) (loc-same l m e) ∙ same-bytes-refl (locRecord m))
 
 -- in a table of locations, the record of a location is found at the location's number
-pub found-location : (ls : List Loc) (l : Loc) (n : ℕ) (t r : List ℕ) → ((m : Loc) → In m ls → WritableLoc m) → WritableLoc l
+pub found-location : (ls : List Loc) (l : Loc) (n : ℕ) (t r : List ℕ) → ((m : Loc) → In m ls → WritableLoc m)
+    → WritableLoc l
     → t ≡ tableOf n (map locRecord ls) → r ≡ locRecord l → foundAt t r (length ls) ≡ placeOf (sameLoc l) ls
 found-location ls l n t r W L p q =
     place-numbers (λ i. sameList eqb (recordAt t i) r) (sameLoc l) ls l 0
@@ -58,5 +60,6 @@ found-location ls l n t r W L p q =
     let k′ : j < length (map locRecord ls) = omega (arith, length-map ls locRecord) in
     let m = getD ls j l in
     let e : recordAt t (0 + j) ≡ locRecord m =
-    ap₂ recordAt p z ∙ table-record n (map locRecord ls) j (records-wide locRecord ls (λ x i. record-length x (W x i))) k′ ∙ getD-map locRecord ls j l [] k in
+    ap₂ recordAt p z ∙ table-record n (map locRecord ls) j
+    (records-wide locRecord ls (λ x i. record-length x (W x i))) k′ ∙ getD-map locRecord ls j l [] k in
     ap₂ (sameList eqb) e q ∙ same-record m l (W m (getD-in ls l j k)) L)

@@ -1,142 +1,104 @@
--- Bytes compared eight at a time: equal numbers have equal bytes, and equal bytes equal numbers.
-use Prim.Native.Nat.{ℕ, suc, _+_, _*_, _-_, _≤_, _<_}
+-- Bytes compared eight at a time: as digits in base 256 they are one number, and different bytes are different numbers.
+use Prim.Native.Nat.{ℕ, suc, _+_, _*_, _^_, _≤_, _<_}
 use mathlib.Core.Path.{_≡_, sym, ap, ap₂, subst, _∙_}
-use mathlib.Core.Bool.{true, false}
-use mathlib.Core.List.{List}
+use mathlib.Core.Bool.{true, false, _&&_}
+use mathlib.Core.List.{List, [], _∷_, _++_}
+use native.Mathlib.Nat.{add-assoc, mul-add, mul-assoc, pow-succ', pow-zero}
 use native.Mathlib.Omega.{arith}
-use lib.Dec.{eqb, ltb}
-use borrow.Author.Tests.{eq-eqb, eqb-true, ltb-false, ltb-true}
-use lib.ListN.{take, drop, getD, length}
-use lib.Seq.{take-all}
+use lib.Dec.{eqb}
+use borrow.Author.Tests.{eq-eqb, eqb-true}
+use lib.ListN.{take, drop, getD, length, take-append-drop}
+use lib.Seq.{drop-cons, drop-drop, take-add, take-all}
 use Rattle.model.specs.Base.{sameList}
 use Rattle.model.specs.Records.{word}
-use Rattle.model.proofs.Logic.{bool-case, bool-ext, clash, not-true}
+use Rattle.model.proofs.lists.Digits.{Below, code-injective, codeOf}
+use Rattle.model.proofs.lists.Lists.{in-append-l, in-drop, in-getD}
+use Rattle.model.proofs.lists.Logic.{and-l, and-r, bool-ext, not-true}
+use Rattle.model.proofs.shapes.Same.{bytes-same, same-bytes-refl}
+use Rattle.model.specs.Notions.{In}
 use Rattle.search.specs.Search.{fourAt, eightAt, keyAt}
-use Rattle.search.proofs.ListLaws.{Agree, agree-same, same-agree}
+use Rattle.search.proofs.ListLaws.{part-length, samePart, same-split}
 
-agree-at : (t : List ℕ) (a : ℕ) (r : List ℕ) (b n : ℕ) → Agree t a r b n → (k m : ℕ) → k + m ≤ n → Agree t (a + k) r (b + k) m
-agree-at t a r b n h k m q j l =
-    let e : a + k + j ≡ a + (k + j) = omega arith in
-    let f : b + k + j ≡ b + (k + j) = omega arith in
-    ap (λ i. getD t i 0) e ∙ h (k + j) (omega arith) ∙ ap (λ i. getD r i 0) (sym f)
+-- ---- bytes as a number
 
--- ---- equal bytes, equal numbers
+code-append : (c : ℕ) (l m : List ℕ) → codeOf c (l ++ m) ≡ codeOf c l + c ^ length l * codeOf c m
+code-append c [] m = rw pow-zero (omega arith)
+code-append c (x ∷ l) m =
+    let p = c ^ length l in
+    rw (code-append c l m, pow-succ' c (length l), mul-add c (codeOf c l) (p * codeOf c m), mul-assoc c p (codeOf c m))
+    (sym (add-assoc x (c * codeOf c l) (c * (p * codeOf c m))))
 
-module _ (t : List ℕ) (a : ℕ) (r : List ℕ) (b : ℕ) where
-  byte-same : (n : ℕ) → 0 < n → Agree t a r b n → getD t a 0 ≡ getD r b 0
-  byte-same n q h =
-      let e : a + 0 ≡ a = omega arith in
-      let f : b + 0 ≡ b = omega arith in
-      ap (λ i. getD t i 0) (sym e) ∙ h 0 q ∙ ap (λ i. getD r i 0) f
+-- the n bytes of t from a on
+abbrev codeAt : ℕ → List ℕ → ℕ → ℕ
+codeAt n t a = codeOf 256 (take n (drop a t))
 
-word-same : (t : List ℕ) (a : ℕ) (r : List ℕ) (b : ℕ) → Agree t a r b 2 → word t a ≡ word r b
-word-same t a r b h =
-    let e : a + 1 ≡ suc a = omega arith in
-    let f : b + 1 ≡ suc b = omega arith in
-    ap₂ (λ x y. x + 256 * y) (byte-same t a r b 2 (omega arith) h)
-    (ap (λ i. getD t i 0) (sym e) ∙ h 1 (omega arith) ∙ ap (λ i. getD r i 0) f)
+module _ (t : List ℕ) (a : ℕ) where
+  code-add : (m n : ℕ) → a + m ≤ length t → codeAt (m + n) t a ≡ codeAt m t a + 256 ^ m * codeAt n t (a + m)
+  code-add m n h =
+      ap (codeOf 256) (take-add m n (drop a t)) ∙ code-append 256 (take m (drop a t)) (take n (drop m (drop a t)))
+      ∙ rw (part-length t a m h, drop-drop m a t)
 
-four-same : (t : List ℕ) (a : ℕ) (r : List ℕ) (b : ℕ) → Agree t a r b 4 → fourAt t a ≡ fourAt r b
-four-same t a r b h =
-    ap₂ (λ x y. x + 0x1_0000 * y) (word-same t a r b (λ k q. h k (omega arith)))
-    (word-same t (a + 2) r (b + 2) (agree-at t a r b 4 h 2 2 (omega arith)))
+  word-code : a + 2 ≤ length t → word t a ≡ codeAt 2 t a
+  word-code h =
+      let e = drop-cons t a 0 (omega arith) ∙ ap (λ l. getD t a 0 ∷ l) (drop-cons t (suc a) 0 (omega arith)) in
+      let n : word t a ≡ codeOf 256 (getD t a 0 ∷ getD t (suc a) 0 ∷ []) = omega arith in
+      n ∙ sym (ap (λ l. codeOf 256 (take 2 l)) e)
 
-eight-same : (t : List ℕ) (a : ℕ) (r : List ℕ) (b : ℕ) → Agree t a r b 8 → eightAt t a ≡ eightAt r b
-eight-same t a r b h =
-    ap₂ (λ x y. x + 0x1_0000_0000 * y) (four-same t a r b (λ k q. h k (omega arith)))
-    (four-same t (a + 4) r (b + 4) (agree-at t a r b 8 h 4 4 (omega arith)))
+four-code : (t : List ℕ) (a : ℕ) → a + 4 ≤ length t → fourAt t a ≡ codeAt 4 t a
+four-code t a h =
+    ap₂ (λ x y. x + 0x1_0000 * y) (word-code t a (omega arith)) (word-code t (a + 2) (omega arith))
+    ∙ sym (code-add t a 2 2 (omega arith))
 
--- ---- equal numbers, equal bytes
+eight-code : (t : List ℕ) (a : ℕ) → a + 8 ≤ length t → eightAt t a ≡ codeAt 8 t a
+eight-code t a h =
+    ap₂ (λ x y. x + 0x1_0000_0000 * y) (four-code t a (omega arith)) (four-code t (a + 4) (omega arith))
+    ∙ sym (code-add t a 4 4 (omega arith))
+
+-- ---- parts of eight bytes are the same exactly where their numbers are
 
 -- each place holds a byte
 abbrev pub Bytes : List ℕ → Type 0
 Bytes l = (i : ℕ) → getD l i 0 < 256
 
-word-below : (t : List ℕ) → Bytes t → (a : ℕ) → word t a < 0x1_0000
-word-below t B a = omega (arith, B a, B (suc a))
+part-below : (t : List ℕ) (a n : ℕ) → Bytes t → Below 256 (take n (drop a t))
+part-below t a n B x i =
+    let d = drop a t in
+    let j : In x t = in-drop x a t (subst (In x) (take-append-drop n d) (in-append-l x (take n d) (drop n d) i)) in
+    let g = in-getD t 0 x j in
+    subst (λ y. y < 256) (g .2) (B (g .0))
 
-four-below : (t : List ℕ) → Bytes t → (a : ℕ) → fourAt t a < 0x1_0000_0000
-four-below t B a = omega (arith, word-below t B a, word-below t B (a + 2))
+module _ (t : List ℕ) (a : ℕ) (r : List ℕ) (b : ℕ) (h : a + 8 ≤ length t) (k : b + 8 ≤ length r) where
+  eight-same : samePart 8 t a r b ≡ true → eightAt t a ≡ eightAt r b
+  eight-same e =
+      eight-code t a h ∙ ap (codeOf 256) (bytes-same (take 8 (drop a t)) (take 8 (drop b r)) e) ∙ sym (eight-code r b k)
 
--- two halves that agree
-halves : (t : List ℕ) (a : ℕ) (r : List ℕ) (b n : ℕ) → Agree t a r b n → Agree t (a + n) r (b + n) n → Agree t a r b (n + n)
-halves t a r b n h g k q = bool-case (ltb k n) (λ e. h k (ltb-true k n e)) (λ e.
-    let l : n ≤ k = ltb-false k n e in
-    let x : a + n + (k - n) ≡ a + k = omega arith in
-    let y : b + n + (k - n) ≡ b + k = omega arith in
-    ap (λ i. getD t i 0) (sym x) ∙ g (k - n) (omega arith) ∙ ap (λ i. getD r i 0) y)
-
-one-agree : (t : List ℕ) (a : ℕ) (r : List ℕ) (b : ℕ) → getD t a 0 ≡ getD r b 0 → Agree t a r b 1
-one-agree t a r b e k q =
-    let x : a + k ≡ a = omega arith in
-    let y : b + k ≡ b = omega arith in
-    ap (λ i. getD t i 0) x ∙ e ∙ ap (λ i. getD r i 0) (sym y)
-
-module _ (t r : List ℕ) (T : Bytes t) (R : Bytes r) where
-  word-agree : (a b : ℕ) → word t a ≡ word r b → Agree t a r b 2
-  word-agree a b e =
-      let x : getD t a 0 ≡ getD r b 0 = omega (arith, T a, R b, T (suc a), R (suc b)) in
-      let y : getD t (suc a) 0 ≡ getD r (suc b) 0 = omega (arith, T a, R b, T (suc a), R (suc b)) in
-      let f : suc a ≡ a + 1 = omega arith in
-      let g : suc b ≡ b + 1 = omega arith in
-      halves t a r b 1 (one-agree t a r b x) (one-agree t (a + 1) r (b + 1) (ap (λ i. getD t i 0) (sym f) ∙ y ∙ ap (λ i. getD r i 0) g))
-
-  four-agree : (a b : ℕ) → fourAt t a ≡ fourAt r b → Agree t a r b 4
-  four-agree a b e =
-      let p = word-below t T a in
-      let q = word-below r R b in
-      let x : word t a ≡ word r b = omega (arith, p, q, e) in
-      let y : word t (a + 2) ≡ word r (b + 2) = omega (arith, p, q, e) in
-      halves t a r b 2 (word-agree a b x) (word-agree (a + 2) (b + 2) y)
-
-  eight-agree : (a b : ℕ) → eightAt t a ≡ eightAt r b → Agree t a r b 8
-  eight-agree a b e =
-      let p = four-below t T a in
-      let q = four-below r R b in
-      let x : fourAt t a ≡ fourAt r b = omega (arith, p, q, e) in
-      let y : fourAt t (a + 4) ≡ fourAt r (b + 4) = omega (arith, p, q, e) in
-      halves t a r b 4 (four-agree a b x) (four-agree (a + 4) (b + 4) y)
-
-  -- parts of eight bytes are the same exactly where their numbers are
-  pub eight-is : (a b : ℕ) → a + 8 ≤ length t → b + 8 ≤ length r
-      → sameList eqb (take 8 (drop a t)) (take 8 (drop b r)) ≡ eqb (eightAt t a) (eightAt r b)
-  eight-is a b h k = bool-ext (sameList eqb (take 8 (drop a t)) (take 8 (drop b r))) (eqb (eightAt t a) (eightAt r b))
-      (λ e. eq-eqb (eightAt t a) (eightAt r b) (eight-same t a r b (same-agree t a r b 8 e)))
-      (λ e. agree-same t a r b 8 h k (eight-agree a b (eqb-true (eightAt t a) (eightAt r b) e)))
+  pub eight-is : Bytes t → Bytes r → samePart 8 t a r b ≡ eqb (eightAt t a) (eightAt r b)
+  eight-is T R = bool-ext (samePart 8 t a r b) (eqb (eightAt t a) (eightAt r b))
+      (λ e. eq-eqb (eightAt t a) (eightAt r b) (eight-same e))
+      (λ e. let x = take 8 (drop a t) in
+      let y = take 8 (drop b r) in
+      let c = sym (eight-code t a h) ∙ eqb-true (eightAt t a) (eightAt r b) e ∙ eight-code r b k in
+      let l = part-length t a 8 h ∙ sym (part-length r b 8 k) in
+      let same = code-injective 256 x y (part-below t a 8 T) (part-below r b 8 R) l c in
+      ap (λ z. sameList eqb z y) same ∙ same-bytes-refl y)
 
 -- ---- records
 
 -- the record r of 32 bytes, and the part of t from a on
 module _ (t : List ℕ) (a : ℕ) (r : List ℕ) (wide : length r ≡ 32) where
-  whole : take 32 (drop 0 r) ≡ r
-  whole = take-all 32 r (omega arith)
+  whole : sameList eqb (take 32 (drop a t)) r ≡ samePart 32 t a r 0
+  whole = ap (sameList eqb (take 32 (drop a t))) (sym (take-all 32 r (omega arith)))
 
-  record-agree : sameList eqb (take 32 (drop a t)) r ≡ true → Agree t a r 0 32
-  record-agree e = same-agree t a r 0 32 (subst (λ z. sameList eqb (take 32 (drop a t)) z ≡ true) (sym whole) e)
+  pub key-differ : a + 32 ≤ length t → (keyAt t a ≡ keyAt r 0 → ⊥) → sameList eqb (take 32 (drop a t)) r ≡ false
+  key-differ l h = not-true (sameList eqb (take 32 (drop a t)) r) (λ e.
+      let behind = and-r (samePart 1 t a r 0) (samePart 31 t (a + 1) r 1) (sym (whole ∙ same-split 1 31 t a r 0) ∙ e) in
+      let rest = samePart 23 t (a + 1 + 8) r 9 in
+      let key = and-l (samePart 8 t (a + 1) r 1) rest (sym (same-split 8 23 t (a + 1) r 1) ∙ behind) in
+      h (eight-same t (a + 1) r 1 (omega arith) (omega arith) key))
 
-  -- the n bytes of the part from b on, k behind its start
-  pub part-same : (b k n : ℕ) → b ≡ a + k → a + 32 ≤ length t → k + n ≤ 32 → sameList eqb (take 32 (drop a t)) r ≡ true
-      → sameList eqb (take n (drop b t)) (take n (drop k r)) ≡ true
-  part-same b k n e l q w = agree-same t b r k n (omega arith) (omega arith) (λ j m.
-      let f : b + j ≡ a + (k + j) = omega arith in
-      let g : 0 + (k + j) ≡ k + j = omega arith in
-      ap (λ i. getD t i 0) f ∙ record-agree w (k + j) (omega arith) ∙ ap (λ i. getD r i 0) g)
-
-  pub part-differ : (b k n : ℕ) → b ≡ a + k → a + 32 ≤ length t → k + n ≤ 32 → sameList eqb (take n (drop b t)) (take n (drop k r)) ≡ false
-      → sameList eqb (take 32 (drop a t)) r ≡ false
-  part-differ b k n e l q d = not-true (sameList eqb (take 32 (drop a t)) r) (λ w. clash (part-same b k n e l q w) d)
-
-  pub key-differ : (keyAt t a ≡ keyAt r 0 → ⊥) → sameList eqb (take 32 (drop a t)) r ≡ false
-  key-differ h = not-true (sameList eqb (take 32 (drop a t)) r)
-      (λ e. h (eight-same t (a + 1) r 1 (agree-at t a r 0 32 (record-agree e) 1 8 (omega arith))))
-
-  -- four parts that are the same
-  pub parts-same : a + 32 ≤ length t → sameList eqb (take 8 (drop a t)) (take 8 (drop 0 r)) ≡ true
-      → sameList eqb (take 8 (drop (a + 8) t)) (take 8 (drop 8 r)) ≡ true → sameList eqb (take 8 (drop (a + 16) t)) (take 8 (drop 16 r)) ≡ true
-      → sameList eqb (take 8 (drop (a + 24) t)) (take 8 (drop 24 r)) ≡ true → sameList eqb (take 32 (drop a t)) r ≡ true
-  parts-same l p q x y =
+  -- four parts of eight bytes
+  pub parts-same : sameList eqb (take 32 (drop a t)) r
+      ≡ (samePart 8 t a r 0 && samePart 8 t (a + 8) r 8) && (samePart 8 t (a + 16) r 16 && samePart 8 t (a + 24) r 24)
+  parts-same =
       let e : a + 16 + 8 ≡ a + 24 = omega arith in
-      let first : Agree t a r 0 16 = halves t a r 0 8 (same-agree t a r 0 8 p) (same-agree t (a + 8) r 8 8 q) in
-      let second : Agree t (a + 16) r 16 16 =
-      halves t (a + 16) r 16 8 (same-agree t (a + 16) r 16 8 x) (subst (λ i. Agree t i r 24 8) (sym e) (same-agree t (a + 24) r 24 8 y)) in
-      subst (λ z. sameList eqb (take 32 (drop a t)) z ≡ true) whole (agree-same t a r 0 32 l (omega arith) (halves t a r 0 16 first second))
+      whole ∙ same-split 16 16 t a r 0 ∙ ap₂ _&&_ (same-split 8 8 t a r 0) (same-split 8 8 t (a + 16) r 16 ∙ rw e)

@@ -31,8 +31,8 @@ fn eight(t: &[u8], at: usize) -> u64
     four(t, at) as u64 + 0x1_0000_0000 * (four(t, at + 4) as u64)
 }
 
-// The key of the record at `at`: bytes 1 to 8, in which most locations differ (statement, fault, node count, five pointers).
-// Most records are passed by one comparison of keys.
+// The key of the record at `at`: bytes 1 to 8, in which most locations differ (statement, fault, node count, five
+// pointers). Most records are passed by one comparison of keys.
 fn key(t: &[u8], at: usize) -> u64
     requires { ⌜ at + 9 ≤ length (now t) ⌝ }
     ensures { λ r. ⌜ r ≡ keyAt (now (t .entry)) at ⌝ }
@@ -43,7 +43,8 @@ fn key(t: &[u8], at: usize) -> u64
 // Whether the eight bytes at `at` are those of rec at `from`.
 fn same_eight(table: &[u8], at: usize, rec: &[u8], from: usize) -> bool
     requires { ⌜ (at + 8 ≤ length (now table)) × (from + 8 ≤ length (now rec)) ⌝ }
-    ensures { λ r. ⌜ r ≡ sameList eqb (take 8 (drop at (now (table .entry)))) (take 8 (drop from (now (rec .entry)))) ⌝ }
+    ensures { λ r. ⌜ r ≡ sameList eqb (take 8 (drop at (now (table .entry))))
+        (take 8 (drop from (now (rec .entry)))) ⌝ }
 {
     eight(table, at) == eight(rec, from)
 }
@@ -53,9 +54,8 @@ fn same_at(table: &[u8], at: usize, rec: &[u8]) -> bool
     requires { ⌜ (at + 32 ≤ length (now table)) × (length (now rec) ≡ 32) ⌝ }
     ensures { λ r. ⌜ r ≡ sameList eqb (take 32 (drop at (now (table .entry)))) (now (rec .entry)) ⌝ }
 {
-    same_eight(table, at, rec, 0)
-        && (same_eight(table, at + 8, rec, 8)
-            && (same_eight(table, at + 16, rec, 16) && same_eight(table, at + 24, rec, 24)))
+    (same_eight(table, at, rec, 0) & same_eight(table, at + 8, rec, 8))
+        & (same_eight(table, at + 16, rec, 16) & same_eight(table, at + 24, rec, 24))
 }
 
 // The same, with the keys compared first.

@@ -1,5 +1,5 @@
 pub mod ListLaws
 pub mod CutLaws
-pub mod Turn
+pub mod CutStep
 pub mod ShapeLaws
 pub mod ImageLaws

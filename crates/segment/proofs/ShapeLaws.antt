@@ -12,17 +12,17 @@ use Rattle.model.specs.Heap.{Heap, IsHeap, Val, cell, holds, next, null, order,
 use Rattle.model.specs.Shape.{Seg, cells, core, last, node, nodeSlot, nodeVal, segments, shape}
 use Rattle.model.specs.Records.{slotByte, valByte, valOf}
 use Rattle.model.specs.Image.{cellSlot, heapOf}
-use Rattle.model.proofs.Bytes.{byte-back}
-use Rattle.model.proofs.Cuts.{AllCore, Head, core-of-pointed, node-head}
-use Rattle.model.proofs.Facts.{heap-closed, heap-kept}
-use Rattle.model.proofs.Lists.{getD-map}
-use Rattle.model.proofs.Logic.{bool-case, mem-here, or-l}
-use Rattle.model.proofs.Notions.{segAt}
-use Rattle.model.proofs.Order.{used-below}
-use Rattle.model.proofs.Segments.{core-first}
-use Rattle.model.proofs.Start.{end, last-head}
-use Rattle.model.proofs.Walks.{AllClosed, Closed, Used, holders, pointed, seg}
-use Rattle.model.proofs.Writes.{holds-inj, slot-clash}
+use Rattle.model.proofs.records.Bytes.{byte-back}
+use Rattle.model.proofs.expansion.Cuts.{AllCore, Head, core-of-pointed, node-head}
+use Rattle.model.proofs.expansion.Facts.{heap-closed, heap-kept}
+use Rattle.model.proofs.lists.Lists.{getD-map}
+use Rattle.model.proofs.lists.Logic.{bool-case, mem-here, or-l}
+use Rattle.model.specs.Notions.{segAt, AllClosed, Closed, Used, seg}
+use Rattle.model.proofs.visits.Order.{used-below}
+use Rattle.model.proofs.shapes.Segments.{core-first}
+use Rattle.model.proofs.expansion.Start.{end, last-head}
+use Rattle.model.proofs.visits.Walks.{holders, pointed}
+use Rattle.model.proofs.expansion.Writes.{holds-inj, slot-clash}
 use Rattle.segment.specs.Cut.{heldCore, segs}
 use Rattle.segment.specs.Fold.{foldByte}
 use Rattle.segment.proofs.CutLaws.{cut-same}
@@ -33,7 +33,8 @@ abbrev pub Nodes : List Seg → List ℕ → Type 0
 Nodes ss m = (j c : ℕ) → j < length ss → mem c (cells (segAt ss j)) ≡ true → getD m c 0 ≡ j
 
 -- a value, whose cell is the first of a segment
-fold-value : (ss : List Seg) (m : List ℕ) → Nodes ss m → (b : ℕ) → ((c : ℕ) → valOf b ≡ cell c → Head ss c × (c < 0xfd)) → foldByte m b ≡ valByte (nodeVal ss (valOf b))
+fold-value : (ss : List Seg) (m : List ℕ) → Nodes ss m → (b : ℕ) → ((c : ℕ) → valOf b ≡ cell c → Head ss c × (c < 0xfd))
+    → foldByte m b ≡ valByte (nodeVal ss (valOf b))
 fold-value ss m is b k = go (valOf b) refl
   where
     go : (v : Val) → valOf b ≡ v → foldByte m b ≡ valByte (nodeVal ss v)
@@ -43,7 +44,8 @@ fold-value ss m is b k = go (valOf b) refl
         let q : b ≡ c = sym (byte-back b) ∙ ap valByte e in
         let r = node-head ss c (k c e .0) in
         let s = segAt ss (node ss c) in
-        rw (q, lt-ltb c 0xfd (k c e .1)) (is (node ss c) c (r .0) (subst (λ y. mem y (cells s) ≡ true) (r .1) (mem-here (s .first) (s .rest))))
+        rw (q, lt-ltb c 0xfd (k c e .1))
+        (is (node ss c) c (r .0) (subst (λ y. mem y (cells s) ≡ true) (r .1) (mem-here (s .first) (s .rest))))
 
 module _ (ps cs : List ℕ) (x : IsHeap (heapOf ps cs)) (few : length cs ≤ 240) where
   pub cell-low : (c : ℕ) → Used (next (heapOf ps cs)) c → c < length cs
@@ -57,7 +59,8 @@ module _ (ps cs : List ℕ) (x : IsHeap (heapOf ps cs)) (few : length cs ≤ 240
       bool-case (eqb b 0xfd) (λ t. slot-clash refl (rw t at s)) (λ t. holds-inj (rw t at s))
 
   module _ (m : List ℕ) (is : Nodes (segments (heapOf ps cs)) m) where
-    values : (qs : List ℕ) → AllClosed (next (heapOf ps cs)) (map valOf qs) → AllCore (next (heapOf ps cs)) (core (heapOf ps cs)) (map valOf qs)
+    values : (qs : List ℕ) → AllClosed (next (heapOf ps cs)) (map valOf qs)
+        → AllCore (next (heapOf ps cs)) (core (heapOf ps cs)) (map valOf qs)
         → map (foldByte m) qs ≡ map valByte (map (nodeVal (segments (heapOf ps cs))) (map valOf qs))
     values [] k q = refl
     values (b ∷ qs) k q =
@@ -70,16 +73,19 @@ module _ (ps cs : List ℕ) (x : IsHeap (heapOf ps cs)) (few : length cs ≤ 240
     pub shape-pointers : map (foldByte m) ps ≡ map valByte (shape (heapOf ps cs) .ptrs)
     shape-pointers =
         let h = heapOf ps cs in
-        values ps (heap-closed h x .0) (core-of-pointed h (h .ptrs) (λ c q. or-l (pointed c (h .ptrs)) (leb 2 (holders c (h .slots))) q))
+        values ps (heap-closed h x .0)
+        (core-of-pointed h (h .ptrs) (λ c q. or-l (pointed c (h .ptrs)) (leb 2 (holders c (h .slots))) q))
 
-    pub shape-successors : map (λ c. foldByte m (getD cs c 0)) (map last (segments (heapOf ps cs))) ≡ map slotByte (shape (heapOf ps cs) .slots)
+    pub shape-successors : map (λ c. foldByte m (getD cs c 0)) (map last (segments (heapOf ps cs)))
+        ≡ map slotByte (shape (heapOf ps cs) .slots)
     shape-successors =
         let h = heapOf ps cs in
         let ss = segments h in
         let cl = heap-closed h x in
         let kp = heap-kept h x in
         map-map (λ c. foldByte m (getD cs c 0)) last ss
-        ∙ map-at (λ (s : Seg). foldByte m (getD cs (last s) 0)) (λ (s : Seg). slotByte (nodeSlot ss (next h (last s)))) (seg 0 []) ss (λ n q.
+        ∙ map-at (λ (s : Seg). foldByte m (getD cs (last s) 0)) (λ (s : Seg). slotByte (nodeSlot ss (next h (last s))))
+        (seg 0 []) ss (λ n q.
         let c = last (segAt ss n) in
         let u = end h cl kp n q in
         let v = slot-of c (u .0) (u .1) in
@@ -89,5 +95,6 @@ module _ (ps cs : List ℕ) (x : IsHeap (heapOf ps cs)) (few : length cs ≤ 240
         ∙ ap (λ w. valByte (nodeVal ss w)) v ∙ sym (ap (λ w. slotByte (nodeSlot ss w)) (u .1)))
         ∙ sym (map-map slotByte (λ (s : Seg). nodeSlot ss (next h (last s))) ss)
 
-pub segs-same : (held : List ℕ) (h : Heap) → ((c : ℕ) → mem c (order h) ≡ true → heldCore held c ≡ core h c) → segs held (order h) ≡ segments h
+pub segs-same : (held : List ℕ) (h : Heap) → ((c : ℕ) → mem c (order h) ≡ true → heldCore held c ≡ core h c)
+    → segs held (order h) ≡ segments h
 segs-same held h k = cut-same (heldCore held) (core h) (order h) k

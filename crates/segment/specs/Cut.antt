@@ -1,4 +1,4 @@
--- The cut of a visit order on bytes: what it asks, the tables that it leaves, and what one turn stores. Assumes nothing.
+-- The cut of a visit order on bytes: what it asks, the tables that it leaves, and what one turn stores.
 use Prim.Native.Nat.{ℕ, _+_, _-_, _<_, _≤_}
 use mathlib.Core.Path.{_≡_}
 use mathlib.Core.Bool.{Bool, true, false, cond}
@@ -7,38 +7,47 @@ use lib.Dec.{leb}
 use lib.ListN.{length, getD, take, set}
 use Rattle.model.specs.Base.{mem}
 use Rattle.model.specs.Shape.{Seg, cells, cut, last, size}
-use Rattle.model.proofs.Logic.{NoDup}
-use Rattle.model.proofs.Notions.{segAt}
+use Rattle.model.specs.Notions.{NoDup, segAt}
 
--- h has a byte for each cell that counts its holders: two or more make the cell core
+-- a byte for each cell counts its holders: two or more make the cell core
 abbrev pub heldCore : List ℕ → ℕ → Bool
-heldCore h c = leb 2 (getD h c 0)
+heldCore held c = leb 2 (getD held c 0)
 
 -- the segments of a list of cells
 abbrev pub segs : List ℕ → List ℕ → List Seg
-segs h l = cut (heldCore h) l
+segs held l = cut (heldCore held) l
 
--- what the cut asks of the order o, of which the first n count, the holders h, and the tables of nodes, last cells and sizes
-pub record CutReady (o : List ℕ) (n : ℕ) (h m l z : List ℕ) : Type 0 where
-  pub few : n ≤ length o
-  pub short : n ≤ 240
-  pub low : (i : ℕ) → i < n → (getD o i 0 < length h) × (getD o i 0 < length m)
-  pub once : NoDup (take n o)
-  pub begins : 0 < n → heldCore h (getD o 0 0) ≡ true
-  pub room : (length (segs h (take n o)) ≤ length l) × (length (segs h (take n o)) ≤ length z) × (length (segs h (take n o)) ≤ 240)
+-- of each cell its segment's number, of each segment its last cell and its size
+pub record CutTables : Type 0 where
+  pub node : List ℕ
+  pub last : List ℕ
+  pub size : List ℕ
 
--- the tables say what the r segments s are: the last cell and the size of each, and of each cell its segment's number
-pub record IsCut (s : List Seg) (m l z : List ℕ) (r : ℕ) : Type 0 where
-  pub number : r ≡ length s
-  pub lasts : take r l ≡ map last s
-  pub sizes : take r z ≡ map size s
-  pub nodes : (j c : ℕ) → j < length s → mem c (cells (segAt s j)) ≡ true → getD m c 0 ≡ j
+abbrev pub cutTables : List ℕ → List ℕ → List ℕ → CutTables
+cutTables node last size = record { node = node; last = last; size = size }
+
+-- what the cut asks of the order, the holders and the tables
+pub record CutReady (order held : List ℕ) (t : CutTables) : Type 0 where
+  pub short : length order ≤ 240
+  pub low : (i : ℕ) → i < length order → (getD order i 0 < length held) × (getD order i 0 < length (t .node))
+  pub once : NoDup order
+  pub begins : 0 < length order → heldCore held (getD order 0 0) ≡ true
+  pub lasts : length (segs held order) ≤ length (t .last)
+  pub sizes : length (segs held order) ≤ length (t .size)
+  pub few : length (segs held order) ≤ 240
+
+-- the tables say what the k segments ss are
+pub record IsCut (ss : List Seg) (t : CutTables) (k : ℕ) : Type 0 where
+  pub number : k ≡ length ss
+  pub lasts : take k (t .last) ≡ map last ss
+  pub sizes : take k (t .size) ≡ map size ss
+  pub nodes : (j c : ℕ) → j < length ss → mem c (cells (segAt ss j)) ≡ true → getD (t .node) c 0 ≡ j
 
 -- cell c is entered as the last cell of segment j, which has w cells with it
-pub record Entered (c j w : ℕ) (m l z m′ l′ z′ : List ℕ) : Type 0 where
-  pub node : m′ ≡ set m c j
-  pub last : l′ ≡ set l j c
-  pub size : z′ ≡ set z j w
+pub record Entered (c j w : ℕ) (t t′ : CutTables) : Type 0 where
+  pub node : t′ .node ≡ set (t .node) c j
+  pub last : t′ .last ≡ set (t .last) j c
+  pub size : t′ .size ≡ set (t .size) j w
 
 -- the segment that a cell goes to, where k have begun: a core cell begins one, any other goes behind the last
 abbrev pub goesTo : Bool → ℕ → ℕ
@@ -46,16 +55,17 @@ goesTo b k = cond b k (k - 1)
 
 -- and how many cells that segment has with it
 abbrev pub sizeWith : Bool → List ℕ → ℕ → ℕ
-sizeWith b z k = cond b 1 (getD z (k - 1) 0 + 1)
+sizeWith b size k = cond b 1 (getD size (k - 1) 0 + 1)
 
 -- a turn: cell c is put behind the order, and r segments have begun
-pub record Put (b : Bool) (c k : ℕ) (m l z m′ l′ z′ : List ℕ) (r : ℕ) : Type 0 where
-  pub entered : Entered c (goesTo b k) (sizeWith b z k) m l z m′ l′ z′
+pub record Put (b : Bool) (c k : ℕ) (t t′ : CutTables) (r : ℕ) : Type 0 where
+  pub entered : Entered c (goesTo b k) (sizeWith b (t .size) k) t t′
   pub number : r ≡ cond b (k + 1) k
 
 -- what a turn asks: the cell is within the tables, and its segment too; the size of the last segment can grow
-pub record PutReady (c k : ℕ) (h m l z : List ℕ) : Type 0 where
-  pub low : (c < length h) × (c < length m)
+pub record PutReady (c k : ℕ) (held : List ℕ) (t : CutTables) : Type 0 where
+  pub low : (c < length held) × (c < length (t .node))
   pub few : k ≤ 240
-  pub fresh : heldCore h c ≡ true → (k < length l) × (k < length z)
-  pub more : heldCore h c ≡ false → (0 < k) × (k ≤ length l) × (k ≤ length z) × (getD z (k - 1) 0 < 240)
+  pub fresh : heldCore held c ≡ true → (k < length (t .last)) × (k < length (t .size))
+  pub more : heldCore held c ≡ false
+      → (0 < k) × (k ≤ length (t .last)) × (k ≤ length (t .size)) × (getD (t .size) (k - 1) 0 < 240)

@@ -1,7 +1,8 @@
 -- Bytes of a heap in terms of nodes, by a table of each cell's node. Assumes nothing.
-use Prim.Native.Nat.{ℕ, _<_}
+use Prim.Native.Nat.{ℕ, _+_, _<_, _≤_}
+use mathlib.Core.Path.{_≡_}
 use mathlib.Core.Bool.{cond}
-use mathlib.Core.List.{List}
+use mathlib.Core.List.{List, _++_, map}
 use lib.Dec.{ltb}
 use lib.ListN.{length, getD}
 
@@ -17,6 +18,17 @@ InTable m b = b < 0xfd → b < length m
 abbrev pub AllIn : List ℕ → List ℕ → Type 0
 AllIn m vs = (i : ℕ) → i < length vs → InTable m (getD vs i 0)
 
--- the first k of the list l are cells, and the table has a place for what each holds
-abbrev pub LastsIn : List ℕ → List ℕ → List ℕ → ℕ → Type 0
-LastsIn m cs l k = (i : ℕ) → i < k → (getD l i 0 < length cs) × InTable m (getD cs (getD l i 0) 0)
+-- each of the list is a cell, and the table has a place for what it holds
+abbrev pub LastsIn : List ℕ → List ℕ → List ℕ → Type 0
+LastsIn m cs last = (i : ℕ) → i < length last → (getD last i 0 < length cs) × InTable m (getD cs (getD last i 0) 0)
+
+-- the pointers ps, and what the cells `last` hold, in terms of nodes
+abbrev pub foldedBytes : List ℕ → List ℕ → List ℕ → List ℕ → List ℕ
+foldedBytes m ps cs last = map (foldByte m) ps ++ map (λ c. foldByte m (getD cs c 0)) last
+
+-- six pointers, the last cells of the segments, each cell's node, and room for the bytes of both
+pub record FoldReady (ps cs last m shape : List ℕ) : Type 0 where
+  pub six : length ps ≡ 6
+  pub pointers : AllIn m ps
+  pub lasts : LastsIn m cs last
+  pub room : 6 + length last ≤ length shape

@@ -1,2 +1,3 @@
 pub mod Cut
 pub mod Fold
+pub mod Shape

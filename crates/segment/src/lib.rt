@@ -3,9 +3,9 @@ use model::Node;
 ghost use mathlib.Core.Path.{_≡_};
 ghost use mathlib.Core.List.{_++_, map};
 ghost use Prim.Native.Nat.{_+_, _-_, _<_, _≤_};
-ghost use lib.ListN.{length, getD, take, drop};
-ghost use Rattle.segment.specs.Cut.{CutReady, Entered, IsCut, Put, PutReady, heldCore, segs};
-ghost use Rattle.segment.specs.Fold.{foldByte, AllIn, LastsIn};
+ghost use lib.ListN.{length, getD, drop};
+ghost use Rattle.segment.specs.Cut.{CutReady, Entered, IsCut, Put, PutReady, heldCore, segs, cutTables};
+ghost use Rattle.segment.specs.Fold.{foldByte, foldedBytes, AllIn, FoldReady, LastsIn};
 
 // The node of the last of k segments.
 fn last_node(k: usize) -> Node
@@ -18,7 +18,9 @@ fn last_node(k: usize) -> Node
 // The segment of node n begins with the cell.
 fn begin(head: u8, n: Node, node: &mut [u8], last: &mut [u8], size: &mut [u32])
     requires { ⌜ (head < length (now node)) × (n .0 < length (now last)) × (n .0 < length (now size)) ⌝ }
-    ensures { λ _. ⌜ Entered head (n .0) 1 (now (node .entry)) (now (last .entry)) (now (size .entry)) (now (node .exit)) (now (last .exit)) (now (size .exit)) ⌝ }
+    ensures { λ _. ⌜ Entered head (n .0) 1
+        (cutTables (now (node .entry)) (now (last .entry)) (now (size .entry)))
+        (cutTables (now (node .exit)) (now (last .exit)) (now (size .exit))) ⌝ }
 {
     let j = n.0 as usize;
     node[head as usize] = n.0;
@@ -28,8 +30,11 @@ fn begin(head: u8, n: Node, node: &mut [u8], last: &mut [u8], size: &mut [u32])
 
 // The cell goes behind the segment of node n.
 fn extend(c: u8, n: Node, node: &mut [u8], last: &mut [u8], size: &mut [u32])
-    requires { ⌜ (c < length (now node)) × (n .0 < length (now last)) × (n .0 < length (now size)) × (getD (now size) (n .0) 0 < 240) ⌝ }
-    ensures { λ _. ⌜ Entered c (n .0) (getD (now (size .entry)) (n .0) 0 + 1) (now (node .entry)) (now (last .entry)) (now (size .entry)) (now (node .exit)) (now (last .exit)) (now (size .exit)) ⌝ }
+    requires { ⌜ (c < length (now node)) × (n .0 < length (now last)) × (n .0 < length (now size))
+        × (getD (now size) (n .0) 0 < 240) ⌝ }
+    ensures { λ _. ⌜ Entered c (n .0) (getD (now (size .entry)) (n .0) 0 + 1)
+        (cutTables (now (node .entry)) (now (last .entry)) (now (size .entry)))
+        (cutTables (now (node .exit)) (now (last .exit)) (now (size .exit))) ⌝ }
 {
     let j = n.0 as usize;
     node[c as usize] = n.0;
@@ -39,8 +44,10 @@ fn extend(c: u8, n: Node, node: &mut [u8], last: &mut [u8], size: &mut [u32])
 
 // One cell more, where k segments have begun: a core cell begins one, any other goes behind the last.
 fn put(c: u8, k: usize, held: &[u8], node: &mut [u8], last: &mut [u8], size: &mut [u32]) -> usize
-    requires { ⌜ PutReady c k (now held) (now node) (now last) (now size) ⌝ }
-    ensures { λ r. ⌜ Put (heldCore (now (held .entry)) c) c k (now (node .entry)) (now (last .entry)) (now (size .entry)) (now (node .exit)) (now (last .exit)) (now (size .exit)) r ⌝ }
+    requires { ⌜ PutReady c k (now held) (cutTables (now node) (now last) (now size)) ⌝ }
+    ensures { λ r. ⌜ Put (heldCore (now (held .entry)) c) c k
+        (cutTables (now (node .entry)) (now (last .entry)) (now (size .entry)))
+        (cutTables (now (node .exit)) (now (last .exit)) (now (size .exit))) r ⌝ }
 {
     if 2 <= held[c as usize] {
         begin(c, Node(k as u8), node, last, size);
@@ -50,23 +57,17 @@ fn put(c: u8, k: usize, held: &[u8], node: &mut [u8], last: &mut [u8], size: &mu
     k
 }
 
-// Cuts the first n cells of the order before each core cell. Of each segment it keeps the last cell and the size, of each
-// cell the number of its segment, and it answers how many segments there are. Sizes past these stay.
-pub fn cut(
-    order: &[u8],
-    n: usize,
-    held: &[u8],
-    node: &mut [u8],
-    last: &mut [u8],
-    size: &mut [u32],
-) -> usize
-    requires { ⌜ CutReady (now order) n (now held) (now node) (now last) (now size) ⌝ }
-    ensures { λ r. ⌜ IsCut (segs (now (held .entry)) (take n (now (order .entry)))) (now (node .exit)) (now (last .exit)) (now (size .exit)) r ⌝ }
+// Cuts the order before each core cell. Of each segment it keeps the last cell and the size, of each cell the number
+// of its segment, and it answers how many segments there are. Sizes past these stay.
+pub fn cut(order: &[u8], held: &[u8], node: &mut [u8], last: &mut [u8], size: &mut [u32]) -> usize
+    requires { ⌜ CutReady (now order) (now held) (cutTables (now node) (now last) (now size)) ⌝ }
+    ensures { λ r. ⌜ IsCut (segs (now (held .entry)) (now (order .entry)))
+        (cutTables (now (node .exit)) (now (last .exit)) (now (size .exit))) r ⌝ }
     ensures past { λ r. ⌜ drop r (now (size .exit)) ≡ drop r (now (size .entry)) ⌝ }
 {
     let mut k = 0;
     let mut i = 0;
-    while i < n {
+    while i < order.len() {
         k = put(order[i], k, held, node, last, size);
         i += 1;
     }
@@ -84,7 +85,8 @@ pub fn fold_byte(b: u8, node: &[u8]) -> u8
 // The values, each in terms of nodes.
 pub fn fold_values(values: &[u8], node: &[u8], to: &mut [u8])
     requires { ⌜ (length (now values) ≤ length (now to)) × AllIn (now node) (now values) ⌝ }
-    ensures { λ _. ⌜ now (to .exit) ≡ map (foldByte (now (node .entry))) (now (values .entry)) ++ drop (length (now (values .entry))) (now (to .entry)) ⌝ }
+    ensures { λ _. ⌜ now (to .exit) ≡ map (foldByte (now (node .entry))) (now (values .entry))
+        ++ drop (length (now (values .entry))) (now (to .entry)) ⌝ }
 {
     let mut i = 0;
     while i < values.len() {
@@ -93,15 +95,28 @@ pub fn fold_values(values: &[u8], node: &[u8], to: &mut [u8])
     }
 }
 
-// What the first k of the cells `last` hold, in terms of nodes.
-pub fn fold_successors(cells: &[u8], last: &[u8], k: usize, node: &[u8], to: &mut [u8])
-    requires { ⌜ (k ≤ length (now last)) × (k ≤ length (now to)) × LastsIn (now node) (now cells) (now last) k ⌝ }
-    ensures { λ _. ⌜ now (to .exit) ≡ map (λ c. foldByte (now (node .entry)) (getD (now (cells .entry)) c 0)) (take k (now (last .entry))) ++ drop k (now (to .entry)) ⌝ }
+// What the cells `last` hold, in terms of nodes.
+pub fn fold_successors(cells: &[u8], last: &[u8], node: &[u8], to: &mut [u8])
+    requires { ⌜ (length (now last) ≤ length (now to)) × LastsIn (now node) (now cells) (now last) ⌝ }
+    ensures { λ _. ⌜ now (to .exit)
+        ≡ map (λ c. foldByte (now (node .entry)) (getD (now (cells .entry)) c 0)) (now (last .entry))
+        ++ drop (length (now (last .entry))) (now (to .entry)) ⌝ }
 {
     let mut i = 0;
-    while i < k {
+    while i < last.len() {
         let c = last[i] as usize;
         to[i] = fold_byte(cells[c], node);
         i += 1;
     }
+}
+
+// The bytes of a shape: the six pointers, then what the last cells of the segments hold, in terms of nodes.
+pub fn fold_shape(pointers: &[u8], cells: &[u8], last: &[u8], node: &[u8], shape: &mut [u8])
+    requires { ⌜ FoldReady (now pointers) (now cells) (now last) (now node) (now shape) ⌝ }
+    ensures { λ _. ⌜ now (shape .exit)
+        ≡ foldedBytes (now (node .entry)) (now (pointers .entry)) (now (cells .entry)) (now (last .entry))
+        ++ drop (6 + length (now (last .entry))) (now (shape .entry)) ⌝ }
+{
+    fold_values(pointers, node, shape);
+    fold_successors(cells, last, node, &mut shape[6..]);
 }

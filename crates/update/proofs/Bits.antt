@@ -34,7 +34,8 @@ ones-counted (suc d) j u =
     let m = v % 2 ^ suc d in
     let low : m % 2 ≡ v % 2 = ap (λ n. v % 2 ^ n % 2) (sym (add-one d)) ∙ mod-mod-pow v d 1 in
     let next : v / 2 ≡ u / 2 ^ suc j = shr-shr u j 1 ∙ ap (λ n. u / 2 ^ n) (add-one j) in
-    let high : m / 2 ≡ u / 2 ^ suc j % 2 ^ d = ap (λ n. v % 2 ^ n / 2) (sym (add-one d)) ∙ field v d 1 ∙ ap (λ n. n % 2 ^ d) next in
+    let high : m / 2 ≡ u / 2 ^ suc j % 2 ^ d = ap (λ n. v % 2 ^ n / 2) (sym (add-one d)) ∙ field v d 1
+    ∙ ap (λ n. n % 2 ^ d) next in
     ones-step m ∙ ap₂ _+_ (low ∙ bit-counted (v % 2) (omega arith)) (ap ones high ∙ ones-counted d (suc j) u)
 
 pub masked : (u : ℕ) → bitAnd u 0x0fff ≡ u % 4096
@@ -65,7 +66,8 @@ lowest-pow (suc d) n p h =
     let h' : n < 2 ^ d * 2 = rw pow-suc at h in
     each (n % 2) refl (λ q. lowest-pow d (n / 2) q (omega arith))
   where
-    each : (b : ℕ) → n % 2 ≡ b → (0 < n / 2 → 2 ^ trailingZeros d (n / 2) ≤ n / 2) → 2 ^ under b (trailingZeros d (n / 2)) ≤ n
+    each : (b : ℕ) → n % 2 ≡ b → (0 < n / 2 → 2 ^ trailingZeros d (n / 2) ≤ n / 2)
+        → 2 ^ under b (trailingZeros d (n / 2)) ≤ n
     each zero e ih = rw pow-suc (omega (arith, ih (omega arith)))
     each (suc b) e ih = omega arith
 
@@ -77,16 +79,20 @@ added-lowest d n [] l p h = absurd (omega arith)
 added-lowest zero n (c ∷ cs) l p h = absurd (omega arith)
 added-lowest (suc d) n (c ∷ cs) l p h =
     let h' : n < 2 ^ length cs * 2 = rw pow-suc at h in
-    each (n % 2) refl (λ q. lowest-pow d (n / 2) q (below q)) (λ q. added-lowest d (n / 2) cs (omega arith) q (omega arith))
+    each (n % 2) refl (λ q. lowest-pow d (n / 2) q (below q)) (λ q. added-lowest d (n / 2) cs (omega arith) q
+    (omega arith))
   where
     below : 0 < n / 2 → n / 2 < 2 ^ d
-    below q = let h' : n < 2 ^ length cs * 2 = rw pow-suc at h in let m : 2 ^ length cs ≤ 2 ^ d = pow-mono (omega arith) in omega arith
+    below q = let h' : n < 2 ^ length cs * 2 = rw pow-suc at h in let m : 2 ^ length cs ≤ 2 ^ d =
+        pow-mono (omega arith) in omega arith
 
     each : (b : ℕ) → n % 2 ≡ b → (0 < n / 2 → 2 ^ trailingZeros d (n / 2) ≤ n / 2)
-        → (0 < n / 2 → added (n / 2) cs ≡ getD cs (trailingZeros d (n / 2)) 0 + added (n / 2 - 2 ^ trailingZeros d (n / 2)) cs)
+        → (0 < n / 2 → added (n / 2) cs ≡ getD cs (trailingZeros d (n / 2)) 0 + added
+        (n / 2 - 2 ^ trailingZeros d (n / 2)) cs)
         → n % 2 * c + added (n / 2) cs
         ≡ getD (c ∷ cs) (under b (trailingZeros d (n / 2))) 0
-        + ((n - 2 ^ under b (trailingZeros d (n / 2))) % 2 * c + added ((n - 2 ^ under b (trailingZeros d (n / 2))) / 2) cs)
+        + ((n - 2 ^ under b (trailingZeros d (n / 2))) % 2 * c + added
+        ((n - 2 ^ under b (trailingZeros d (n / 2))) / 2) cs)
     each zero e within ih =
         let q : 0 < n / 2 = omega arith in
         let w = 2 ^ trailingZeros d (n / 2) in
@@ -107,7 +113,8 @@ module _ (n : ℕ) (p : 0 < n) (h : n < 4096) where
   lowest-within = lowest-pow 16 n p (omega arith)
 
   pub lowest-small : trailingZeros 16 n < 12
-  lowest-small = lt-of-not-le (λ k. let m : 2 ^ 12 ≤ 2 ^ trailingZeros 16 n = pow-mono k in omega (arith, lowest-within))
+  lowest-small = lt-of-not-le (λ k. let m : 2 ^ 12 ≤ 2 ^ trailingZeros 16 n = pow-mono k in
+      omega (arith, lowest-within))
 
   -- the bit that a shift makes
   pub lowest-bit : (1 * 2 ^ trailingZeros 16 n) % 2 ^ 16 ≡ 2 ^ trailingZeros 16 n
@@ -115,7 +122,8 @@ module _ (n : ℕ) (p : 0 < n) (h : n < 4096) where
       let one : 1 < 2 ^ 1 = omega arith in
       shl-exact 1 (trailingZeros 16 n) 16 one (omega (arith, lowest-small)) ∙ omega arith
 
-  pub lowest-added : (cs : List ℕ) → length cs ≡ 12 → added n cs ≡ getD cs (trailingZeros 16 n) 0 + added (n - 2 ^ trailingZeros 16 n) cs
+  pub lowest-added : (cs : List ℕ) → length cs ≡ 12 → added n cs ≡ getD cs (trailingZeros 16 n) 0 + added
+      (n - 2 ^ trailingZeros 16 n) cs
   lowest-added cs l = added-lowest 16 n cs (omega arith) p (rw l h)
 
 -- ---- a bound on a sum of counters of 32 bits
@@ -124,7 +132,8 @@ pub added-most : (m : ℕ) (cs : List ℕ) → ((i : ℕ) → getD cs i 0 < 2 ^ 
 added-most m [] h = omega arith
 added-most m (c ∷ cs) h = each (m % 2) (omega arith) (added-most (m / 2) cs (λ i. h (suc i)))
   where
-    each : (b : ℕ) → b < 2 → added (m / 2) cs ≤ 4294967295 * length cs → b * c + added (m / 2) cs ≤ 4294967295 * suc (length cs)
+    each : (b : ℕ) → b < 2 → added (m / 2) cs ≤ 4294967295 * length cs → b * c + added (m / 2) cs ≤ 4294967295 * suc
+        (length cs)
     each zero k e = omega arith
     each (suc zero) k e = omega (arith, h 0)
     each (suc (suc b)) k e = absurd (omega arith)

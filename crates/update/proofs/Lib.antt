@@ -1,1 +1,4 @@
 pub mod Bits
+pub mod Sums
+pub mod Codes
+pub mod Updates

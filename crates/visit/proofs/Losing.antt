@@ -1,4 +1,5 @@
--- The search for a lost cell, turn by turn: a cell in use without a mark is one, any other leaves it to the cells after.
+-- The search for a lost cell, turn by turn: a cell in use without a mark is one, any other leaves it to the cells
+-- after.
 use Prim.Native.Nat.{ℕ, _+_, suc, _<_, _≤_}
 use native.Mathlib.Numerals.{add-one}
 use mathlib.Core.Path.{_≡_, refl, sym, ap, _∙_}
@@ -8,8 +9,8 @@ use lib.Dec.{eqb}
 use lib.ListN.{length, getD, drop}
 use Rattle.model.specs.Heap.{Slot, eachUsed}
 use Rattle.model.specs.Image.{cellSlot}
-use Rattle.model.proofs.Logic.{bool-case}
-use Rattle.model.proofs.Slices.{map-end, map-step}
+use Rattle.model.proofs.lists.Logic.{bool-case}
+use Rattle.model.proofs.lists.Slices.{map-end, map-step}
 use Rattle.visit.specs.Steps.{lostAt}
 
 -- the cell has a mark
@@ -20,13 +21,17 @@ hasMark s c = not (eqb (getD s c 0) 0)
 abbrev pub keptFrom : List ℕ → List ℕ → ℕ → Bool
 keptFrom s cs i = eachUsed (hasMark s) i (map cellSlot (drop i cs))
 
-each-step : (s : List ℕ) (i b : ℕ) (ss : List Slot) → eachUsed (hasMark s) i (cellSlot b ∷ ss) ≡ not (lostAt b (getD s i 0)) && eachUsed (hasMark s) (suc i) ss
+each-step : (s : List ℕ) (i b : ℕ) (ss : List Slot) → eachUsed (hasMark s) i (cellSlot b ∷ ss)
+    ≡ not (lostAt b (getD s i 0)) && eachUsed (hasMark s) (suc i) ss
 each-step s i b ss = bool-case (eqb b 0xfd) (λ t. rw t) (λ f. rw f)
 
-kept-step : (s cs : List ℕ) (i : ℕ) → i < length cs → keptFrom s cs i ≡ not (lostAt (getD cs i 0) (getD s i 0)) && keptFrom s cs (i + 1)
+kept-step : (s cs : List ℕ) (i : ℕ) → i < length cs → keptFrom s cs i ≡ not (lostAt (getD cs i 0) (getD s i 0))
+    && keptFrom s cs (i + 1)
 kept-step s cs i h =
-    ap (eachUsed (hasMark s) i) (map-step cellSlot cs i h) ∙ each-step s i (getD cs i 0) (map cellSlot (drop (i + 1) cs))
-    ∙ ap (λ k. not (lostAt (getD cs i 0) (getD s i 0)) && eachUsed (hasMark s) k (map cellSlot (drop (i + 1) cs))) (sym (add-one i))
+    ap (eachUsed (hasMark s) i) (map-step cellSlot cs i h)
+    ∙ each-step s i (getD cs i 0) (map cellSlot (drop (i + 1) cs))
+    ∙ ap (λ k. not (lostAt (getD cs i 0) (getD s i 0)) && eachUsed (hasMark s) k (map cellSlot (drop (i + 1) cs)))
+    (sym (add-one i))
 
 -- one cell more: it, and what was kept before it
 pub kept-more : (s cs : List ℕ) (i : ℕ) (before : Bool) → i < length cs

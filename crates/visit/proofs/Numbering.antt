@@ -12,16 +12,19 @@ use Rattle.model.specs.Base.{all, numbers, sameList}
 use Rattle.model.specs.Heap.{kept, order}
 use Rattle.model.specs.Image.{cellSlot, heapOf}
 use Rattle.model.specs.Shape.{allCore, canonical, core, numbered}
-use Rattle.visit.specs.Laws.{visited-length}
-use Rattle.visit.specs.ListLaws.{all-both, numbered-by, numbered-length, numbers-same}
+use Rattle.visit.proofs.Laws.{visited-length}
+use Rattle.visit.proofs.ListLaws.{all-both, numbered-by, numbered-length, numbers-same}
 use Rattle.visit.specs.Steps.{placed}
 use Rattle.visit.specs.Visit.{Visited}
 
 -- the order leaves a cell out
-pub not-numbered : {ps cs o s : List ℕ} {r : ℕ} → Visited ps cs o s r → length cs ≤ length o → (r ≡ length cs → ⊥) → canonical (heapOf ps cs) ≡ false
+pub not-numbered : {ps cs o s : List ℕ} {r : ℕ} → Visited ps cs o s r → length cs ≤ length o → (r ≡ length cs → ⊥)
+    → canonical (heapOf ps cs) ≡ false
 not-numbered {ps = ps} {cs = cs} {r = r} x k ne =
-    let n : length (order (heapOf ps cs)) ≡ length (map cellSlot cs) → ⊥ = λ e. ne (sym (visited-length x k) ∙ e ∙ length-map cs cellSlot) in
-    ap (λ b. (kept (heapOf ps cs) && allCore (heapOf ps cs)) && b) (numbered-length (order (heapOf ps cs)) (length (map cellSlot cs)) n)
+    let n : length (order (heapOf ps cs)) ≡ length (map cellSlot cs) → ⊥ =
+    λ e. ne (sym (visited-length x k) ∙ e ∙ length-map cs cellSlot) in
+    ap (λ b. (kept (heapOf ps cs) && allCore (heapOf ps cs)) && b)
+    (numbered-length (order (heapOf ps cs)) (length (map cellSlot cs)) n)
     ∙ and-false (kept (heapOf ps cs) && allCore (heapOf ps cs))
 
 pub not-kept : (ps cs : List ℕ) → kept (heapOf ps cs) ≡ false → canonical (heapOf ps cs) ≡ false
@@ -40,7 +43,8 @@ module _ {ps cs o s : List ℕ} {r : ℕ} (x : Visited ps cs o s r) (k : length 
   numbered-placed =
       let l : length (take r o) ≡ r = length-take-le r o (omega arith) in
       ap₂ (λ a n. sameList eqb a (numbers 0 n)) (sym (x .visited)) (count-is ∙ sym l)
-      ∙ numbered-by (λ c. getD o c 0) (take r o) 0 (λ j q. let i : j < r = omega arith in rw (zero-add j) (getD-take r o j 0 i))
+      ∙ numbered-by (λ c. getD o c 0) (take r o) 0 (λ j q. let i : j < r = omega arith in
+      rw (zero-add j) (getD-take r o j 0 i))
       ∙ ap (λ n. all (λ c. eqb (getD o c 0) c) (numbers 0 n)) l
 
   pub canonical-placed : kept (heapOf ps cs) ≡ true → canonical (heapOf ps cs) ≡ all (placed o s) (numbers 0 r)

@@ -13,13 +13,13 @@ use Rattle.model.specs.Base.{mem}
 use Rattle.model.specs.Heap.{Val, cell, null, undef, Slot, holds, closed, order}
 use Rattle.model.specs.Image.{heapOf}
 use Rattle.model.specs.Records.{valOf}
-use Rattle.model.proofs.Bytes.{val-cell}
-use Rattle.model.proofs.Facts.{test-closed, test-kept}
-use Rattle.model.proofs.Logic.{bool-case, clash, eq-case, mem-append, mem-append-r, mem-here, not-true}
-use Rattle.model.proofs.Order.{nodup-snoc, pigeon, tours-same, toured, used-snoc}
-use Rattle.model.proofs.Slices.{map-end, map-step}
-use Rattle.model.proofs.Walks.{Closed, Tours, Used, Walks, at-null, at-seen, at-undef, go, tour-done, tour-more}
-use Rattle.visit.specs.ByteLaws.{cell-val, slot-val, used-few}
+use Rattle.model.proofs.records.Bytes.{val-cell}
+use Rattle.model.proofs.expansion.Facts.{test-closed, test-kept}
+use Rattle.model.proofs.lists.Logic.{bool-case, clash, eq-case, mem-append, mem-append-r, mem-here, not-true}
+use Rattle.model.proofs.visits.Order.{nodup-snoc, pigeon, tours-same, toured, used-snoc}
+use Rattle.model.proofs.lists.Slices.{map-end, map-step}
+use Rattle.model.specs.Notions.{Closed, Tours, Used, Walks, at-null, at-seen, at-undef, go, tour-done, tour-more}
+use Rattle.visit.proofs.ByteLaws.{cell-val, slot-val, used-few}
 use Rattle.visit.specs.Steps.{Alike, Visiting, Walked, heldBy, slotAt}
 use Rattle.visit.specs.Visit.{VisitReady, Visited}
 use Rattle.visit.proofs.Counting.{held-core, pointing}
@@ -33,14 +33,16 @@ walk-none nx l (cell c) h = absurd (h c refl)
 
 -- a value past the last cell is null or undefined
 pub walk-past : (cs l : List ℕ) (v : ℕ) → Closed (slotAt cs) (valOf v) → length cs ≤ v → Walks (slotAt cs) l (valOf v) l
-walk-past cs l v k h = walk-none (slotAt cs) l (valOf v) (λ c e. let q = used-few cs c (rw e at k) in let p = cell-val v c e in omega arith)
+walk-past cs l v k h = walk-none (slotAt cs) l (valOf v) (λ c e. let q = used-few cs c (rw e at k) in let p =
+    cell-val v c e in omega arith)
 
 pub walk-seen : (cs l : List ℕ) (v : ℕ) → v < 0xfe → mem v l ≡ true → Walks (slotAt cs) l (valOf v) l
 walk-seen cs l v h m = rw (val-cell v (λ e. omega arith) (λ e. omega arith)) (at-seen m)
 
 -- ---- one cell more
 
-module _ {cs o s : List ℕ} {n : ℕ} (x : Visiting cs o s n) (v : ℕ) (k : Closed (slotAt cs) (valOf v)) (h : v < length cs) where
+module _ {cs o s : List ℕ} {n : ℕ} (x : Visiting cs o s n) (v : ℕ) (k : Closed (slotAt cs) (valOf v))
+    (h : v < length cs) where
   small : v < 0xfe
   small = let f = x .few in omega arith
 
@@ -80,9 +82,11 @@ module _ {cs o s : List ℕ} {n : ℕ} (x : Visiting cs o s n) (v : ℕ) (k : Cl
   next-closed = subst (Closed (slotAt cs)) next-val (x .nexts v (in-use .0) (in-use .1))
 
   pub put-behind : getD s v 0 ≡ 0 → take (n + 1) (set o n v) ≡ take n o ++ v ∷ []
-  put-behind e = let p = place-left e in let r = x .room in let q : n < length o = omega arith in rw add-one (take-suc-set o n v q)
+  put-behind e = let p = place-left e in let r = x .room in let q : n < length o = omega arith in
+      rw add-one (take-suc-set o n v q)
 
-  pub walk-go : getD s v 0 ≡ 0 → (t : List ℕ) → Walks (slotAt cs) (take (n + 1) (set o n v)) (valOf (getD cs v 0)) t → Walks (slotAt cs) (take n o) (valOf v) t
+  pub walk-go : getD s v 0 ≡ 0 → (t : List ℕ) → Walks (slotAt cs) (take (n + 1) (set o n v)) (valOf (getD cs v 0)) t
+      → Walks (slotAt cs) (take n o) (valOf v) t
   walk-go e t w = rw is-cell (go (marked-new e) (in-use .1 ∙ ap holds next-val) (rw (put-behind e) at w))
 
   module _ (m : ℕ) (p : 1 ≤ m) where
@@ -91,8 +95,15 @@ module _ {cs o s : List ℕ} {n : ℕ} (x : Visiting cs o s n) (v : ℕ) (k : Cl
         let q = x .marks in
         eq-case c v
         (λ e. let b : v < length s = omega arith in
-        rw (e, getD-set-same s v m 0 b, mem-append-r v (take n o) (v ∷ []) (mem-here v [])) (ne-eqb m 0 (λ z. omega arith)))
-        (λ f. rw (getD-set-other s v c m 0 (eqb-false c v f), mem-append c (take n o) (v ∷ []), f, or-false (mem c (take n o))) (x .marked c i))
+        rw (e, getD-set-same s v m 0 b, mem-append-r v (take n o) (v ∷ []) (mem-here v []))
+        (ne-eqb m 0 (λ z. omega arith)))
+        (λ f. rw (
+          getD-set-other s v c m 0 (eqb-false c v f),
+          mem-append c (take n o) (v ∷ []),
+          f,
+          or-false
+              (mem c (take n o)),
+        ) (x .marked c i))
 
     pub visiting-more : getD s v 0 ≡ 0 → Visiting cs (set o n v) (set s v m) (n + 1)
     visiting-more e = let q = place-left e in let b = put-behind e in record {
@@ -117,7 +128,8 @@ module _ {cs o s : List ℕ} {n : ℕ} (x : Visiting cs o s n) (v : ℕ) (k : Cl
       nodup = x .nodup;
       used = x .used;
       marked = λ c i. let q = x .marks in eq-case c v
-          (λ y. let b : v < length s = omega arith in rw (y, getD-set-same s v m 0 b, marked-seen e) (ne-eqb m 0 (λ z. omega arith)))
+          (λ y. let b : v < length s = omega arith in
+          rw (y, getD-set-same s v m 0 b, marked-seen e) (ne-eqb m 0 (λ z. omega arith)))
           (λ f. rw (getD-set-other s v c m 0 (eqb-false c v f)) (x .marked c i));
     }
 
@@ -137,20 +149,24 @@ visiting-none {ps = ps} {cs = cs} r = record {
 
 -- one pointer more
 pub tour-step : (ps cs l m : List ℕ) (i : ℕ) (o s : List ℕ) (n : ℕ) → i < length ps → Walked cs l m (getD ps i 0) o s n
-    → (t : List ℕ) → Tours (slotAt cs) (take n o) (map valOf (drop (i + 1) ps)) t → Tours (slotAt cs) l (map valOf (drop i ps)) t
+    → (t : List ℕ) → Tours (slotAt cs) (take n o) (map valOf (drop (i + 1) ps)) t
+    → Tours (slotAt cs) l (map valOf (drop i ps)) t
 tour-step ps cs l m i o s n h w t ts = rw (map-step valOf ps i h) (tour-more (w .walks) ts)
 
 pub tour-end : (ps cs l : List ℕ) (i : ℕ) → length ps ≤ i → Tours (slotAt cs) l (map valOf (drop i ps)) l
 tour-end ps cs l i h = rw (map-end valOf ps i h) tour-done
 
-pub visited-of : (ps cs o s : List ℕ) (n : ℕ) → closed (heapOf ps cs) ≡ true → Visiting cs o s n → Tours (slotAt cs) [] (map valOf ps) (take n o)
+pub visited-of : (ps cs o s : List ℕ) (n : ℕ) → closed (heapOf ps cs) ≡ true → Visiting cs o s n
+    → Tours (slotAt cs) [] (map valOf ps) (take n o)
     → ((c : ℕ) → c < length cs → Alike (getD s c 0) (pointing c ps + heldBy cs c (take n o))) → Visited ps cs o s n
 visited-of ps cs o s n cl x t y =
-    let e : take n o ≡ order (heapOf ps cs) = tours-same (slotAt cs) t (toured (heapOf ps cs) (test-closed (heapOf ps cs) cl) .tours) in
+    let e : take n o ≡ order (heapOf ps cs) = tours-same (slotAt cs) t
+    (toured (heapOf ps cs) (test-closed (heapOf ps cs) cl) .tours) in
     record {
       visited = e;
       few = x .counted;
       marked = λ c h. x .marked c h ∙ ap (λ l. not (mem c l)) e;
       held = λ k c h. let f = x .few in
-          held-core ps cs (take n o) (getD s c 0) c (omega arith) (x .nodup) (λ d u. rw e (test-kept (heapOf ps cs) k d u)) (y c h);
+          held-core ps cs (take n o) (getD s c 0) c (omega arith) (x .nodup)
+          (λ d u. rw e (test-kept (heapOf ps cs) k d u)) (y c h);
     }

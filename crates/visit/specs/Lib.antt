@@ -1,5 +1,2 @@
 pub mod Visit
 pub mod Steps
-pub mod ListLaws
-pub mod ByteLaws
-pub mod Laws

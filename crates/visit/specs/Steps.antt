@@ -1,4 +1,5 @@
--- What the inner functions ask and give: a value that names a cell in use, one walk, one cell of a canonical heap. Assumes nothing.
+-- What the inner functions ask and give: a value that names a cell in use, one walk, one cell of a canonical heap.
+-- Assumes nothing.
 use Prim.Native.Nat.{ℕ, _+_, _<_, _≤_}
 use mathlib.Core.Path.{_≡_}
 use mathlib.Core.Logic.{_⊎_}
@@ -11,8 +12,7 @@ use Rattle.model.specs.Heap.{Val, Slot, unused, holds}
 use Rattle.model.specs.Image.{cellSlot}
 use Rattle.model.specs.Records.{valOf}
 use Rattle.model.specs.Shape.{holdsCell}
-use Rattle.model.proofs.Logic.{NoDup}
-use Rattle.model.proofs.Walks.{AllUsed, Closed, Walks}
+use Rattle.model.specs.Notions.{NoDup, AllUsed, Closed, Walks}
 
 -- the slot of a cell of the image; past the end there is none
 abbrev pub slotAt : List ℕ → ℕ → Slot
@@ -43,11 +43,13 @@ Alike a b = (a ≡ b) ⊎ ((2 ≤ a) × (2 ≤ b))
 abbrev pub heldBy : List ℕ → ℕ → List ℕ → ℕ
 heldBy cs c l = count (holdsCell c) (map (slotAt cs) l)
 
--- the walk from the value v with the cells l seen before and the marks m; a mark counts holders: v, a pointer's value, counts twice, each next once
+-- the walk from the value v with the cells l seen before and the marks m; a mark counts holders: v, a pointer's value,
+-- counts twice, each next once
 pub record Walked (cs l m : List ℕ) (v : ℕ) (o s : List ℕ) (r : ℕ) : Type 0 where
   pub visiting : Visiting cs o s r
   pub walks : Walks (slotAt cs) l (valOf v) (take r o)
-  pub held : (c k b : ℕ) → c < length cs → Alike (getD m c 0 + (cond (eqb c v) 2 0 + k)) (b + heldBy cs c l) → Alike (getD s c 0 + k) (b + heldBy cs c (take r o))
+  pub held : (c k b : ℕ) → c < length cs → Alike (getD m c 0 + (cond (eqb c v) 2 0 + k)) (b + heldBy cs c l)
+      → Alike (getD s c 0 + k) (b + heldBy cs c (take r o))
 
 -- ---- one cell that may be lost: in use and without a mark
 abbrev pub lostAt : ℕ → ℕ → Bool

@@ -22,7 +22,8 @@ pub record VisitReady (ps cs o s : List ℕ) : Type 0 where
 abbrev pub Held : List ℕ → List ℕ → List ℕ → Type 0
 Held ps cs h = (c : ℕ) → c < length cs → leb 2 (getD h c 0) ≡ core (heapOf ps cs) c
 
--- the first r numbers of o are the cells in order of first visit, and s marks exactly these; where no cell is lost, the marks tell the core cells
+-- the first r numbers of o are the cells in order of first visit, and s marks exactly these; where no cell is lost,
+-- the marks tell the core cells
 pub record Visited (ps cs o s : List ℕ) (r : ℕ) : Type 0 where
   pub visited : take r o ≡ order (heapOf ps cs)
   pub few : r ≤ length cs

@@ -1,6 +1,6 @@
-// The visit of a heap image: the cells in order of first visit with the number of their holders, and the test for lost cells.
-// A heap image is pointer bytes and cell bytes: a cell number, 0xfe null, 0xff undefined, for a cell 0xfd not in use.
-// Each is linear in the number of cells: the mark of a cell says that it was seen, and counts its holders.
+// The visit of a heap image: the cells in order of first visit with the number of their holders, and the test for lost
+// cells. A heap image is pointer bytes and cell bytes: a cell number, 0xfe null, 0xff undefined, for a cell 0xfd not
+// in use. Each is linear in the number of cells: the mark of a cell says that it was seen, and counts its holders.
 ghost use mathlib.Core.Path.{_≡_};
 ghost use mathlib.Core.Bool.{true, not, _&&_};
 ghost use mathlib.Core.List.{map};
@@ -85,12 +85,13 @@ pub fn is_closed(pointers: &[u8], cells: &[u8]) -> bool
 
 // ---- the order of first visit
 
-// Follows nexts from the value start until null, undefined or a cell seen before. A new cell is put behind the count cells
-// of the order; the answer is how many there are then. The mark of a cell counts its holders, to 2 at most: start is what a
-// pointer holds, and a pointer counts twice.
+// Follows nexts from the value start until null, undefined or a cell seen before. A new cell is put behind the count
+// cells of the order; the answer is how many there are then. The mark of a cell counts its holders, to 2 at most:
+// start is what a pointer holds, and a pointer counts twice.
 fn walk_from(cells: &[u8], order: &mut [u8], seen: &mut [u8], count: usize, start: u8) -> usize
     requires { ⌜ WalkReady (now cells) (now order) (now seen) count start ⌝ }
-    ensures { λ r. ⌜ Walked (now (cells .entry)) (take count (now (order .entry))) (now (seen .entry)) start (now (order .exit)) (now (seen .exit)) r ⌝ }
+    ensures { λ r. ⌜ Walked (now (cells .entry)) (take count (now (order .entry))) (now (seen .entry)) start
+        (now (order .exit)) (now (seen .exit)) r ⌝ }
 {
     let mut n = count;
     let mut v = start as usize;
@@ -110,8 +111,8 @@ fn walk_from(cells: &[u8], order: &mut [u8], seen: &mut [u8], count: usize, star
     n
 }
 
-// The cells in order of first visit, one walk for each pointer in turn; `seen` then marks exactly these. Where no cell is
-// lost, the mark is 2 for a core cell and less for any other.
+// The cells in order of first visit, one walk for each pointer in turn; `seen` then marks exactly these. Where no cell
+// is lost, the mark is 2 for a core cell and less for any other.
 pub fn visit(pointers: &[u8], cells: &[u8], order: &mut [u8], seen: &mut [u8]) -> usize
     requires { ⌜ VisitReady (now pointers) (now cells) (now order) (now seen) ⌝ }
     ensures { λ r. ⌜ Visited (now (pointers .entry)) (now (cells .entry)) (now (order .exit)) (now (seen .exit)) r ⌝ }
@@ -127,7 +128,8 @@ pub fn visit(pointers: &[u8], cells: &[u8], order: &mut [u8], seen: &mut [u8]) -
 
 // ---- lost cells
 
-// Whether, beside what was kept before, a cell that holds the byte b is: it is lost where it is in use and without a mark.
+// Whether, beside what was kept before, a cell that holds the byte b is: it is lost where it is in use and without a
+// mark.
 fn kept_too(before: bool, b: u8, mark: u8) -> bool
     ensures { λ r. ⌜ r ≡ not (lostAt b mark) && before ⌝ }
 {
@@ -140,10 +142,12 @@ fn kept_too(before: bool, b: u8, mark: u8) -> bool
     before
 }
 
-// Whether every cell in use has a mark. All cells are looked at: that is quicker than to stop at the first that is lost.
+// Whether every cell in use has a mark. All cells are looked at: that is quicker than to stop at the first that is
+// lost.
 pub fn nothing_lost(cells: &[u8], seen: &[u8]) -> bool
     requires { ⌜ length (now cells) ≤ length (now seen) ⌝ }
-    ensures { λ r. ⌜ r ≡ eachUsed (λ c. not (eqb (getD (now (seen .entry)) c 0) 0)) 0 (map cellSlot (now (cells .entry))) ⌝ }
+    ensures { λ r. ⌜ r ≡ eachUsed (λ c. not (eqb (getD (now (seen .entry)) c 0) 0)) 0
+        (map cellSlot (now (cells .entry))) ⌝ }
 {
     let mut kept = true;
     let mut i = 0;

@@ -1,6 +1,5 @@
 pub mod ListLaws
 pub mod Through
 pub mod Opened
-pub mod Sums
-pub mod Codes
-pub mod Updates
+pub mod Ready
+pub mod Heaps

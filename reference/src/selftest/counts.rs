@@ -39,10 +39,7 @@ impl Counts {
     /// The refusals and faults that were never met, if there are any.
     pub fn never_met(&self) -> Option<String> {
         let missing = |name: &str, counts: &[u64]| -> Vec<String> {
-            (1..counts.len())
-                .filter(|&number| counts[number] == 0)
-                .map(|number| format!("{name} {number}"))
-                .collect()
+            (1..counts.len()).filter(|&number| counts[number] == 0).map(|number| format!("{name} {number}")).collect()
         };
         let mut all = missing("fault", &self.faults);
         all.extend(missing("refusal", &self.refusals));

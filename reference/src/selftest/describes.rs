@@ -15,9 +15,7 @@ pub fn describes(record: &Record, counters: &Counters, heap: &Heap) -> Result<()
         }
         let owner = owner.ok_or(format!("cell {cell} is in no segment"))?;
         if is_core(heap, cell) != (heads[owner] == cell) {
-            return Err(format!(
-                "cell {cell} is a head and not core, or the reverse"
-            ));
+            return Err(format!("cell {cell} is a head and not core, or the reverse"));
         }
     }
     first_visits(record)
@@ -58,9 +56,7 @@ fn find_heads(record: &Record, counters: &Counters, heap: &Heap) -> Result<Vec<u
             to_walk.push((node, head));
         }
     }
-    (0..nodes)
-        .map(|node| heads[node].ok_or(format!("node {node} has no head")))
-        .collect()
+    (0..nodes).map(|node| heads[node].ok_or(format!("node {node} has no head"))).collect()
 }
 
 /// The last of so many cells from a head on.
@@ -79,12 +75,7 @@ fn last_cell(heap: &Heap, head: usize, cells: u64) -> Result<usize, String> {
 }
 
 /// The node of each cell; no cell may be in two of them, or twice in one.
-fn claim_cells(
-    record: &Record,
-    counters: &Counters,
-    heap: &Heap,
-    heads: &[usize],
-) -> Result<Vec<Option<usize>>, String> {
+fn claim_cells(record: &Record, counters: &Counters, heap: &Heap, heads: &[usize]) -> Result<Vec<Option<usize>>, String> {
     let mut owners = vec![None; heap.cells.len()];
     for (node, &head) in heads.iter().enumerate() {
         let mut at = Value::Cell(head);
@@ -98,10 +89,7 @@ fn claim_cells(
             at = heap.next(cell);
         }
     }
-    if counters[node_count(record)..]
-        .iter()
-        .any(|&counter| counter != 0)
-    {
+    if counters[node_count(record)..].iter().any(|&counter| counter != 0) {
         return Err("a counter past the nodes".to_string());
     }
     Ok(owners)
@@ -109,11 +97,7 @@ fn claim_cells(
 
 fn is_core(heap: &Heap, cell: usize) -> bool {
     let held = Value::Cell(cell);
-    let holders = heap
-        .cells
-        .iter()
-        .filter(|&&next| next == Some(held))
-        .count();
+    let holders = heap.cells.iter().filter(|&&next| next == Some(held)).count();
     heap.pointers.contains(&held) || holders >= 2
 }
 

@@ -31,11 +31,7 @@ pub fn any_unused_cell(random: &mut Random, heap: &Heap) -> usize {
 /// as sound images and records have.
 pub fn draw_bytes(random: &mut Random, length: usize, most: usize) -> Vec<u8> {
     const USUAL: [u8; 8] = [0, 0, 1, 2, 3, NULL, UNDEFINED, UNUSED];
-    let length = if random.chance(80) {
-        length
-    } else {
-        random.below(most)
-    };
+    let length = if random.chance(80) { length } else { random.below(most) };
     let usual = random.chance(70);
     let mut draw = || {
         if usual {

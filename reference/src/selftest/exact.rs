@@ -27,10 +27,7 @@ fn starting_shapes_come_first(automaton: &Automaton, routine: &Routine) -> Resul
     Ok(())
 }
 
-fn locations_are_distinct_and_sound(
-    automaton: &Automaton,
-    routine: &Routine,
-) -> Result<(), String> {
+fn locations_are_distinct_and_sound(automaton: &Automaton, routine: &Routine) -> Result<(), String> {
     let mut met = HashSet::new();
     for (number, record) in automaton.locations.iter().enumerate() {
         let sound = match record[2] {
@@ -76,11 +73,7 @@ fn locations_are_numbered_as_found(automaton: &Automaton, routine: &Routine) -> 
 /// The branches, guards and nodes that the op asks for, in order.
 fn edges_of(automaton: &Automaton, routine: &Routine, number: usize) -> Result<(), String> {
     let record = &automaton.locations[number];
-    let edges: Vec<&Edge> = automaton
-        .leaving(number)
-        .iter()
-        .map(|&edge| &automaton.edges[edge])
-        .collect();
+    let edges: Vec<&Edge> = automaton.leaving(number).iter().map(|&edge| &automaton.edges[edge]).collect();
     let guards: Vec<(u8, usize)> = edges.iter().map(|edge| (edge.guard, edge.node)).collect();
     let statement = &routine.statements[usize::from(record[1])];
     if guards != expected_guards(record, statement) {

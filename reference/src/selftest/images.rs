@@ -22,10 +22,7 @@ pub(super) struct Image {
 
 impl Image {
     pub(super) fn of(heap: &Heap, length: usize) -> Image {
-        let mut image = Image {
-            pointers: vec![0; 6],
-            cells: vec![0; length],
-        };
+        let mut image = Image { pointers: vec![0; 6], cells: vec![0; length] };
         write_image(heap, &mut image.pointers, &mut image.cells);
         image
     }
@@ -64,12 +61,7 @@ pub(super) fn due_refusal(number: u8) -> Refusal {
     Refusal { number, place: 0 }
 }
 
-fn round_trip(
-    random: &mut Random,
-    counts: &mut Counts,
-    heap: &Heap,
-    length: usize,
-) -> Result<Folded, String> {
+fn round_trip(random: &mut Random, counts: &mut Counts, heap: &Heap, length: usize) -> Result<Folded, String> {
     let folded = Image::of(heap, length).fold();
     counts.heaps += 1;
     counts.nodes = counts.nodes.max(u64::from(folded.record[3]));
@@ -77,56 +69,28 @@ fn round_trip(
     let counters = folded.counters.map(u64::from);
     describes(&folded.record, &counters, heap)?;
     let renamed = rename(random, heap, length);
-    want(
-        Image::of(&renamed, length).fold() == folded,
-        "a renamed heap folds to something else",
-    )?;
+    want(Image::of(&renamed, length).fold() == folded, "a renamed heap folds to something else")?;
     let sum = counters.iter().sum::<u64>() as usize;
     let room = random.between(sum, IMAGE_CELLS);
-    let mut image = Image {
-        pointers: vec![random.byte(); 6],
-        cells: vec![random.byte(); room],
-    };
-    let answer = unfold(
-        &folded.record,
-        &folded.counters,
-        &mut image.pointers,
-        &mut image.cells,
-    );
+    let mut image = Image { pointers: vec![random.byte(); 6], cells: vec![random.byte(); room] };
+    let answer = unfold(&folded.record, &folded.counters, &mut image.pointers, &mut image.cells);
     want(answer.is_ok(), "what was folded does not unfold")?;
-    want(
-        image.fold() == folded,
-        "what was unfolded folds to something else",
-    )?;
+    want(image.fold() == folded, "what was unfolded folds to something else")?;
     let (used, rest) = image.cells.split_at(sum);
-    want(
-        !used.contains(&UNUSED) && rest.iter().all(|&byte| byte == UNUSED),
-        "unfolding does not number the cells from 0",
-    )?;
+    want(!used.contains(&UNUSED) && rest.iter().all(|&byte| byte == UNUSED), "unfolding does not number the cells from 0")?;
     Ok(folded)
 }
 
 /// A single step on the image against the machine without a limit.
-fn single_step(
-    random: &mut Random,
-    counts: &mut Counts,
-    heap: &Heap,
-    length: usize,
-) -> Result<(), String> {
+fn single_step(random: &mut Random, counts: &mut Counts, heap: &Heap, length: usize) -> Result<(), String> {
     let record = random_statement(random, 0, STATEMENTS, 6, &[1; 12]);
-    let statement = read_statement(&record, STATEMENTS)
-        .map_err(|refusal| format!("a sound statement is refused with {refusal}"))?;
+    let statement =
+        read_statement(&record, STATEMENTS).map_err(|refusal| format!("a sound statement is refused with {refusal}"))?;
     let pick = random.next() & 3;
     let cell = random.below(length + 2);
     let mut image = Image::of(heap, length);
     let before = image.clone();
-    let stepped = step(
-        &mut image.pointers,
-        &mut image.cells,
-        &record,
-        pick,
-        cell as u64,
-    );
+    let stepped = step(&mut image.pointers, &mut image.cells, &record, pick, cell as u64);
     let refused = match statement.op {
         Op::Choose => pick > 1,
         Op::New => cell >= length || before.cells[cell] != UNUSED,
@@ -144,13 +108,7 @@ fn single_step(
         }
     };
     want(stepped == due, "a step on an image differs")?;
-    want(
-        image == Image::of(&after, length),
-        "a step leaves another image",
-    )?;
+    want(image == Image::of(&after, length), "a step leaves another image")?;
     let stays = !matches!(stepped, Stepped::Moved { .. });
-    want(
-        !stays || image == before,
-        "a step that is none changes the image",
-    )
+    want(!stays || image == before, "a step that is none changes the image")
 }

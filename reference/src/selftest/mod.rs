@@ -49,31 +49,18 @@ pub fn run(seed: u64, routines: u64) -> Result<Counts, String> {
 /// Everything about one input that passes the checks.
 fn test_routine(random: &mut Random, counts: &mut Counts, input: &[u8]) -> Result<(), String> {
     counts.routines += 1;
-    let routine = read_routine(input)
-        .map_err(|refusal| format!("a sound routine is refused: {refusal:?}"))?;
+    let routine = read_routine(input).map_err(|refusal| format!("a sound routine is refused: {refusal:?}"))?;
     let Some(full) = tables::translate_full(random, counts, input)? else {
         return Ok(());
     };
-    let automaton = Automaton::read(
-        &full.locations,
-        full.answer.locations,
-        &full.edges,
-        full.answer.edges,
-    )?;
+    let automaton = Automaton::read(&full.locations, full.answer.locations, &full.edges, full.answer.edges)?;
     counts.accepted += 1;
     counts.locations += automaton.locations.len() as u64;
     counts.edges += automaton.edges.len() as u64;
     counts.large += u64::from(automaton.locations.len() >= 200);
     counts.largest = counts.largest.max(automaton.locations.len() as u64);
     exact::test(&automaton, &routine)?;
-    tables::test_short_tables(
-        random,
-        counts,
-        input,
-        &full,
-        routine.shapes.len(),
-        &automaton,
-    )?;
+    tables::test_short_tables(random, counts, input, &full, routine.shapes.len(), &automaton)?;
     for _ in 0..3 {
         runs::follow_the_routine(random, counts, &routine, &automaton)?;
         runs::follow_the_edges(random, counts, &routine, &automaton)?;

@@ -13,12 +13,7 @@ use crate::translate::translate;
 type Due = (Vec<u8>, (u8, usize));
 
 /// Tests one change of an input; all changes take turns by `number`.
-pub fn test(
-    random: &mut Random,
-    counts: &mut Counts,
-    drawn: &Drawn,
-    number: u64,
-) -> Result<(), String> {
+pub fn test(random: &mut Random, counts: &mut Counts, drawn: &Drawn, number: u64) -> Result<(), String> {
     let (input, due) = change(random, drawn, 1 + (number % 10) as u8);
     let lengths = [random.below(3000), random.below(3000)];
     want_refusal(random, counts, &input, lengths, due)?;
@@ -79,11 +74,7 @@ fn kind(random: &mut Random, drawn: &Drawn) -> Due {
         input.extend(drawn.statements[0]);
     } else {
         let byte = random.byte();
-        let other = if byte == STATEMENT || byte == START {
-            0x4c
-        } else {
-            byte
-        };
+        let other = if byte == STATEMENT || byte == START { 0x4c } else { byte };
         input[place * RECORD] = other;
     }
     (input, (4, place))
@@ -115,11 +106,7 @@ fn statement(random: &mut Random, drawn: &Drawn, refusal: u8) -> Due {
                 // A stop has no target; a skip has one.
                 record[1] = 11;
             }
-            let field = if op.uses_second() {
-                4 + random.below(2)
-            } else {
-                4
-            };
+            let field = if op.uses_second() { 4 + random.below(2) } else { 4 };
             record[field] = random.between(count, 255) as u8;
         }
     }

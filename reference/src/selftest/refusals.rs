@@ -14,29 +14,17 @@ use crate::records::{NODES, NULL, RECORD, START, STATEMENT, UNUSED};
 fn want_image_refusal(counts: &mut Counts, image: &Image, number: u8) -> Result<(), String> {
     let refusal = due_refusal(number);
     let folded = image.fold();
-    let zero = Folded {
-        refusal: Some(refusal),
-        record: [0; RECORD],
-        counters: [0; NODES],
-    };
+    let zero = Folded { refusal: Some(refusal), record: [0; RECORD], counters: [0; NODES] };
     want(folded == zero, "a refused fold gives something else")?;
     counts.refused(number);
     let mut after = image.clone();
     // The image is looked at before the statement, which is none here.
     let stepped = step(&mut after.pointers, &mut after.cells, &[], 9, 999);
-    want(
-        stepped == Stepped::Refused(refusal),
-        "a step refuses otherwise",
-    )?;
+    want(stepped == Stepped::Refused(refusal), "a step refuses otherwise")?;
     want(after == *image, "a refused step changes the image")
 }
 
-pub fn named_wrongly(
-    random: &mut Random,
-    counts: &mut Counts,
-    heap: &Heap,
-    length: usize,
-) -> Result<(), String> {
+pub fn named_wrongly(random: &mut Random, counts: &mut Counts, heap: &Heap, length: usize) -> Result<(), String> {
     let mut image = Image::of(heap, length);
     match random.below(4) {
         0 => image.pointers.resize([0, 5, 7][random.below(3)], NULL),
@@ -51,12 +39,7 @@ pub fn named_wrongly(
     want_image_refusal(counts, &image, 13)
 }
 
-pub fn lost_cell(
-    random: &mut Random,
-    counts: &mut Counts,
-    heap: &Heap,
-    length: usize,
-) -> Result<(), String> {
+pub fn lost_cell(random: &mut Random, counts: &mut Counts, heap: &Heap, length: usize) -> Result<(), String> {
     let mut lost = heap.clone();
     let cell = lost.lowest_unused();
     if cell >= length {
@@ -95,17 +78,10 @@ fn wrong_counters(random: &mut Random, folded: &Folded) -> (Vec<u32>, usize) {
 }
 
 /// Wrong counters, and now and then something that is looked at before them.
-pub fn wrong_unfolding(
-    random: &mut Random,
-    counts: &mut Counts,
-    folded: &Folded,
-) -> Result<(), String> {
+pub fn wrong_unfolding(random: &mut Random, counts: &mut Counts, folded: &Folded) -> Result<(), String> {
     let (counters, room) = wrong_counters(random, folded);
     let mut record = folded.record.to_vec();
-    let mut image = Image {
-        pointers: vec![random.byte(); 6],
-        cells: vec![random.byte(); room],
-    };
+    let mut image = Image { pointers: vec![random.byte(); 6], cells: vec![random.byte(); room] };
     let mut due = 15;
     if random.chance(25) {
         // At least one node, and none that a pointer leads to.
@@ -129,10 +105,7 @@ pub fn wrong_unfolding(
     }
     let before = image.clone();
     let answer = unfold(&record, &counters, &mut image.pointers, &mut image.cells);
-    want(
-        answer == Err(due_refusal(due)),
-        "a wrong unfolding is refused otherwise",
-    )?;
+    want(answer == Err(due_refusal(due)), "a wrong unfolding is refused otherwise")?;
     want(image == before, "a refused unfolding writes something")?;
     counts.refused(due);
     Ok(())
@@ -153,10 +126,7 @@ pub fn any_bytes(random: &mut Random) -> Result<(), String> {
     let at_0 = |refusal: Refusal| refusal == due_refusal(refusal.number);
     let before = Image { pointers, cells };
     let folded = before.fold();
-    want(
-        folded.refusal.map_or(folded.record[0] == START, at_0),
-        "a fold tells nothing, or a place",
-    )?;
+    want(folded.refusal.map_or(folded.record[0] == START, at_0), "a fold tells nothing, or a place")?;
     let mut image = before.clone();
     let fits = match unfold(&record, &counters, &mut image.pointers, &mut image.cells) {
         Ok(()) => counters.len() == NODES,
@@ -164,13 +134,7 @@ pub fn any_bytes(random: &mut Random) -> Result<(), String> {
     };
     want(fits, "a refused unfolding writes, or has a place")?;
     let mut image = before.clone();
-    let stepped = step(
-        &mut image.pointers,
-        &mut image.cells,
-        &record,
-        random.next(),
-        random.next(),
-    );
+    let stepped = step(&mut image.pointers, &mut image.cells, &record, random.next(), random.next());
     let fits = match stepped {
         Stepped::Moved { .. } => true,
         Stepped::Refused(refusal) => at_0(refusal) && image == before,

@@ -75,15 +75,8 @@ fn start(random: &mut Random, counts: &mut Counts, routine: &Routine) -> (Runnin
     let straight = unfold_shape(shape, &counters);
     let room = straight.cells.len() + random.below(4);
     counts.runs += 1;
-    let running = Running {
-        heap: rename(random, &straight, room),
-        statement: 0,
-        fault: 0,
-    };
-    let at = Configuration {
-        location: number,
-        counters,
-    };
+    let running = Running { heap: rename(random, &straight, room), statement: 0, fault: 0 };
+    let at = Configuration { location: number, counters };
     (running, at)
 }
 
@@ -100,11 +93,7 @@ pub fn follow_the_routine(
     let mut fed = 0;
     while fed < ENTRIES {
         fed += 1;
-        let pick = if random.chance(10) {
-            random.next() | 2
-        } else {
-            random.next() & 1
-        };
+        let pick = if random.chance(10) { random.next() | 2 } else { random.next() & 1 };
         let cell = random.below(running.heap.cells.len() + 3);
         let before = running.clone();
         match running.feed(routine, pick, cell) {
@@ -128,11 +117,7 @@ pub fn follow_the_routine(
     Ok(())
 }
 
-fn take_the_only_edge(
-    automaton: &Automaton,
-    at: &mut Configuration,
-    branch: u8,
-) -> Result<(), String> {
+fn take_the_only_edge(automaton: &Automaton, at: &mut Configuration, branch: u8) -> Result<(), String> {
     let enabled: Vec<u64> = automaton
         .leaving(at.location)
         .iter()
@@ -141,9 +126,7 @@ fn take_the_only_edge(
         .filter(|&number| automaton.edges[number as usize].branch == branch)
         .collect();
     let [number] = enabled[..] else {
-        return Err(format!(
-            "a step of branch {branch} has the edges {enabled:?}"
-        ));
+        return Err(format!("a step of branch {branch} has the edges {enabled:?}"));
     };
     if automaton.feed(at, number) {
         Ok(())
@@ -175,14 +158,8 @@ pub fn follow_the_edges(
         let edge = &automaton.edges[number as usize];
         let cell = any_unused_cell(random, &running.heap);
         let fed = running.feed(routine, u64::from(edge.branch), cell);
-        if fed
-            != (Fed::Step {
-                branch: edge.branch,
-            })
-        {
-            return Err(format!(
-                "edge {number} is taken but the routine gives {fed:?}"
-            ));
+        if fed != (Fed::Step { branch: edge.branch }) {
+            return Err(format!("edge {number} is taken but the routine gives {fed:?}"));
         }
         count_step(counts, routine, &running);
         check_match(routine, automaton, &running, &at)?;
@@ -200,24 +177,13 @@ fn count_step(counts: &mut Counts, routine: &Routine, running: &Running) {
 }
 
 /// Whether routine and automaton match, by the definition and by folding.
-fn check_match(
-    routine: &Routine,
-    automaton: &Automaton,
-    running: &Running,
-    at: &Configuration,
-) -> Result<(), String> {
+fn check_match(routine: &Routine, automaton: &Automaton, running: &Running, at: &Configuration) -> Result<(), String> {
     let record = &automaton.locations[at.location];
     if record[1..3] != [running.statement, running.fault] {
-        return Err(format!(
-            "location {} is not statement {} with fault {}",
-            at.location, running.statement, running.fault
-        ));
+        return Err(format!("location {} is not statement {} with fault {}", at.location, running.statement, running.fault));
     }
     if automaton.leaving(at.location).is_empty() != running.ended(routine) {
-        return Err(format!(
-            "location {} and the routine's end differ",
-            at.location
-        ));
+        return Err(format!("location {} and the routine's end differ", at.location));
     }
     if running.fault != 0 {
         return Ok(());
@@ -226,10 +192,7 @@ fn check_match(
         .map_err(|difference| format!("location {}: {difference}", at.location))?;
     let (shape, counters) = fold_heap(&running.heap);
     if location(running.statement, &shape) != *record || counters != at.counters {
-        return Err(format!(
-            "location {} is not what folding gives",
-            at.location
-        ));
+        return Err(format!("location {} is not what folding gives", at.location));
     }
     Ok(())
 }

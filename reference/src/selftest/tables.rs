@@ -18,11 +18,7 @@ fn translate_into(random: &mut Random, input: &[u8], lengths: [usize; 2]) -> Ful
     let mut locations = vec![random.byte(); lengths[0]];
     let mut edges = vec![random.byte(); lengths[1]];
     let answer = translate(input, &mut locations, &mut edges);
-    Full {
-        answer,
-        locations,
-        edges,
-    }
+    Full { answer, locations, edges }
 }
 
 /// Translates into tables of any lengths and wants this refusal and place,
@@ -35,12 +31,7 @@ pub fn want_refusal(
     (refusal, place): (u8, usize),
 ) -> Result<(), String> {
     let full = translate_into(random, input, lengths);
-    let wanted = Translated {
-        refusal,
-        place,
-        locations: 0,
-        edges: 0,
-    };
+    let wanted = Translated { refusal, place, locations: 0, edges: 0 };
     if full.answer != wanted {
         return Err(format!("{:?} where {wanted:?} is due", full.answer));
     }
@@ -60,28 +51,12 @@ fn all_zero(full: &Full) -> Result<(), String> {
 
 /// Translates into tables with all the places there may be, or more. `None`
 /// when even these do not suffice.
-pub fn translate_full(
-    random: &mut Random,
-    counts: &mut Counts,
-    input: &[u8],
-) -> Result<Option<Full>, String> {
-    let lengths = [
-        LOCATIONS * RECORD + random.below(70),
-        EDGES * RECORD + random.below(70),
-    ];
+pub fn translate_full(random: &mut Random, counts: &mut Counts, input: &[u8]) -> Result<Option<Full>, String> {
+    let lengths = [LOCATIONS * RECORD + random.below(70), EDGES * RECORD + random.below(70)];
     let full = translate_into(random, input, lengths);
     match full.answer {
-        Translated {
-            refusal: 0,
-            place: 0,
-            ..
-        } => Ok(Some(full)),
-        Translated {
-            refusal: 11 | 12,
-            locations: 0,
-            edges: 0,
-            ..
-        } => {
+        Translated { refusal: 0, place: 0, .. } => Ok(Some(full)),
+        Translated { refusal: 11 | 12, locations: 0, edges: 0, .. } => {
             all_zero(&full)?;
             counts.refused(full.answer.refusal);
             Ok(None)
@@ -102,17 +77,13 @@ pub fn test_short_tables(
 ) -> Result<(), String> {
     let location_places = random_places(random, full.answer.locations);
     let edge_places = random_places(random, full.answer.edges);
-    let lengths = [
-        location_places * RECORD + random.below(RECORD),
-        edge_places * RECORD + random.below(RECORD),
-    ];
+    let lengths = [location_places * RECORD + random.below(RECORD), edge_places * RECORD + random.below(RECORD)];
     if let Some(due) = due_refusal(automaton, shapes, location_places, edge_places) {
         return want_refusal(random, counts, input, lengths, due);
     }
     let short = translate_into(random, input, lengths);
-    let alike = short.answer == full.answer
-        && same_bytes(&short.locations, &full.locations)
-        && same_bytes(&short.edges, &full.edges);
+    let alike =
+        short.answer == full.answer && same_bytes(&short.locations, &full.locations) && same_bytes(&short.edges, &full.edges);
     if alike {
         Ok(())
     } else {
@@ -137,12 +108,7 @@ fn same_bytes(one: &[u8], other: &[u8]) -> bool {
 }
 
 /// The refusal that so few places bring about, by the listing itself.
-fn due_refusal(
-    automaton: &Automaton,
-    shapes: usize,
-    location_places: usize,
-    edge_places: usize,
-) -> Option<(u8, usize)> {
+fn due_refusal(automaton: &Automaton, shapes: usize, location_places: usize, edge_places: usize) -> Option<(u8, usize)> {
     if location_places < shapes {
         return Some((11, location_places));
     }

@@ -85,23 +85,14 @@ pub fn into_tables(input: &[u8], location_bytes: usize, edge_bytes: usize) -> Ta
     let mut locations = vec![0xa7; location_bytes];
     let mut edges = vec![0x5b; edge_bytes];
     let answer = translate(input, &mut locations, &mut edges);
-    Tables {
-        answer,
-        locations,
-        edges,
-    }
+    Tables { answer, locations, edges }
 }
 
 /// Wants exactly these records in tables that are longer, every byte of them.
 #[track_caller]
 pub fn check_listing(records: &[Record], locations: &[Record], edges: &[Record]) {
     let got = into_tables(&input(records), 32 * 1024 + 11, 32 * 2048 + 5);
-    let want = Translated {
-        refusal: 0,
-        place: 0,
-        locations: locations.len(),
-        edges: edges.len(),
-    };
+    let want = Translated { refusal: 0, place: 0, locations: locations.len(), edges: edges.len() };
     assert_eq!(got.answer, want);
     check_table(&got.locations, locations);
     check_table(&got.edges, edges);
@@ -128,12 +119,7 @@ pub fn check_refusal(input: &[u8], refusal: u8, place: usize) {
 
 #[track_caller]
 pub fn check_refused(got: &Tables, refusal: u8, place: usize) {
-    let want = Translated {
-        refusal,
-        place,
-        locations: 0,
-        edges: 0,
-    };
+    let want = Translated { refusal, place, locations: 0, edges: 0 };
     assert_eq!(got.answer, want);
     check_table(&got.locations, &[]);
     check_table(&got.edges, &[]);

@@ -8,7 +8,7 @@ impl Draw {
         Draw(seed.wrapping_mul(0x9e37_79b9_7f4a_7c15) | 1)
     }
 
-    pub fn next(&mut self) -> u64 {
+    pub fn number(&mut self) -> u64 {
         self.0 ^= self.0 >> 12;
         self.0 ^= self.0 << 25;
         self.0 ^= self.0 >> 27;
@@ -16,7 +16,7 @@ impl Draw {
     }
 
     pub fn below(&mut self, n: usize) -> usize {
-        (self.next() % n.max(1) as u64) as usize
+        (self.number() % n.max(1) as u64) as usize
     }
 
     pub fn one_in(&mut self, n: usize) -> bool {
@@ -71,10 +71,10 @@ pub fn image(d: &mut Draw, most: usize) -> (Vec<u8>, Vec<u8>) {
 pub fn damaged_image(d: &mut Draw, most: usize) -> (Vec<u8>, Vec<u8>) {
     let (mut pointers, mut cells) = image(d, most);
     match d.below(10) {
-        0 => pointers[d.below(6)] = d.next() as u8,
+        0 => pointers[d.below(6)] = d.number() as u8,
         1 if !cells.is_empty() => {
             let at = d.below(cells.len());
-            cells[at] = d.next() as u8;
+            cells[at] = d.number() as u8;
         }
         2 if !cells.is_empty() => {
             let at = d.below(cells.len());
@@ -114,7 +114,7 @@ pub fn statement(d: &mut Draw) -> Vec<u8> {
 pub fn damage_record(d: &mut Draw, r: &mut Vec<u8>) {
     if d.one_in(10) {
         let at = if d.one_in(3) { d.below(32) } else { d.below(14) };
-        r[at] = d.next() as u8;
+        r[at] = d.number() as u8;
     } else if d.one_in(40) {
         let n = d.below(40);
         r.resize(n, 0);

@@ -79,9 +79,15 @@ fn unfolds_agree_and_fold_back() {
             _ => {}
         }
         let nc = sum as usize + [0, 0, 1, 3][d.below(4)];
-        let nc = if d.one_in(30) { nc.saturating_sub(1) } else if d.one_in(60) { 241 } else { nc.min(240) };
+        let nc = if d.one_in(30) {
+            nc.saturating_sub(1)
+        } else if d.one_in(60) {
+            241
+        } else {
+            nc.min(240)
+        };
         let np = if d.one_in(60) { d.below(9) } else { 6 };
-        let refusal = compare_unfold(&record, &counters, np, nc, d.next() as u8);
+        let refusal = compare_unfold(&record, &counters, np, nc, d.number() as u8);
         met[refusal as usize] += 1;
         if refusal == 0 && counters == whole {
             let (mut q, mut e) = (vec![0; np], vec![0; nc]);
@@ -100,7 +106,7 @@ fn steps_agree() {
     for i in 0..ROUNDS {
         let (p, c) = if d.one_in(6) { damaged_image(&mut d, sizes(i)) } else { image(&mut d, sizes(i)) };
         let r = statement(&mut d);
-        let pick = if d.one_in(5) { d.next() as u8 } else { d.below(2) as u8 };
+        let pick = if d.one_in(5) { d.number() as u8 } else { d.below(2) as u8 };
         let cell = if d.one_in(20) { usize::MAX - d.below(2) } else { d.below(c.len() + 2) };
         let (refusal, answer) = compare_step(&p, &c, &r, pick, cell);
         met[refusal as usize] += 1;

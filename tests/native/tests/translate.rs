@@ -11,7 +11,11 @@ fn compare(input: &[u8], locations: usize, edges: usize, fill: u8) -> (u8, usize
     let (mut m, mut f) = (l.clone(), e.clone());
     let ours = native::translate(input, &mut l, &mut e);
     let theirs = reference::translate(input, &mut m, &mut f);
-    assert_eq!(ours, (Refusal { number: theirs.refusal, place: theirs.place }, [theirs.locations, theirs.edges]), "translate {input:x?}");
+    assert_eq!(
+        ours,
+        (Refusal { number: theirs.refusal, place: theirs.place }, [theirs.locations, theirs.edges]),
+        "translate {input:x?}"
+    );
     assert!(l == m && e == f, "tables of {input:x?} with {locations} and {edges} bytes");
     (ours.0.number, ours.1[0])
 }
@@ -24,7 +28,7 @@ fn translations_agree() {
         match d.below(8) {
             0 => {
                 let at = d.below(input.len());
-                input[at] = d.next() as u8;
+                input[at] = d.number() as u8;
             }
             1 if d.one_in(3) => input.truncate(d.below(input.len() + 1)),
             2 if d.one_in(6) => input.extend_from_slice(&input.clone()[..32.min(input.len())]),
@@ -38,7 +42,7 @@ fn translations_agree() {
             2 => (d.below(40_000), d.below(70_000)),
             _ => (32_768, 65_536),
         };
-        let (refusal, count) = compare(&input, a, b, d.next() as u8);
+        let (refusal, count) = compare(&input, a, b, d.number() as u8);
         met[refusal as usize] += 1;
         large += u64::from(count >= 200);
     }

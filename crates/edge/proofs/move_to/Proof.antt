@@ -11,7 +11,8 @@ returns : tie.Need-returns
 returns c =
     let s = c .before .before .before .before .before .before in
     let a = s .args in
-    ap (λ t. set t 1 (a .to .0)) (c .before .before .copy .ensures .1 ∙ copied-whole (a .location .now) (a .target .now) (omega (arith, s .pre .0, s .pre .1)))
+    ap (λ t. set t 1 (a .to .0)) (c .before .before .copy .ensures .1
+    ∙ copied-whole (a .location .now) (a .target .now) (omega (arith, s .pre .0, s .pre .1)))
 
 pub move-to-spec : {M : Type 1} → statement M
 move-to-spec =

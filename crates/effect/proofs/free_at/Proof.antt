@@ -7,10 +7,13 @@ use Rattle.effect.proofs.free_at.Statement.{statement}
 use Rattle.effect.proofs.free_at.Tie as tie
 
 returns : tie.Need-returns
-returns c = let a = c .before .before .before .args in free-null (a .pointers .now) (a .cells .now) (a .at) (c .if1 .taken)
+returns c =
+    let a = c .before .before .before .args in free-null (a .pointers .now) (a .cells .now) (a .at) (c .if1 .taken)
 
 returns-2 : tie.Need-returns-2
-returns-2 c = let a = c .before .before .before .before .args in free-undef (a .pointers .now) (a .cells .now) (a .at) (c .if2 .taken)
+returns-2 c =
+    let a = c .before .before .before .before .args in
+    free-undef (a .pointers .now) (a .cells .now) (a .at) (c .if2 .taken)
 
 in-cells : tie.Need-slice-write-cells
 in-cells c =
@@ -26,9 +29,12 @@ returns-3 c =
     let a = s .args in
     let p : a .at ≡ 0xfe → ⊥ = search needs in
     let q : a .at ≡ 0xff → ⊥ = search needs in
-    rw (c .before .before .before .before .before .before .wipe-holders .ensures, c .before .before .wipe-holders2 .ensures)
+    let w = c .before .before in
+    rw (w .before .before .before .before .wipe-holders .ensures, w .wipe-holders2 .ensures)
     (free-cell (a .pointers .now) (a .cells .now) (a .at) p q (s .pre .0) (s .pre .1))
 
 pub free-at-spec : {M : Type 1} → statement M
 free-at-spec =
-    tie.close (tie.spec returns returns-2 (λ c κs. search needs) (λ c κs. search needs) in-cells (λ c. search needs) (λ c. search needs) returns-3)
+    tie.close
+    (tie.spec returns returns-2 (λ c κs. search needs) (λ c κs. search needs) in-cells (λ c. search needs)
+    (λ c. search needs) returns-3)

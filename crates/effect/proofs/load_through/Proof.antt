@@ -22,7 +22,9 @@ returns-2 c =
     let a = s .args in
     let f = c .before .before .before .before .before .before .access-fault in
     let r = c .before .before .set-pointer in
-    load-cell (a .pointers .now) (a .cells .now) (a .u .0) (a .v) (f .result) (r .result) _ (f .ensures) (search needs) (s .pre .1) (r .ensures (a .cells .now))
+    load-cell (a .pointers .now) (a .cells .now) (a .u .0) (a .v) (f .result) (r .result) _ (f .ensures) (search needs)
+    (s .pre .1) (r .ensures (a .cells .now))
 
 pub load-through-spec : {M : Type 1} → statement M
-load-through-spec = tie.close (tie.spec (λ c κs. search needs) returns in-cells (λ c κs. search needs) (λ c. search needs) returns-2)
+load-through-spec =
+    tie.close (tie.spec (λ c κs. search needs) returns in-cells (λ c κs. search needs) (λ c. search needs) returns-2)

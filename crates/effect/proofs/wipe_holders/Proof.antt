@@ -23,8 +23,13 @@ loop-again c =
     let f = wipeByte (a .c) in
     let h : l .i < length (a .list .now) = omega arith in
     let e : c .wiped .result ≡ f (getD (a .list .now) (l .i) 0) =
-    c .wiped .ensures ∙ ap (λ (r : List ℕ). f (getD r (l .i) 0)) (l .inv .2) ∙ ap f (part-at f (a .list .now) (l .i) 0 h) in
-    (omega arith, simp length-set (l .inv .1), ap₂ (λ (r : List ℕ) (v : ℕ). set r (l .i) v) (l .inv .2) e ∙ part-step f (a .list .now) (l .i) 0 h)
+    c .wiped .ensures ∙ ap (λ (r : List ℕ). f (getD r (l .i) 0)) (l .inv .2)
+    ∙ ap f (part-at f (a .list .now) (l .i) 0 h) in (
+      omega arith,
+      simp length-set (l .inv .1),
+      ap₂ (λ (r : List ℕ) (v : ℕ). set r (l .i) v) (l .inv .2) e
+          ∙ part-step f (a .list .now) (l .i) 0 h,
+    )
 
 returns : tie.Need-returns Inv-loop μ-loop
 returns c =
@@ -35,5 +40,6 @@ returns c =
 pub wipe-holders-spec : {M : Type 1} → statement M
 wipe-holders-spec =
     tie.close
-    (tie.spec Inv-loop μ-loop (λ c. search needs) (λ c. search needs) (λ c κs. search needs) (λ c. search needs) (λ c. search needs) (λ c. search needs)
+    (tie.spec Inv-loop μ-loop (λ c. search needs) (λ c. search needs) (λ c κs. search needs) (λ c. search needs)
+    (λ c. search needs) (λ c. search needs)
     loop-again (λ c. search needs) returns)

@@ -1,24 +1,19 @@
--- `explore::add_edges` meets its contract: the op and the value that it reads through tell which ways there are.
+-- `add_edges` meets its contract: the op and the value that it looks at tell how many ways there are.
 use native.Mathlib.Omega.{arith}
 use borrow.Author.Needs.{needs}
-use Rattle.explore.proofs.Here.{access-is, fields, location-wide, six-taken, ways-are}
+use Rattle.explore.proofs.LocationBytes.{counted, location-wide}
 use Rattle.explore.proofs.add_edges.Statement.{statement}
 use Rattle.explore.proofs.add_edges.Tie as tie
 
-part-access-end : tie.Need-part-access-end
-part-access-end c = omega (arith, location-wide (c .before .before .before .before .before .before .before .pre .here))
-
-access-requires : tie.Need-access-requires
-access-requires c κs =
-    let A = c .before .before .before .before .before .before .before .before .pre .here in
-    let f = fields A in
-    (f .0, f .1, f .2, six-taken A)
+part-view-end : tie.Need-part-view-end
+part-view-end c = omega (arith, location-wide (c .before .before .before .pre .here))
 
 add-ways-requires : tie.Need-add-ways-requires
 add-ways-requires c κs =
-    let s = c .before .before .before .before .before .before .before .before .before .before .before .before in
-    let v = c .before .before .before .access in
-    (s .pre, rw (c .before .before .way-count .ensures) (λ n m h A. ways-are A (v .result) (access-is (s .args .location .now) (s .args .statement .now) (v .result) (v .ensures))))
+    let v = c .before .before .before .view in
+    let k = c .before .before .way-count in
+    let p = c .before .before .before .before .before .before .before .before .pre in
+    (p, λ n s h A. counted A _ (v .ensures) (k .ensures))
 
 pub add-edges-spec : {M : Type 1} → statement M
 add-edges-spec =
@@ -26,11 +21,8 @@ add-edges-spec =
     (tie.spec
     (λ c. search needs)
     (λ c. search needs)
-    (λ c. search needs)
-    (λ c. search needs)
-    (λ c. search needs)
-    part-access-end
-    access-requires
+    part-view-end
+    (λ c κs. search needs)
     (λ c κs. search needs)
     add-ways-requires
     (λ c. search needs)

@@ -13,14 +13,17 @@ slice-aggregate-copy : tie.Need-slice-aggregate-copy
 slice-aggregate-copy c = let s = c .before .before .before in sym (length-take-le 32 (s .args .part .now) (s .pre .0))
 
 copy-requires : tie.Need-copy-requires
-copy-requires c κs = let s = c .before .before .before .before in omega (arith, length-take-le 32 (s .args .part .now) (s .pre .0), s .pre .1)
+copy-requires c κs =
+    let s = c .before .before .before .before in
+    omega (arith, length-take-le 32 (s .args .part .now) (s .pre .0), s .pre .1)
 
 returns : tie.Need-returns
 returns c =
     let s = c .before .before .before .before .before .before .before in
     let a = s .args in
     let t = take 32 (a .part .now) in
-    let short : length (a .rec .now) ≤ length t = omega (arith, length-take-le 32 (a .part .now) (s .pre .0), s .pre .1) in
+    let short : length (a .rec .now) ≤ length t =
+    omega (arith, length-take-le 32 (a .part .now) (s .pre .0), s .pre .1) in
     c .before .before .copy .ensures .1 ∙ copied-whole t (a .rec .now) short
 
 pub copy-record-spec : {M : Type 1} → statement M

@@ -9,8 +9,8 @@ use borrow.Author.Tests.{leb-true, not-true, not-false}
 use Rattle.model.specs.Base.{count}
 use Rattle.model.specs.Records.{isH}
 use Rattle.model.specs.Translate.{between, checkRecords}
-use Rattle.model.proofs.Listings.{recordsOf}
-use Rattle.model.proofs.Logic.{and-l, and-r}
+use Rattle.model.specs.Listings.{recordsOf}
+use Rattle.model.proofs.lists.Logic.{and-l, and-r}
 use Rattle.input.proofs.Outcomes.{counts-2, counts-3, counts-rest}
 use Rattle.input.proofs.Records.{counts-whole}
 use Rattle.input.proofs.check_counts.Statement.{statement}
@@ -19,13 +19,20 @@ use Rattle.input.proofs.check_counts.Tie as tie
 returns : tie.Need-returns
 returns c =
     let s = c .before .before .before .before .args .input .now in
-    let n = c .before .before .count-statements .ensures in
-    (counts-2 (recordsOf s) (ap (between 1 64) (sym n) ∙ sym (c .before .within .ensures) ∙ not-true _ (c .if1 .taken)), (omega arith, omega arith))
+    let n = c .before .before .count-statements .ensures in (
+      counts-2 (recordsOf s) (ap (between 1 64) (sym n) ∙ sym (c .before .within .ensures)
+          ∙ not-true _ (c .if1 .taken)),
+      (omega arith, omega arith),
+    )
 
 sub-shapes : tie.Need-sub-shapes
 sub-shapes c =
     let b = c .before .before .before .before in
-    omega (arith, counts-whole (b .args .input .now) (b .args .records) (b .pre .0) (b .pre .1), c .before .before .count-statements .ensures)
+    omega (
+      arith,
+      counts-whole (b .args .input .now) (b .args .records) (b .pre .0) (b .pre .1),
+      c .before .before .count-statements .ensures,
+    )
 
 returns-2 : tie.Need-returns-2
 returns-2 c =
@@ -35,7 +42,8 @@ returns-2 c =
     let m : b .args .records - c .before .before .before .before .count-statements .result ≡ count isH (recordsOf s) =
     omega (arith, counts-whole s (b .args .records) (b .pre .0) (b .pre .1), n) in (
       counts-3 (recordsOf s)
-          (ap (between 1 64) (sym n) ∙ sym (c .before .before .before .within .ensures) ∙ not-false _ (c .before .before .if1 .left))
+          (ap (between 1 64) (sym n) ∙ sym (c .before .before .before .within .ensures)
+          ∙ not-false _ (c .before .before .if1 .left))
           (ap (between 1 16) (sym m) ∙ sym (c .before .within2 .ensures) ∙ not-true _ (c .if2 .taken)),
       (omega arith, omega arith),
     )
@@ -47,7 +55,8 @@ check-records-requires c κs =
     let n = c .before .before .before .before .count-statements .ensures in
     let m = b .args .records - k in
     let w = counts-whole (b .args .input .now) (b .args .records) (b .pre .0) (b .pre .1) in
-    let e : between 1 64 k ≡ true = sym (c .before .before .before .within .ensures) ∙ not-false _ (c .before .before .if1 .left) in
+    let e : between 1 64 k ≡ true = sym (c .before .before .before .within .ensures)
+    ∙ not-false _ (c .before .before .if1 .left) in
     let f : between 1 16 m ≡ true = sym (c .before .within2 .ensures) ∙ not-false _ (c .if2 .left) in
     let p = b .pre .0 in (
       leb-true 1 k (and-l (leb 1 k) (leb k 64) e),
@@ -62,11 +71,13 @@ returns-3 c =
     let b = c .before .before .before .before .before .before .before in
     let s = b .args .input .now in
     let n = c .before .before .before .before .before .count-statements .ensures in
-    let m : b .args .records - c .before .before .before .before .before .count-statements .result ≡ count isH (recordsOf s) =
+    let m : b .args .records - c .before .before .before .before .before .count-statements .result
+    ≡ count isH (recordsOf s) =
     omega (arith, counts-whole s (b .args .records) (b .pre .0) (b .pre .1), n) in (
       c .check-records .ensures .0 ∙ ap (λ k. checkRecords k (recordsOf s)) n
           ∙ counts-rest (recordsOf s)
-          (ap (between 1 64) (sym n) ∙ sym (c .before .before .before .before .within .ensures) ∙ not-false _ (c .before .before .before .if1 .left))
+          (ap (between 1 64) (sym n) ∙ sym (c .before .before .before .before .within .ensures)
+          ∙ not-false _ (c .before .before .before .if1 .left))
           (ap (between 1 16) (sym m) ∙ sym (c .before .before .within2 .ensures) ∙ not-false _ (c .before .if2 .left)),
       c .check-records .ensures .1,
     )

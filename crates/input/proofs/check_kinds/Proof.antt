@@ -4,8 +4,8 @@ use mathlib.Core.Option.{none, some}
 use native.Mathlib.Omega.{arith}
 use borrow.Author.Needs.{needs}
 use borrow.Author.Tests.{lt-ltb, le-ltb}
-use Rattle.model.proofs.Listings.{recordsOf}
-use Rattle.input.specs.Parts.{kindFound}
+use Rattle.model.specs.Listings.{recordsOf}
+use Rattle.input.specs.RecordChecks.{kindFound}
 use Rattle.input.proofs.Outcomes.{kinds-4, kinds-rest}
 use Rattle.input.proofs.check_kinds.Statement.{statement}
 use Rattle.input.proofs.check_kinds.Tie as tie
@@ -28,8 +28,11 @@ returns-2 : tie.Need-returns-2
 returns-2 c =
     let a = c .before .before .before .before .args in
     let p = c .before .before .wrong-kind .result in
-    let f : kindFound (a .records) p ≡ none = rw (le-ltb p (a .records) (c .before .if1 .left)) in
-    (c .check-counts .ensures .0 ∙ kinds-rest (recordsOf (a .input .now)) (sym (c .before .before .wrong-kind .ensures) ∙ f), c .check-counts .ensures .1)
+    let f : kindFound (a .records) p ≡ none = rw (le-ltb p (a .records) (c .before .if1 .left)) in (
+      c .check-counts .ensures .0 ∙ kinds-rest (recordsOf (a .input .now))
+          (sym (c .before .before .wrong-kind .ensures) ∙ f),
+      c .check-counts .ensures .1,
+    )
 
 pub check-kinds-spec : {M : Type 1} → statement M
 check-kinds-spec = tie.close (tie.spec (λ c κs. search needs) returns check-counts-requires returns-2)

@@ -7,8 +7,8 @@ use lib.ListN.{drop}
 use borrow.Author.Needs.{needs}
 use Rattle.model.specs.Records.{recordAt, refusal}
 use Rattle.model.specs.Translate.{badRecord}
-use Rattle.model.proofs.Listings.{recordsOf}
-use Rattle.input.specs.Parts.{earlier}
+use Rattle.model.specs.Listings.{recordsOf}
+use Rattle.input.specs.RecordChecks.{earlier}
 use Rattle.input.proofs.Records.{records-pass, records-fail, records-pass-end}
 use Rattle.input.proofs.Shapes.{number-few}
 use Rattle.input.proofs.Outcomes.{records-bad, records-good}
@@ -17,7 +17,8 @@ use Rattle.input.proofs.check_records.Tie as tie
 
 abbrev Inv-loop : tie.InvT-loop
 Inv-loop input statements shapes records i₀ i =
-    (i ≤ records) × (badRecord statements 0 [] (recordsOf input) ≡ badRecord statements i (earlier input i) (drop i (recordsOf input)))
+    (i ≤ records) × (badRecord statements 0 [] (recordsOf input) ≡ badRecord statements i (earlier input i)
+    (drop i (recordsOf input)))
 
 abbrev μ-loop : tie.MeasureT-loop
 μ-loop input statements shapes records i₀ i = records - i
@@ -31,7 +32,8 @@ returns c =
     let k = c .before .record-refusal .result in
     let z = c .if1 .taken in (
       records-bad (a .statements) (recordsOf s) (refusal k (l .i))
-          (l .inv .1 ∙ records-fail s (a .statements + a .shapes) (omega arith) (a .statements) (l .i) k (omega arith) (sym e) z),
+          (l .inv .1 ∙ records-fail s (a .statements + a .shapes) (omega arith) (a .statements) (l .i) k (omega arith)
+          (sym e) z),
       (omega arith, omega (arith, number-few (a .statements) (earlier s (l .i)) (recordAt s (l .i)), e)),
     )
 
@@ -41,7 +43,8 @@ loop-again c =
     let l = c .before .before .before .loop in (
       omega arith,
       l .inv .1
-          ∙ records-pass (a .input .now) (a .statements + a .shapes) (omega arith) (a .statements) (l .i) (omega arith) (sym (c .before .record-refusal .ensures) ∙ c .if1 .left),
+          ∙ records-pass (a .input .now) (a .statements + a .shapes) (omega arith) (a .statements) (l .i)
+          (omega arith) (sym (c .before .record-refusal .ensures) ∙ c .if1 .left),
     )
 
 returns-2 : tie.Need-returns-2 Inv-loop μ-loop
@@ -50,7 +53,8 @@ returns-2 c =
     let s = a .input .now in
     let l = c .before .loop in (
       records-good (a .statements) (recordsOf s)
-          (l .inv .1 ∙ records-pass-end s (a .statements + a .shapes) (omega arith) (a .statements) (l .i) (omega arith)),
+          (l .inv .1 ∙ records-pass-end s (a .statements + a .shapes) (omega arith) (a .statements) (l .i)
+          (omega arith)),
       c .before .before .before .pre,
     )
 

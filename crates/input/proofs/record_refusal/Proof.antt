@@ -5,7 +5,7 @@ use native.Mathlib.Omega.{arith}
 use borrow.Author.Needs.{needs}
 use borrow.Author.Tests.{eq-eqb, ne-eqb}
 use Rattle.model.specs.Records.{recordAt}
-use Rattle.input.specs.Parts.{earlier}
+use Rattle.input.specs.RecordChecks.{earlier}
 use Rattle.input.proofs.Shapes.{refusal-by-s, refusal-by-h}
 use Rattle.input.proofs.record_refusal.Statement.{statement}
 use Rattle.input.proofs.record_refusal.Tie as tie

@@ -1,7 +1,7 @@
 -- `put_edge` meets its contract: the part that was lent is back in its place.
 use Prim.Native.Nat.{_*_}
 use borrow.Author.Needs.{needs}
-use Rattle.model.proofs.Slices.{put-back}
+use Rattle.model.proofs.lists.Slices.{put-back}
 use Rattle.record.specs.Written.{edgeBytes}
 use Rattle.record.proofs.put_edge.Statement.{statement}
 use Rattle.record.proofs.put_edge.Tie as tie
@@ -9,7 +9,8 @@ use Rattle.record.proofs.put_edge.Tie as tie
 returns : tie.Need-returns
 returns c =
     let a = c .before .before .before .before .before .before .args in
-    put-back (a .table .now) (edgeBytes (a .branch) (a .from) (a .to) (a .guard) (a .node .0) (a .updates .now) (a .k)) _ (32 * a .n) 32 (c .before .before .write-edge .ensures)
+    put-back (a .table .now) (edgeBytes (a .fields) (a .updates .now)) _ (32 * a .n) 32
+    (c .before .before .write-edge .ensures)
 
 pub put-edge-spec : {M : Type 1} → statement M
 put-edge-spec =

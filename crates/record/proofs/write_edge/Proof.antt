@@ -1,12 +1,12 @@
 -- `write_edge` meets its contract.
-use Prim.Native.Nat.{ℕ, _/_, _%_}
+use Prim.Native.Nat.{ℕ}
 use mathlib.Core.Path.{ap, _∙_}
-use mathlib.Core.List.{List, [], _∷_}
+use mathlib.Core.List.{List}
 use native.Mathlib.Omega.{arith}
 use lib.ListN.{drop, length-set}
 use lib.Seq.{sets}
 use borrow.Author.Needs.{needs}
-use Rattle.record.proofs.Bytes.{edge-is, withUpdates}
+use Rattle.record.proofs.Bytes.{edge-is, edgeHead, withUpdates}
 use Rattle.record.proofs.write_edge.Statement.{statement}
 use Rattle.record.proofs.write_edge.Tie as tie
 
@@ -15,13 +15,14 @@ same-length c = omega (arith, simp length-set at (c .before .before .write-updat
 
 returns : tie.Need-returns
 returns c =
-    let a = c .before .before .before .before .before .before .before .before .before .before .args in
-    let low = a .from % 256 in
-    let high = a .from / 256 in
+    let b = c .before .before .before .before .before .before .before .before .before .before in
+    let a = b .before .before .before .before .args in
+    let e = a .fields in
+    let us = a .updates .now in
     c .before .before .write-updates .ensures
-    ∙ ap (λ (l : List ℕ). withUpdates (sets l 0 (0x45 ∷ a .branch ∷ low ∷ high ∷ a .to % 256 ∷ a .to / 256 ∷ a .guard ∷ a .node .0 ∷ [])) (a .updates .now) (a .k))
-    (c .before .before .before .before .before .before .blank .ensures)
-    ∙ edge-is 0x45 (a .branch) low high (a .to % 256) (a .to / 256) (a .guard) (a .node .0) (a .updates .now) (drop 32 (a .part .now)) (a .k) (omega arith) (omega arith)
+    ∙ ap (λ (l : List ℕ). withUpdates (sets l 0 (edgeHead e)) us (e .nodes))
+    (b .blank .ensures)
+    ∙ edge-is e us (drop 32 (a .part .now)) (omega arith) (omega arith)
 
 pub write-edge-spec : {M : Type 1} → statement M
 write-edge-spec =

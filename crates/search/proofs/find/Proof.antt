@@ -24,14 +24,18 @@ returns c =
     let l = c .before .before .before .loop in
     let a = c .before .before .before .before .before .before .before .args in
     let h : l .i < a .count = search needs in
-    sym (l .inv .1 ∙ found-here (a .table .now) (a .rec .now) (l .i) (a .count) h (sym (c .before .same-by-key .ensures) ∙ c .if1 .taken))
+    sym (l .inv .1 ∙ found-here (a .table .now) (a .rec .now) (l .i) (a .count) h
+    (sym (c .before .same-by-key .ensures) ∙ c .if1 .taken))
 
 loop-again : tie.Need-loop-again Inv-loop μ-loop
 loop-again c =
     let l = c .before .before .before .loop in
     let a = c .before .before .before .before .before .before .before .args in
-    let h : l .i < a .count = search needs in
-    (omega arith, l .inv .1 ∙ found-next (a .table .now) (a .rec .now) (l .i) (a .count) h (sym (c .before .same-by-key .ensures) ∙ c .if1 .left))
+    let h : l .i < a .count = search needs in (
+      omega arith,
+      l .inv .1 ∙ found-next (a .table .now) (a .rec .now) (l .i) (a .count) h
+          (sym (c .before .same-by-key .ensures) ∙ c .if1 .left),
+    )
 
 returns-2 : tie.Need-returns-2 Inv-loop μ-loop
 returns-2 c =

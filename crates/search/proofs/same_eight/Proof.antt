@@ -14,7 +14,8 @@ returns c =
     let t = c .before .before .before .shared-slice-known .given in
     let r = c .before .before .shared-slice-known2 .given in
     ap₂ eqb (c .before .eight .ensures) (c .eight2 .ensures)
-    ∙ sym (eight-is (a .table .now) (a .rec .now) (λ i. omega (arith, t i)) (λ i. omega (arith, r i)) (a .at) (a .from) (s .pre .0) (s .pre .1))
+    ∙ sym (eight-is (a .table .now) (a .at) (a .rec .now) (a .from) (s .pre .0) (s .pre .1)
+    (λ i. omega (arith, t i)) (λ i. omega (arith, r i)))
 
 pub same-eight-spec : {M : Type 1} → statement M
 same-eight-spec = tie.close (tie.spec (λ c κs. search needs) (λ c κs. search needs) returns)

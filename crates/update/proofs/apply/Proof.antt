@@ -9,8 +9,10 @@ use Rattle.update.proofs.apply.Statement.{statement}
 use Rattle.update.proofs.apply.Tie as tie
 
 -- the sum is that of the counters whose bits the update has
-sum-is : (c : tie.After-sum-of) → c .sum-of .result ≡ added (c .before .before .args .update % 4096) (c .before .before .args .counters .now)
-sum-is c = c .sum-of .ensures .0 ∙ ap (λ n. added n (c .before .before .args .counters .now)) (masked (c .before .before .args .update))
+sum-is : (c : tie.After-sum-of) → c .sum-of .result ≡ added (c .before .before .args .update % 4096)
+    (c .before .before .args .counters .now)
+sum-is c = c .sum-of .ensures .0 ∙ ap (λ n. added n (c .before .before .args .counters .now))
+    (masked (c .before .before .args .update))
 
 returns : tie.Need-returns
 returns c = omega (arith, sum-is (c .before))

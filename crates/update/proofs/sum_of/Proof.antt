@@ -7,7 +7,7 @@ use lib.ListN.{getD}
 use lib.Pow.{pow-pos}
 use borrow.Author.Needs.{needs}
 use Rattle.model.specs.Runs.{added}
-use Rattle.model.proofs.Bytes.{added-none}
+use Rattle.model.proofs.records.Bytes.{added-none}
 use Rattle.update.proofs.Bits.{added-most, lowest-added, lowest-bit, lowest-small, lowest-within}
 use Rattle.update.proofs.sum_of.Statement.{statement}
 use Rattle.update.proofs.sum_of.Tie as tie
@@ -22,7 +22,8 @@ abbrev μ-loop : tie.MeasureT-loop
 small : (c : tie.In-loop Inv-loop μ-loop) → trailingZeros 16 (c .before .loop .left) < 12
 small c = lowest-small (c .before .loop .left) (c .loop-test .taken) (c .before .loop .inv .0)
 
-bit : (c : tie.In-loop Inv-loop μ-loop) → (1 * 2 ^ trailingZeros 16 (c .before .loop .left)) % 2 ^ 16 ≡ 2 ^ trailingZeros 16 (c .before .loop .left)
+bit : (c : tie.In-loop Inv-loop μ-loop) → (1 * 2 ^ trailingZeros 16 (c .before .loop .left)) % 2 ^ 16
+    ≡ 2 ^ trailingZeros 16 (c .before .loop .left)
 bit c = lowest-bit (c .before .loop .left) (c .loop-test .taken) (c .before .loop .inv .0)
 
 within : (c : tie.In-loop Inv-loop μ-loop) → 2 ^ trailingZeros 16 (c .before .loop .left) ≤ c .before .loop .left
@@ -30,7 +31,8 @@ within c = lowest-within (c .before .loop .left) (c .loop-test .taken) (c .befor
 
 -- the sum after the turn is still a part of the whole, and so it is bounded
 most : (c : tie.After-shared-slice-known Inv-loop μ-loop)
-    → c .before .before .loop .sum + getD (c .before .before .before .args .counters .now) (trailingZeros 16 (c .before .before .loop .left)) 0 ≤ 4294967295 * 12
+    → c .before .before .loop .sum + getD (c .before .before .before .args .counters .now)
+    (trailingZeros 16 (c .before .before .loop .left)) 0 ≤ 4294967295 * 12
 most c =
     let a = c .before .before .before .args in
     let l = c .before .before .loop in
@@ -42,12 +44,18 @@ sub-left : tie.Need-sub-left Inv-loop μ-loop
 sub-left c = rw (bit (c .before)) (within (c .before))
 
 loop-less : tie.Need-loop-less Inv-loop μ-loop
-loop-less c = rw (bit (c .before)) (omega (arith, within (c .before), pow-pos (trailingZeros 16 (c .before .before .loop .left))))
+loop-less c = rw (bit (c .before)) (omega (
+  arith,
+  within (c .before),
+  pow-pos
+      (trailingZeros 16 (c .before .before .loop .left)),
+))
 
 loop-again : tie.Need-loop-again Inv-loop μ-loop
 loop-again c =
     let l = c .before .before .loop in
-    let e = lowest-added (l .left) (c .before .loop-test .taken) (l .inv .0) (c .before .before .before .args .counters .now) (omega arith) in
+    let e = lowest-added (l .left) (c .before .loop-test .taken) (l .inv .0)
+    (c .before .before .before .args .counters .now) (omega arith) in
     rw (bit (c .before)) (omega arith, omega arith, most c)
 
 returns : tie.Need-returns Inv-loop μ-loop

@@ -5,7 +5,7 @@ use mathlib.Core.Path.{_≡_, ap, sym, _∙_}
 use borrow.Author.Needs.{needs}
 use borrow.Author.Tests.{eq-eqb, le-leb, lt-leb, ne-eqb}
 use Rattle.model.specs.Base.{all, numbers}
-use Rattle.visit.specs.ListLaws.{numbers-end, numbers-fail, numbers-pass}
+use Rattle.visit.proofs.ListLaws.{numbers-end, numbers-fail, numbers-pass}
 use Rattle.visit.specs.Steps.{placed}
 use Rattle.visit.proofs.all_placed.Statement.{statement}
 use Rattle.visit.proofs.all_placed.Tie as tie
@@ -30,7 +30,8 @@ returns c =
     let a = c .before .before .before .before .args in
     let l = c .before .before .before .loop in
     let h : l .i < a .n = search needs in
-    sym (l .inv ∙ numbers-fail (placed (a .order .now) (a .held .now)) (l .i) (a .n) h (rw (lt-leb _ _ (c .if1 .taken))))
+    sym (l .inv ∙ numbers-fail (placed (a .order .now) (a .held .now)) (l .i) (a .n) h
+    (rw (lt-leb _ _ (c .if1 .taken))))
 
 returns-2 : tie.Need-returns-2 Inv-loop μ-loop
 returns-2 c =
@@ -57,5 +58,6 @@ returns-3 c =
 pub all-placed-spec : {M : Type 1} → statement M
 all-placed-spec =
     tie.close
-    (tie.spec Inv-loop μ-loop loop-holds (λ c. search needs) returns (λ c. search needs) cast-if2 returns-2 (λ c. search needs)
+    (tie.spec Inv-loop μ-loop loop-holds (λ c. search needs) returns (λ c. search needs) cast-if2 returns-2
+    (λ c. search needs)
     (λ c. search needs) loop-again returns-3)

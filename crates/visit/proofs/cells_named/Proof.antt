@@ -8,13 +8,14 @@ use borrow.Author.Tests.{not-false, not-true}
 use Rattle.model.specs.Base.{all}
 use Rattle.model.specs.Heap.{slotNamed}
 use Rattle.model.specs.Image.{cellSlot}
-use Rattle.visit.specs.ListLaws.{all-end, all-fail, all-pass}
+use Rattle.visit.proofs.ListLaws.{all-end, all-fail, all-pass}
 use Rattle.visit.specs.Steps.{slotAt}
 use Rattle.visit.proofs.cells_named.Statement.{statement}
 use Rattle.visit.proofs.cells_named.Tie as tie
 
 abbrev Inv-loop : tie.InvT-loop
-Inv-loop cells i₀ i = all (slotNamed (slotAt cells)) (map cellSlot cells) ≡ all (slotNamed (slotAt cells)) (map cellSlot (drop i cells))
+Inv-loop cells i₀ i = all (slotNamed (slotAt cells)) (map cellSlot cells)
+    ≡ all (slotNamed (slotAt cells)) (map cellSlot (drop i cells))
 
 abbrev μ-loop : tie.MeasureT-loop
 μ-loop cells i₀ i = length cells - i
@@ -24,14 +25,16 @@ returns c =
     let cs = c .before .before .before .before .before .before .args .cells .now in
     let l = c .before .before .before .before .loop in
     let h : l .i < length cs = search needs in
-    sym (l .inv ∙ all-fail (slotNamed (slotAt cs)) cellSlot cs (l .i) h (sym (c .before .slot-named .ensures) ∙ not-true _ (c .if1 .taken)))
+    sym (l .inv ∙ all-fail (slotNamed (slotAt cs)) cellSlot cs (l .i) h (sym (c .before .slot-named .ensures)
+    ∙ not-true _ (c .if1 .taken)))
 
 loop-again : tie.Need-loop-again Inv-loop μ-loop
 loop-again c =
     let cs = c .before .before .before .before .before .before .args .cells .now in
     let l = c .before .before .before .before .loop in
     let h : l .i < length cs = search needs in
-    l .inv ∙ all-pass (slotNamed (slotAt cs)) cellSlot cs (l .i) h (sym (c .before .slot-named .ensures) ∙ not-false _ (c .if1 .left))
+    l .inv ∙ all-pass (slotNamed (slotAt cs)) cellSlot cs (l .i) h (sym (c .before .slot-named .ensures)
+    ∙ not-false _ (c .if1 .left))
 
 returns-2 : tie.Need-returns-2 Inv-loop μ-loop
 returns-2 c =
@@ -42,5 +45,6 @@ returns-2 c =
 pub cells-named-spec : {M : Type 1} → statement M
 cells-named-spec =
     tie.close
-    (tie.spec Inv-loop μ-loop (λ c. search needs) (λ c. search needs) (λ c κs. search needs) returns (λ c. search needs) (λ c. search needs)
+    (tie.spec Inv-loop μ-loop (λ c. search needs) (λ c. search needs) (λ c κs. search needs) returns
+    (λ c. search needs) (λ c. search needs)
     loop-again returns-2)

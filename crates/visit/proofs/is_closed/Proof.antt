@@ -14,7 +14,8 @@ returns : tie.Need-returns
 returns c =
     let a = c .before .before .before .before .before .args in
     let b = all (slotNamed (slotAt (a .cells .now))) (map cellSlot (a .cells .now)) in
-    c .cells-named .ensures ∙ ap (λ t. t && b) (sym (c .before .if1 .taken) ∙ c .before .before .pointers-named .ensures)
+    c .cells-named .ensures ∙ ap (λ t. t && b) (sym (c .before .if1 .taken)
+    ∙ c .before .before .pointers-named .ensures)
 
 returns-2 : tie.Need-returns-2
 returns-2 c =

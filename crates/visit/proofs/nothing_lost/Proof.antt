@@ -1,4 +1,5 @@
--- `visit::nothing_lost` meets its contract. The whole search gives what was kept so far and what is left of the search gives. Assumes nothing.
+-- `visit::nothing_lost` meets its contract. The whole search gives what was kept so far and what is left of the search
+-- gives. Assumes nothing.
 use Prim.Native.Nat.{_-_, _+_, _<_}
 use mathlib.Core.Path.{_≡_, refl, sym, ap, _∙_}
 use mathlib.Core.Bool.{_&&_}
@@ -31,5 +32,6 @@ returns c =
 pub nothing-lost-spec : {M : Type 1} → statement M
 nothing-lost-spec =
     tie.close
-    (tie.spec Inv-loop μ-loop (λ c. refl) (λ c. search needs) (λ c. search needs) (λ c κs. search needs) (λ c. search needs)
+    (tie.spec Inv-loop μ-loop (λ c. refl) (λ c. search needs) (λ c. search needs) (λ c κs. search needs)
+    (λ c. search needs)
     (λ c. search needs) loop-again returns)

@@ -8,13 +8,14 @@ use borrow.Author.Tests.{not-false, not-true}
 use Rattle.model.specs.Base.{all}
 use Rattle.model.specs.Heap.{named}
 use Rattle.model.specs.Records.{valOf}
-use Rattle.visit.specs.ListLaws.{all-end, all-fail, all-pass}
+use Rattle.visit.proofs.ListLaws.{all-end, all-fail, all-pass}
 use Rattle.visit.specs.Steps.{slotAt}
 use Rattle.visit.proofs.pointers_named.Statement.{statement}
 use Rattle.visit.proofs.pointers_named.Tie as tie
 
 abbrev Inv-loop : tie.InvT-loop
-Inv-loop pointers cells i₀ i = all (named (slotAt cells)) (map valOf pointers) ≡ all (named (slotAt cells)) (map valOf (drop i pointers))
+Inv-loop pointers cells i₀ i = all (named (slotAt cells)) (map valOf pointers)
+    ≡ all (named (slotAt cells)) (map valOf (drop i pointers))
 
 abbrev μ-loop : tie.MeasureT-loop
 μ-loop pointers cells i₀ i = length pointers - i
@@ -24,14 +25,16 @@ returns c =
     let a = c .before .before .before .before .before .before .before .args in
     let l = c .before .before .before .before .loop in
     let h : l .i < length (a .pointers .now) = search needs in
-    sym (l .inv ∙ all-fail (named (slotAt (a .cells .now))) valOf (a .pointers .now) (l .i) h (sym (c .before .is-named .ensures) ∙ not-true _ (c .if1 .taken)))
+    sym (l .inv ∙ all-fail (named (slotAt (a .cells .now))) valOf (a .pointers .now) (l .i) h
+    (sym (c .before .is-named .ensures) ∙ not-true _ (c .if1 .taken)))
 
 loop-again : tie.Need-loop-again Inv-loop μ-loop
 loop-again c =
     let a = c .before .before .before .before .before .before .before .args in
     let l = c .before .before .before .before .loop in
     let h : l .i < length (a .pointers .now) = search needs in
-    l .inv ∙ all-pass (named (slotAt (a .cells .now))) valOf (a .pointers .now) (l .i) h (sym (c .before .is-named .ensures) ∙ not-false _ (c .if1 .left))
+    l .inv ∙ all-pass (named (slotAt (a .cells .now))) valOf (a .pointers .now) (l .i) h
+    (sym (c .before .is-named .ensures) ∙ not-false _ (c .if1 .left))
 
 returns-2 : tie.Need-returns-2 Inv-loop μ-loop
 returns-2 c =
@@ -42,5 +45,6 @@ returns-2 c =
 pub pointers-named-spec : {M : Type 1} → statement M
 pointers-named-spec =
     tie.close
-    (tie.spec Inv-loop μ-loop (λ c. search needs) (λ c. search needs) (λ c κs. search needs) returns (λ c. search needs) (λ c. search needs)
+    (tie.spec Inv-loop μ-loop (λ c. search needs) (λ c. search needs) (λ c κs. search needs) returns
+    (λ c. search needs) (λ c. search needs)
     loop-again returns-2)

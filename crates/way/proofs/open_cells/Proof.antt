@@ -29,7 +29,8 @@ returns c =
 returns-2 : tie.Need-returns-2
 returns-2 c =
     let a = c .before .before .args in
-    rw (c .before .if1 .left, eq-eqb (a .op) 6 (c .if2 .taken)) (refl, take-push (a .cells .now) (a .k) 0xfd (omega arith))
+    rw (c .before .if1 .left, eq-eqb (a .op) 6 (c .if2 .taken))
+    (refl, take-push (a .cells .now) (a .k) 0xfd (omega arith))
 
 returns-3 : tie.Need-returns-3
 returns-3 c =

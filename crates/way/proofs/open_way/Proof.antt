@@ -14,24 +14,29 @@ use Rattle.way.proofs.open_way.Tie as tie
 
 returns : tie.Need-returns
 returns c =
-    let s = c .before .before .before .before .before .before .before .before .before .before .before .before .before .before .before .before .before .before in
+    let s = c .before .before .before .before .before .before .before .before .before .before .before .before .before
+    .before .before .before .before .before in
     let a = s .args in
     let r = a .rec .now in
     let o = c .before .before .open-cells in
     let k = byte r 3 in
     let f = take 6 (drop 4 r) in
     let g = take 12 (drop 10 r) in
-    let first = c .before .before .before .before .before .before .before .before .before .before .before .copy .ensures .1 ∙ ap (λ t. t ++ drop (length f) (a .pointers .now)) (take-length f) in
-    let second = c .before .before .before .before .before .before .copy2 .ensures .1 ∙ ap (λ t. t ++ drop (length g) (a .cells .now)) (take-length g) in
-    let ps = first ∙ ready-pointers r (a .pointers .now) (a .cells .now) (a .op) (a .node .0) (a .split) (s .pre) in
-    let cs = ap (take k) second ∙ ready-cells r (a .pointers .now) (a .cells .now) (a .op) (a .node .0) (a .split) (s .pre) in (
+    let first = c .before .before .before .before .before .before .before .before .before .before .before .copy
+    .ensures .1 ∙ ap (λ t. t ++ drop (length f) (a .pointers .now)) (take-length f) in
+    let second = c .before .before .before .before .before .before .copy2 .ensures .1
+    ∙ ap (λ t. t ++ drop (length g) (a .cells .now)) (take-length g) in
+    let ps = first ∙ ready-pointers r (a .pointers .now) (a .cells .now) (a .op) (a .way .node .0) (a .way .split)
+    (s .pre) in
+    let cs = ap (take k) second ∙ ready-cells r (a .pointers .now) (a .cells .now) (a .op) (a .way .node .0)
+    (a .way .split) (s .pre) in (
       ps,
       (
         o .ensures .0,
         (
-          omega (arith, o .ensures .0, count-most (a .split) (a .op) k, s .pre .few),
-          ap₂ heapOf ps (o .ensures .1 ∙ ap (openedBytes (a .split) (a .op) (a .node .0)) cs)
-              ∙ ready-heap r (a .pointers .now) (a .cells .now) (a .op) (a .node .0) (a .split) (s .pre),
+          omega (arith, o .ensures .0, count-most (a .way .split) (a .op) k, s .pre .few),
+          ap₂ heapOf ps (o .ensures .1 ∙ ap (openedBytes (a .way .split) (a .op) (a .way .node .0)) cs)
+              ∙ ready-heap r (a .pointers .now) (a .cells .now) (a .op) (a .way .node .0) (a .way .split) (s .pre),
         ),
       ),
     )

@@ -56,8 +56,16 @@ type Tables = (Vec<u8>, Vec<u8>);
 fn peer(input: &[u8], t: &mut Tables) -> bool {
     extern "C" {
         fn peer_translate(
-            input: *const u8, len: usize, locations: *mut u8, locations_len: usize, edges: *mut u8, edges_len: usize,
-            a: *mut u32, b: *mut u32, number: *mut u32, place: *mut u32,
+            input: *const u8,
+            len: usize,
+            locations: *mut u8,
+            locations_len: usize,
+            edges: *mut u8,
+            edges_len: usize,
+            a: *mut u32,
+            b: *mut u32,
+            number: *mut u32,
+            place: *mut u32,
         ) -> i32;
     }
     let mut n = [0u32; 4];
@@ -82,7 +90,10 @@ fn times(input: &[u8], places: usize) -> [f64; 3] {
 }
 
 fn translations() {
-    println!("\n{:<16} {:>5} {:>5} {:>12} {:>12} {:>10} {:>13} {:>9}", "", "loc.", "edges", "proved", "second", "C", "second/proved", "proved/C");
+    println!(
+        "\n{:<16} {:>5} {:>5} {:>12} {:>12} {:>10} {:>13} {:>9}",
+        "", "loc.", "edges", "proved", "second", "C", "second/proved", "proved/C"
+    );
     let dir = concat!(env!("CARGO_MANIFEST_DIR"), "/inputs");
     let mut names: Vec<_> = std::fs::read_dir(dir).unwrap().map(|f| f.unwrap().path()).collect();
     names.sort();
@@ -91,7 +102,11 @@ fn translations() {
         let (_, [locations, edges]) = native::translate(&input, &mut [0; 32_768], &mut [0; 65_536]);
         let [ours, theirs, c] = times(&input, 1024);
         let name = path.file_stem().unwrap().to_string_lossy();
-        println!("{name:<16} {locations:>5} {edges:>5} {ours:>9.0} ns {theirs:>9.0} ns {c:>7.0} ns {:>13.1} {:>9.1}", theirs / ours, ours / c);
+        println!(
+            "{name:<16} {locations:>5} {edges:>5} {ours:>9.0} ns {theirs:>9.0} ns {c:>7.0} ns {:>13.1} {:>9.1}",
+            theirs / ours,
+            ours / c
+        );
     }
     growth(&std::fs::read(&names[3]).unwrap());
     println!("\nwithout the checks of the input, and ours without the search for known locations, ns an edge:");
@@ -168,7 +183,11 @@ fn reached(input: &[u8], places: usize) -> usize {
     while low < high {
         let middle = (low + high) / 2;
         let (refusal, _) = native::translate(input, &mut vec![0; 32 * places], &mut vec![0; 32 * middle]);
-        if refusal.number == 12 { low = middle + 1 } else { high = middle }
+        if refusal.number == 12 {
+            low = middle + 1
+        } else {
+            high = middle
+        }
     }
     low
 }

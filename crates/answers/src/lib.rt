@@ -1,0 +1,97 @@
+// The answers of the four calls in numbers, written over the start of what the caller lends, as far as it reaches.
+use model::Ended;
+use model::Stepped;
+ghost use mathlib.Core.Path.{_≡_};
+ghost use Prim.Native.Nat.{min};
+ghost use lib.ListN.{set};
+ghost use Rattle.model.specs.Answers.{stepAnswerOf, stepNumbers, verdictOf};
+ghost use Rattle.model.specs.Image.{stepVerdict};
+ghost use Rattle.answers.specs.Numbers.{over, told, IsTold};
+
+// How many elements two lists of these lengths have in common.
+fn shorter(a: usize, b: usize) -> usize
+    ensures { λ r. ⌜ r ≡ min a b ⌝ }
+{
+    if a <= b { a } else { b }
+}
+
+// Bytes.
+pub fn lay(from: &[u8], to: &mut [u8])
+    ensures { λ _. ⌜ now (to .exit) ≡ over (now (from .entry)) (now (to .entry)) ⌝ }
+{
+    let n = shorter(from.len(), to.len());
+    bytes::copy(&from[..n], to);
+}
+
+// Counters.
+pub fn lay_counters(from: &[u32], to: &mut [u32])
+    ensures { λ _. ⌜ now (to .exit) ≡ over (now (from .entry)) (now (to .entry)) ⌝ }
+{
+    let n = shorter(from.len(), to.len());
+    let mut i = 0;
+    while i < n {
+        to[i] = from[i];
+        i += 1;
+    }
+}
+
+// Puts a number at a place of the answer, where the answer reaches so far.
+fn tell_one(answer: &mut [usize], i: usize, n: usize)
+    ensures { λ _. ⌜ now (answer .exit) ≡ set (now (answer .entry)) i n ⌝ }
+{
+    if i < answer.len() {
+        answer[i] = n;
+    }
+}
+
+// Puts a refusal's place and the two counts at the first three places of the answer.
+pub fn tell(answer: &mut [usize], place: usize, locations: usize, edges: usize)
+    ensures { λ _. ⌜ now (answer .exit) ≡ told (now (answer .entry)) place locations edges ⌝ }
+{
+    tell_one(answer, 0, place);
+    tell_one(answer, 1, locations);
+    tell_one(answer, 2, edges);
+}
+
+// Answers a refusal's number, 0 for none, and writes its place.
+pub fn tell_ended(ended: Ended, place: &mut usize) -> u8
+    ensures { λ r. ⌜ IsTold (verdictOf ended) r (now (place .exit)) ⌝ }
+{
+    match ended {
+        Ended::Accepted => {
+            *place = 0;
+            0
+        }
+        Ended::Refused { number, place: p } => {
+            *place = p;
+            number
+        }
+    }
+}
+
+// The fault, 1 for a stop, the branch and the next statement.
+pub fn step_numbers(stepped: Stepped) -> [u8; 4]
+    ensures { λ r. ⌜ r ≡ stepNumbers (stepAnswerOf stepped) ⌝ }
+{
+    match stepped {
+        Stepped::Went { branch, next } => [0, 0, branch, next.0],
+        Stepped::Faulted { fault } => [fault, 0, 0, 0],
+        Stepped::Stopped => [0, 1, 0, 0],
+        Stepped::Refused {
+            number: _,
+            place: _,
+        } => [0, 0, 0, 0],
+    }
+}
+
+// How a step ended.
+pub fn step_ended(stepped: Stepped) -> Ended
+    ensures { λ r. ⌜ verdictOf r ≡ stepVerdict (stepAnswerOf stepped) ⌝ }
+{
+    match stepped {
+        Stepped::Went { branch: _, next: _ } => Ended::Accepted,
+        Stepped::Faulted { fault: _ } => Ended::Accepted,
+        Stepped::Stopped => Ended::Accepted,
+        Stepped::Refused { number, place } => Ended::Refused { number, place },
+    }
+}

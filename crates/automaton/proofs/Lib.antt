@@ -1,0 +1,4 @@
+pub mod Outcomes
+pub mod Starts
+pub mod Listed
+pub mod Answers

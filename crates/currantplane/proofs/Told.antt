@@ -1,0 +1,39 @@
+-- The contract of each call from the answer of the function that it calls.
+use Prim.Native.Nat.{ℕ}
+use mathlib.Core.Path.{_≡_, ap, refl, subst, sym, _∙_}
+use mathlib.Core.List.{List}
+use Rattle.model.specs.Answers.{refusalOf, stepNumbers}
+use Rattle.model.specs.Image.{Folding, Stepping, Unfolding, stepVerdict}
+use Rattle.model.specs.Records.{Verdict}
+use Rattle.model.specs.Runs.{Demand3}
+use Rattle.model.specs.Translate.{Outcome, translate}
+use Rattle.model.proofs.runs.Demand.{demand-three}
+use Rattle.model.proofs.listings.Outcomes.{zero-accepted}
+use Rattle.answers.specs.Numbers.{IsTold, over, told}
+use Rattle.currantplane.specs.Calls.{IsFolded, IsStepped, IsTranslated, IsUnfolded}
+
+pub outcome-told : {s : List ℕ} {a b : ℕ} {xs ys : List ℕ} {u : Outcome} → u ≡ translate s a b
+    → ys ≡ told xs (refusalOf (u .verdict) .place) (u .tables .locCount) (u .tables .edgeCount)
+    → IsTranslated s a b xs (refusalOf (u .verdict) .number) ys (u .tables .locBytes) (u .tables .edgeBytes)
+unfolding Demand3
+outcome-told {s} {a} {b} {xs} {ys} {u} e p = record {
+  number = ap (λ x. refusalOf (x .verdict) .number) e;
+  answer = p ∙ ap (λ x. told xs (refusalOf (x .verdict) .place) (x .tables .locCount) (x .tables .edgeCount)) e;
+  locations = ap (λ x. x .tables .locBytes) e;
+  edges = ap (λ x. x .tables .edgeBytes) e;
+  automaton = λ z. demand-three s a b (zero-accepted s a b (sym (ap (λ x. refusalOf (x .verdict) .number) e) ∙ z));
+}
+
+pub folded-as : {f g : Folding} {n p : ℕ} {r r₀ vs vs₀ : List ℕ} → f ≡ g
+    → IsFolded f n p r r₀ vs vs₀ → IsFolded g n p r r₀ vs vs₀
+folded-as {f} {g} {n} {p} {r} {r₀} {vs} {vs₀} e t = subst (λ h. IsFolded h n p r r₀ vs vs₀) e t
+
+pub unfolded-as : {u v : Unfolding} {n p : ℕ} {ps cs : List ℕ} → u ≡ v → IsUnfolded u n p ps cs → IsUnfolded v n p ps cs
+unfolded-as {u} {v} {n} {p} {ps} {cs} e t = subst (λ h. IsUnfolded h n p ps cs) e t
+
+-- the verdict v and the numbers ns are those of the step
+pub stepped-as : {s t : Stepping} {v : Verdict} {n p : ℕ} {ns a l : List ℕ} → s ≡ t → v ≡ stepVerdict (s .answer)
+    → IsTold v n p → ns ≡ stepNumbers (s .answer) → a ≡ over ns l → IsStepped t n p (s .ptrBytes) (s .cellBytes) a l
+stepped-as {s} {t} {v} {n} {p} {ns} {a} {l} e q x m y =
+    subst (λ h. IsStepped h n p (s .ptrBytes) (s .cellBytes) a l) e
+    (record { ended = subst (λ w. IsTold w n p) q x; pointers = refl; cells = refl; answer = y ∙ ap (λ w. over w l) m })

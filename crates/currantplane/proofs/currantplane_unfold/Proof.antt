@@ -1,0 +1,13 @@
+-- `currantplane_unfold` meets its contract: the unfolding's refusal is told.
+use borrow.Author.Needs.{needs}
+use Rattle.currantplane.proofs.Told.{unfolded-as}
+use Rattle.currantplane.proofs.currantplane_unfold.Statement.{statement}
+use Rattle.currantplane.proofs.currantplane_unfold.Tie as tie
+
+returns : tie.Need-returns
+returns c = unfolded-as (c .before .before .before .before .before .before .«unfold» .ensures) (search needs)
+
+pub currantplane-unfold-spec : {M : Type 1} → statement M
+currantplane-unfold-spec =
+    tie.close
+    (tie.spec (λ c κs. search needs) (λ c κs. search needs) (λ c. search needs) (λ c. search needs) returns)

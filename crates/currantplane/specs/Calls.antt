@@ -1,0 +1,39 @@
+-- What the calls for Rust and C answer and leave, in numbers and lent lists. Assumes nothing.
+use Prim.Native.Nat.{ℕ}
+use mathlib.Core.Path.{_≡_}
+use mathlib.Core.List.{List}
+use Rattle.model.specs.Answers.{refusalOf, stepNumbers}
+use Rattle.model.specs.Image.{Folding, Stepping, Unfolding, stepVerdict}
+use Rattle.model.specs.Runs.{IsRoutineOf}
+use Rattle.model.specs.Translate.{translate}
+use Rattle.answers.specs.Numbers.{IsTold, over, told}
+
+-- a translation of input s into tables of a and b bytes: the number r, the answer before (xs) and after (ys), and the
+-- bytes of the tables
+pub record IsTranslated (s : List ℕ) (a b : ℕ) (xs : List ℕ) (r : ℕ) (ys ls es : List ℕ) : Type 0 where
+  pub number : r ≡ refusalOf (translate s a b .verdict) .number
+  pub answer : ys
+      ≡ told xs (refusalOf (translate s a b .verdict) .place)
+      (translate s a b .tables .locCount) (translate s a b .tables .edgeCount)
+  pub locations : ls ≡ translate s a b .tables .locBytes
+  pub edges : es ≡ translate s a b .tables .edgeBytes
+  pub automaton : r ≡ 0 → IsRoutineOf s (translate s a b .tables)
+
+-- a fold with the refusal n at place p, the record r where r₀ stood, and the counters vs where vs₀ stood
+pub record IsFolded (f : Folding) (n p : ℕ) (r r₀ vs vs₀ : List ℕ) : Type 0 where
+  pub ended : IsTold (f .verdict) n p
+  pub shape : r ≡ over (f .recordBytes) r₀
+  pub counters : vs ≡ over (f .counts) vs₀
+
+-- an unfolding with the refusal n at place p, and the bytes ps and cs
+pub record IsUnfolded (u : Unfolding) (n p : ℕ) (ps cs : List ℕ) : Type 0 where
+  pub ended : IsTold (u .verdict) n p
+  pub pointers : ps ≡ u .ptrBytes
+  pub cells : cs ≡ u .cellBytes
+
+-- a step with the refusal n at place p, the bytes ps and cs, and the answer a where l stood
+pub record IsStepped (s : Stepping) (n p : ℕ) (ps cs a l : List ℕ) : Type 0 where
+  pub ended : IsTold (stepVerdict (s .answer)) n p
+  pub pointers : ps ≡ s .ptrBytes
+  pub cells : cs ≡ s .cellBytes
+  pub answer : a ≡ over (stepNumbers (s .answer)) l

@@ -1,0 +1,94 @@
+// The calls for Rust and C: a slice passes as a pointer and a length. Answers are written over the start of the lent
+// slices, as far as these reach. Each call answers the refusal's number, 0 for none, and writes its place. What a call
+// writes must not overlap with anything else that is lent to it: the contracts are about slices that are apart.
+use answers::lay;
+use answers::lay_counters;
+use answers::step_ended;
+use answers::step_numbers;
+use answers::tell;
+use answers::tell_ended;
+use model::Translated;
+ghost use lib.ListN.{length};
+ghost use Rattle.model.specs.Image.{foldImage, stepImage, unfoldImage};
+ghost use Rattle.currantplane.specs.Calls.{IsFolded, IsStepped, IsTranslated, IsUnfolded};
+
+// Writes the refusal's place, the number of locations and the number of edges over `answer`.
+#[no_mangle]
+pub extern "C" fn currantplane_translate(
+    input: &[u8],
+    locations: &mut [u8],
+    edges: &mut [u8],
+    answer: &mut [usize],
+) -> u8
+    ensures { λ r. ⌜ IsTranslated (now (input .entry)) (length (now (locations .entry))) (length (now (edges .entry)))
+        (now (answer .entry)) r (now (answer .exit)) (now (locations .exit)) (now (edges .exit)) ⌝ }
+{
+    match automaton::translate(input, locations, edges) {
+        Translated::Listed {
+            locations: a,
+            edges: b,
+        } => {
+            tell(answer, 0, a, b);
+            0
+        }
+        Translated::Refused { number, place } => {
+            tell(answer, place, 0, 0);
+            number
+        }
+    }
+}
+
+#[no_mangle]
+pub extern "C" fn currantplane_fold(
+    pointers: &[u8],
+    cells: &[u8],
+    shape: &mut [u8],
+    counters: &mut [u32],
+    place: &mut usize,
+) -> u8
+    ensures { λ r. ⌜ IsFolded (foldImage (now (pointers .entry)) (now (cells .entry))) r (now (place .exit))
+        (now (shape .exit)) (now (shape .entry)) (now (counters .exit)) (now (counters .entry)) ⌝ }
+{
+    let folded = heap_operations::fold(pointers, cells);
+    lay(&folded.shape, shape);
+    lay_counters(&folded.counters, counters);
+    let ended = folded.ended;
+    tell_ended(ended, place)
+}
+
+#[no_mangle]
+pub extern "C" fn currantplane_unfold(
+    shape: &[u8],
+    counters: &[u32],
+    pointers: &mut [u8],
+    cells: &mut [u8],
+    place: &mut usize,
+) -> u8
+    ensures { λ r. ⌜ IsUnfolded
+        (unfoldImage (now (shape .entry)) (now (counters .entry)) (now (pointers .entry)) (now (cells .entry)))
+        r (now (place .exit)) (now (pointers .exit)) (now (cells .exit)) ⌝ }
+{
+    let ended = heap_operations::unfold(shape, counters, pointers, cells);
+    tell_ended(ended, place)
+}
+
+// Writes the fault, 1 for a stop, the branch and the next statement over `answer`.
+#[no_mangle]
+pub extern "C" fn currantplane_step(
+    pointers: &mut [u8],
+    cells: &mut [u8],
+    statement: &[u8],
+    pick: u8,
+    cell: usize,
+    answer: &mut [u8],
+    place: &mut usize,
+) -> u8
+    ensures { λ r. ⌜ IsStepped
+        (stepImage (now (statement .entry)) pick cell (now (pointers .entry)) (now (cells .entry)))
+        r (now (place .exit)) (now (pointers .exit)) (now (cells .exit)) (now (answer .exit)) (now (answer .entry)) ⌝ }
+{
+    let stepped = heap_operations::step(pointers, cells, statement, pick, cell);
+    let numbers = step_numbers(stepped);
+    lay(&numbers, answer);
+    tell_ended(step_ended(stepped), place)
+}

@@ -1,0 +1,2 @@
+pub mod FoldLaws
+pub mod UnfoldLaws

@@ -1,4 +1,0 @@
-pub mod ImageLaws
-pub mod UnfoldLaws
-pub mod EntryLaws
-pub mod StepLaws

@@ -1,0 +1,3 @@
+pub mod ImageChecks
+pub mod UnfoldChecks
+pub mod StepChecks

@@ -1,0 +1,61 @@
+-- What an action cuts, sets and reads, by the op's number.
+use Prim.Native.Nat.{ℕ, _<_}
+use mathlib.Core.Bool.{Bool, true, false, _||_, cond}
+use mathlib.Core.Option.{Option, none, some}
+use mathlib.Core.Path.{_≡_, _∙_, refl}
+use lib.Dec.{eqb}
+use Rattle.model.specs.Machine.{Action, Source, action, follow, from, link, make, nil, point, release, stay}
+use Rattle.model.specs.Records.{opCount, opOf}
+use Rattle.model.proofs.records.Ops.{each-op}
+use Rattle.loss.specs.Loss.{cutsAt, keepsAt}
+
+-- the action takes the next of a cell away
+abbrev pub cuts : Action → Bool
+cuts stay = false
+cuts (point u s) = false
+cuts (follow u w) = false
+cuts (link u s) = true
+cuts (make u) = false
+cuts (release u) = true
+
+pub cuts-op : (op u w : ℕ) → op < opCount → cuts (action (opOf op u w)) ≡ cutsAt op
+cuts-op op u w = each-op (λ o. cuts (action o)) cutsAt u w refl op
+
+-- the pointer that the action sets
+abbrev pub sets : Action → Option ℕ
+sets stay = none
+sets (point u s) = some u
+sets (follow u w) = some u
+sets (link u s) = none
+sets (make u) = some u
+sets (release u) = none
+
+pub sets-op : (op u w : ℕ) → op < opCount → cutsAt op ≡ false → keepsAt op ≡ false → sets (action (opOf op u w))
+    ≡ some u
+sets-op op u w lt c k =
+    each-op (λ o. sets (action o)) (λ n. cond (cutsAt n || keepsAt n) none (some u)) u w refl op lt ∙ rw (c, k)
+
+-- what it reads for that: the value of a pointer, or the next of the cell that a pointer holds
+pub data Reads : Type 0 where
+  neither : Reads
+  copies : ℕ → Reads
+  follows : ℕ → Reads
+
+abbrev readsFrom : Source → Reads
+readsFrom nil = neither
+readsFrom (from w) = copies w
+
+abbrev pub reads : Action → Reads
+reads stay = neither
+reads (point u s) = readsFrom s
+reads (follow u w) = follows w
+reads (link u s) = neither
+reads (make u) = neither
+reads (release u) = neither
+
+-- ops that link read nothing that they put into a pointer
+abbrev readsAt : ℕ → ℕ → Reads
+readsAt w n = cond (eqb n 2) (copies w) (cond (eqb n 3) (follows w) neither)
+
+pub reads-op : (op u w : ℕ) → op < opCount → reads (action (opOf op u w)) ≡ readsAt w op
+reads-op op u w = each-op (λ o. reads (action o)) (readsAt w) u w refl op

@@ -1,0 +1,5 @@
+-- Folding, unfolding and the plain step on bytes.
+pub mod Images
+pub mod RoundTrips
+pub mod Stepping
+pub mod OneToOne

@@ -1,0 +1,69 @@
+-- The cases of an answer are told apart by what they say.
+use Prim.Native.Nat.{ℕ}
+use Rattle.model.proofs.records.Checks.{not-both, refused-inj}
+use Rattle.model.specs.Notions.{Halted}
+use mathlib.Core.Path.{_≡_, ap, refl, sym}
+use mathlib.Core.List.{List, [], _∷_}
+use native.Mathlib.Omega.{arith}
+use lib.ListN.{drop}
+use Rattle.model.specs.Answers.{outcomeOf, stepAnswerOf, stepNumbers, verdictOf}
+use Rattle.model.specs.Image.{StepAnswer, noStep, toFault, toNext, toStop}
+use Rattle.model.specs.Records.{isAccepted, refusal}
+use Rattle.model.specs.Translate.{Outcome}
+use Rattle.model.specs.declared.Ended.{Ended}
+use Rattle.model.specs.declared.Ended.the-variants as ended
+use Rattle.model.specs.declared.Stepped.{Stepped}
+use Rattle.model.specs.declared.Stepped.the-variants as stepped
+use Rattle.model.specs.declared.Translated.{Translated}
+use Rattle.model.specs.declared.Translated.the-variants as translated
+
+never {ℓ} : {C : Type ℓ} → _≡_ {A = ℕ} 0 1 → C
+never e = absurd (omega arith)
+
+pub verdict-one : (a b : Ended) → verdictOf a ≡ verdictOf b → a ≡ b
+verdict-one ended.Accepted ended.Accepted e = refl
+verdict-one ended.Accepted (ended.Refused n p) e = never (cc)
+verdict-one (ended.Refused n p) ended.Accepted e = never (cc)
+verdict-one (ended.Refused n p) (ended.Refused m q) e = let x = refused-inj e in
+    λ i. ended.Refused (x i .number) (x i .place)
+
+pub step-one : (a b : Stepped) → stepAnswerOf a ≡ stepAnswerOf b → a ≡ b
+step-one (stepped.Went b n) (stepped.Went c m) e =
+    let x : b ≡ c = cc in
+    let y : n .0 ≡ m .0 = cc in
+    λ i. stepped.Went (x i) (record { 0 = y i })
+step-one (stepped.Went b n) (stepped.Faulted f) e = never (cc)
+step-one (stepped.Went b n) stepped.Stopped e = never (cc)
+step-one (stepped.Went b n) (stepped.Refused k p) e = never (cc)
+step-one (stepped.Faulted f) (stepped.Went c m) e = never (cc)
+step-one (stepped.Faulted f) (stepped.Faulted g) e = cc
+step-one (stepped.Faulted f) stepped.Stopped e = never (cc)
+step-one (stepped.Faulted f) (stepped.Refused k p) e = never (cc)
+step-one stepped.Stopped (stepped.Went c m) e = never (cc)
+step-one stepped.Stopped (stepped.Faulted g) e = never (cc)
+step-one stepped.Stopped stepped.Stopped e = refl
+step-one stepped.Stopped (stepped.Refused k p) e = never (cc)
+step-one (stepped.Refused n p) (stepped.Went c m) e = never (cc)
+step-one (stepped.Refused n p) (stepped.Faulted g) e = never (cc)
+step-one (stepped.Refused n p) stepped.Stopped e = never (cc)
+step-one (stepped.Refused n p) (stepped.Refused m q) e =
+    let x : refusal n p ≡ refusal m q = cc in
+    λ i. stepped.Refused (x i .number) (x i .place)
+
+pub outcome-one : (a b : Translated) (ls es : List ℕ) → outcomeOf a ls es ≡ outcomeOf b ls es → a ≡ b
+outcome-one (translated.Listed l e) (translated.Listed m f) ls es q =
+    λ i. translated.Listed (q i .tables .locCount) (q i .tables .edgeCount)
+outcome-one (translated.Listed l e) (translated.Refused n p) ls es q =
+    not-both isAccepted (refusal n p) refl (ap (λ (o : Outcome). o .verdict) q)
+outcome-one (translated.Refused n p) (translated.Listed l e) ls es q =
+    not-both isAccepted (refusal n p) refl (sym (ap (λ (o : Outcome). o .verdict) q))
+outcome-one (translated.Refused n p) (translated.Refused m r) ls es q =
+    let x : refusal n p ≡ refusal m r = refused-inj (ap (λ (o : Outcome). o .verdict) q) in
+    λ i. translated.Refused (x i .number) (x i .place)
+
+-- only a step to a next statement tells a branch and that statement
+pub halted-numbers : (a : StepAnswer) → Halted a → drop 2 (stepNumbers a) ≡ 0 ∷ 0 ∷ []
+halted-numbers (toNext b n) h = absurd h
+halted-numbers (toFault f) h = refl
+halted-numbers toStop h = refl
+halted-numbers (noStep x) h = refl

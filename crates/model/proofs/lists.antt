@@ -1,0 +1,8 @@
+-- Booleans, lists and numbers.
+pub mod Logic
+pub mod Lists
+pub mod Numbers
+pub mod Slices
+pub mod Loops
+pub mod Digits
+pub mod Sorted

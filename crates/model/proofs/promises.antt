@@ -1,0 +1,6 @@
+-- What is claimed: each promise is a type, and its proof under it cites a law.
+pub mod Promises
+pub mod PromisesShapes
+pub mod PromisesListings
+pub mod PromisesRuns
+pub mod Shelf

@@ -1,0 +1,146 @@
+-- Bytes and two-byte numbers are read back: values, words, updates, and the records of a table.
+use Prim.Native.Nat.{_%_, _*_, _+_, _-_, _/_, _<_, _^_, _≤_, suc, zero, ℕ}
+use mathlib.Core.Path.{_∙_, _≡_, ap, ap₂, refl, sym}
+use mathlib.Core.Logic.{inl, inr}
+use mathlib.Core.Bool.{Bool, false, true}
+use mathlib.Core.List.{List, [], _++_, _∷_, append-assoc, map}
+use native.Mathlib.Nat.{add-mul-mod-self-left, mod-add-div, mod-eq-of-lt, one-mul, pow-suc, zero-mul}
+use native.Mathlib.Omega.{arith}
+use lib.Dec.{eqb}
+use lib.ListN.{drop, getD, length, length-append, length-replicate, replicate, take}
+use lib.Seq.{drop-append-add, drop-at, take-at}
+use borrow.Author.Tests.{eqb-true, ne-eqb}
+use Rattle.model.specs.Base.{all, joined}
+use Rattle.model.specs.Edges.{Update}
+use Rattle.model.specs.Heap.{Val, cell, null, undef}
+use Rattle.model.specs.Records.{bits, filled, isZero, recordAt, updateCode, valByte, valOf}
+use Rattle.model.specs.Runs.{added, applied}
+use Rattle.model.specs.Translate.{tableOf}
+use Rattle.model.specs.Listings.{SmallVal}
+use Rattle.model.specs.Notions.{In, flagged}
+use Rattle.model.proofs.lists.Lists.{in-map}
+use Rattle.model.proofs.lists.Logic.{and-l, and-r, bool-case}
+
+pub small-up : (j k : ℕ) (v : Val) → j ≤ k → SmallVal j v → SmallVal k v
+small-up j k (cell n) h s = omega arith
+small-up j k null h s = tt
+small-up j k undef h s = tt
+
+-- a byte that is neither that of null nor that of undefined
+pub val-cell : (b : ℕ) → (b ≡ 0xfe → ⊥) → (b ≡ 0xff → ⊥) → valOf b ≡ cell b
+val-cell b p q = rw (ne-eqb b 0xfe p, ne-eqb b 0xff q)
+
+-- the byte of a value is read back as that value
+pub val-back : (v : Val) → SmallVal 0xfe v → valOf (valByte v) ≡ v
+val-back (cell n) h = val-cell n (λ e. omega arith) (λ e. omega arith)
+val-back null h = refl
+val-back undef h = refl
+
+-- and a byte's value is written as that byte; this holds of any number
+pub byte-back : (b : ℕ) → valByte (valOf b) ≡ b
+byte-back b =
+    bool-case (eqb b 0xfe) (λ e. rw e (sym (eqb-true b 0xfe e)))
+    (λ e. bool-case (eqb b 0xff) (λ f. rw (e, f) (sym (eqb-true b 0xff f))) (λ f. rw (e, f)))
+
+-- two bytes are read back as their number
+pub word-back : (n : ℕ) → n % 256 + 256 * (n / 256) ≡ n
+word-back n = mod-add-div n 256
+
+pub added-none : (cs : List ℕ) → added 0 cs ≡ 0
+added-none [] = refl
+added-none (c ∷ cs) = rw (zero-mul c, added-none cs)
+
+pub added-bits : (fs : List Bool) (cs : List ℕ) → added (bits fs) cs ≡ flagged fs cs
+added-bits [] cs = added-none cs
+added-bits (b ∷ fs) [] = refl
+added-bits (true ∷ fs) (c ∷ cs) =
+    let e : (1 + 2 * bits fs) / 2 ≡ bits fs = omega arith in
+    rw (add-mul-mod-self-left 1 2 (bits fs), one-mul c, e, added-bits fs cs)
+added-bits (false ∷ fs) (c ∷ cs) =
+    let e : (0 + 2 * bits fs) / 2 ≡ bits fs = omega arith in
+    rw (add-mul-mod-self-left 0 2 (bits fs), zero-mul c, e, added-bits fs cs)
+
+bits-pow : (n : ℕ) (fs : List Bool) → length fs ≤ n → bits fs < 2 ^ n
+bits-pow zero [] h = omega arith
+bits-pow zero (b ∷ fs) h = absurd (omega arith)
+bits-pow (suc n) [] h = rw (pow-suc 2 n) (omega (arith, bits-pow n [] (omega arith)))
+bits-pow (suc n) (true ∷ fs) h = rw (pow-suc 2 n) (omega (arith, bits-pow n fs (omega arith)))
+bits-pow (suc n) (false ∷ fs) h = rw (pow-suc 2 n) (omega (arith, bits-pow n fs (omega arith)))
+
+pub bits-below : (fs : List Bool) → length fs ≤ 12 → bits fs < 4096
+bits-below fs h = bits-pow 12 fs h
+
+-- an update's code, applied to the counters
+pub applied-code : (u : Update) (cs : List ℕ) → length (u .adds) ≤ 12 → u .plus ≤ 3
+    → applied cs (updateCode u) ≡ (flagged (u .adds) cs + u .plus) - 1
+applied-code u cs h k =
+    let b = bits-below (u .adds) h in
+    let m : updateCode u % 4096 ≡ bits (u .adds) = add-mul-mod-self-left (bits (u .adds)) 4096 (u .plus)
+    ∙ mod-eq-of-lt b in
+    let d : updateCode u / 4096 ≡ u .plus = omega arith in
+    let p : u .plus % 4 ≡ u .plus = mod-eq-of-lt (omega arith) in
+    rw (m, d, p, added-bits (u .adds) cs)
+
+joined-record : (rs : List (List ℕ)) (z : List ℕ) (i : ℕ) → ((r : List ℕ) → In r rs → length r ≡ 32) → i < length rs
+    → take 32 (drop (32 * i) (joined rs ++ z)) ≡ getD rs i []
+joined-record [] z i h k = absurd (omega arith)
+joined-record (r ∷ rs) z zero h k = ap (take 32) (append-assoc r (joined rs) z)
+    ∙ take-at r (joined rs ++ z) 32 (h r (inl refl))
+joined-record (r ∷ rs) z (suc i) h k =
+    let l = h r (inl refl) in
+    let e : 32 * suc i ≡ length r + 32 * i = omega arith in
+    ap₂ (λ n s. take 32 (drop n s)) e (append-assoc r (joined rs) z)
+    ∙ ap (take 32) (drop-append-add r (joined rs ++ z) (32 * i)) ∙ joined-record rs z i (λ x q. h x (inr q))
+    (omega arith)
+
+-- record i of a table is the one that was written at place i
+pub table-record : (n : ℕ) (rs : List (List ℕ)) (i : ℕ) → ((r : List ℕ) → In r rs → length r ≡ 32) → i < length rs
+    → recordAt (tableOf n rs) i ≡ getD rs i []
+table-record n rs i h k = joined-record rs (replicate (n - 32 * length rs) 0) i h k
+
+pub records-wide : {A : Type 0} (f : A → List ℕ) (l : List A) → ((x : A) → In x l → length (f x) ≡ 32) → (r : List ℕ)
+    → In r (map f l) → length r ≡ 32
+records-wide f l h r i = let y = in-map f r l i in ap length (y .2) ∙ h (y .0) (y .1)
+
+pub joined-length : (rs : List (List ℕ)) → ((r : List ℕ) → In r rs → length r ≡ 32) → length (joined rs)
+    ≡ 32 * length rs
+joined-length [] h = refl
+joined-length (r ∷ rs) h = omega (
+  arith,
+  length-append r (joined rs),
+  h r (inl refl),
+  joined-length rs
+      (λ x q. h x (inr q)),
+)
+
+pub table-empty : (n : ℕ) → tableOf n [] ≡ replicate n 0
+table-empty n = let e : n - 32 * 0 ≡ n = omega arith in ap (λ m. replicate m 0) e
+
+-- a table keeps its length, and "bytes after the last are zero"
+pub table-length : (n : ℕ) (rs : List (List ℕ)) → ((r : List ℕ) → In r rs → length r ≡ 32) → 32 * length rs ≤ n
+    → length (tableOf n rs) ≡ n
+table-length n rs h k = omega (
+  arith,
+  length-append (joined rs) (replicate (n - 32 * length rs) 0),
+  joined-length rs h,
+  length-replicate {A = ℕ} (n - 32 * length rs) 0,
+)
+
+pub table-rest : (n : ℕ) (rs : List (List ℕ)) → ((r : List ℕ) → In r rs → length r ≡ 32)
+    → drop (32 * length rs) (tableOf n rs) ≡ replicate (n - 32 * length rs) 0
+table-rest n rs h = drop-at (joined rs) (replicate (n - 32 * length rs) 0) (32 * length rs) (joined-length rs h)
+
+-- a list made n long by zeros
+pub filled-length : (n : ℕ) (l : List ℕ) → length l ≤ n → length (filled n l) ≡ n
+filled-length n l h = omega (
+  arith,
+  length-append l (replicate (n - length l) 0),
+  length-replicate {A =
+      ℕ} (n - length l) 0,
+)
+
+-- bytes that are all zero
+pub all-zero : (l : List ℕ) → all isZero l ≡ true → l ≡ replicate (length l) 0
+all-zero [] h = refl
+all-zero (x ∷ l) h = ap₂ _∷_ (eqb-true x 0 (and-l (isZero x) (all isZero l) h))
+    (all-zero l (and-r (isZero x) (all isZero l) h))

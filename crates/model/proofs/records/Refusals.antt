@@ -1,0 +1,284 @@
+-- The refusals of an input are those of 01's table, each at its place: what is wrong with a refused input, and that
+-- nothing is with an accepted one.
+use Prim.Native.Nat.{_+_, _<_, _≤_, suc, zero, ℕ}
+use Rattle.model.proofs.records.Checks.{failed-given}
+use Rattle.model.specs.Notions.{Given}
+use mathlib.Core.Path.{_∙_, _≡_, ap, refl, subst, sym}
+use mathlib.Core.Logic.{_⊎_, inl, inr, ⊎-elim}
+use mathlib.Core.Option.{none, some}
+use mathlib.Core.Bool.{Bool, _&&_, _||_, cond, false, not, or-false, true}
+use mathlib.Core.List.{List, [], _++_, _∷_, append-nil}
+use native.Mathlib.Nat.{zero-add}
+use native.Mathlib.Omega.{arith}
+use lib.Dec.{eqb}
+use lib.ListN.{getD, length, take}
+use Rattle.model.specs.Base.{any, count, sameList}
+use Rattle.model.specs.Heap.{next}
+use Rattle.model.specs.Records.{Refusal, isH, isS, layoutH, refusal, refusalH, refusalS, shapeOf, checksS, checksH, firstFailed, unless}
+use Rattle.model.specs.Shape.{canonical}
+use Rattle.model.specs.Translate.{Routine, bad, badKind, badRecord, between, check, checkCounts, checkKinds, checkRecords, good}
+use Rattle.model.proofs.records.Checked.{bad-good, good-inj}
+use Rattle.model.specs.Listings.{BadInput, GoodInput, bad-kind, bad-length, bad-record, bad-shapes, bad-statements, noRecords, recordRefusal, recordsOf, routineOf, wrongKind}
+use Rattle.model.proofs.lists.Logic.{and-l, and-r, bool-case, clash, or-r}
+
+-- ---- the first record of a wrong kind
+
+-- record k is of a wrong kind, where an H may stand before the list
+abbrev wrongAfter : Bool → List (List ℕ) → ℕ → Bool
+wrongAfter after rs k = not (isH (getD rs k [])) && not (isS (getD rs k []) && not (after || any isH (take k rs)))
+
+abbrev KindCases : Bool → ℕ → List (List ℕ) → Type 0
+KindCases after i rs =
+    ((k : ℕ) × (badKind after i rs ≡ some (i + k)) × (k < length rs) × (wrongAfter after rs k ≡ true)
+    × ((m : ℕ) → m < k → wrongAfter after rs m ≡ false))
+    ⊎ ((badKind after i rs ≡ none) × ((k : ℕ) → k < length rs → wrongAfter after rs k ≡ false))
+
+or-true : (b : Bool) → b || true ≡ true
+or-true b = or-r b true refl
+
+-- the first record is of a right kind
+kind-more : (after next : Bool) (i : ℕ) (r : List ℕ) (rs : List (List ℕ)) → badKind after i (r ∷ rs)
+    ≡ badKind next (suc i) rs
+    → wrongAfter after (r ∷ rs) 0 ≡ false → ((k : ℕ) → wrongAfter after (r ∷ rs) (suc k) ≡ wrongAfter next rs k)
+    → KindCases next (suc i) rs → KindCases after i (r ∷ rs)
+kind-more after next i r rs e z h (inl (k, q, lt, w, f)) =
+    inl (suc k, e ∙ q ∙ ap some (omega arith), omega arith, h k ∙ w, λ m l. by-place m l)
+  where
+    by-place : (m : ℕ) → m < suc k → wrongAfter after (r ∷ rs) m ≡ false
+    by-place zero l = z
+    by-place (suc m) l = h m ∙ f m (omega arith)
+kind-more after next i r rs e z h (inr (q, f)) = inr (e ∙ q, λ k l. by-place k l)
+  where
+    by-place : (k : ℕ) → k < suc (length rs) → wrongAfter after (r ∷ rs) k ≡ false
+    by-place zero l = z
+    by-place (suc k) l = h k ∙ f k (omega arith)
+
+kind-cases : (after : Bool) (i : ℕ) (rs : List (List ℕ)) → KindCases after i rs
+kind-cases after i [] = inr (refl, λ k l. absurd (omega arith))
+kind-cases after i (r ∷ rs) = bool-case (isH r)
+    (λ h. kind-more after true i r rs (rw (h, badKind)) (rw h) (λ k. rw (h, or-true after))
+    (kind-cases true (suc i) rs))
+    (λ h. bool-case (isS r && not after)
+    (λ s. let a : after ≡ false = not-false after (and-r (isS r) (not after) s) in
+    kind-more after false i r rs (rw (h, badKind) (rw (s, badKind))) (rw (h, a, and-l (isS r) (not after) s))
+    (λ k. rw (h, a)) (kind-cases false (suc i) rs))
+    (λ s. inl (
+      0,
+      rw (h, badKind) (rw (s, badKind) (ap some (omega arith))),
+      omega arith,
+      rw (h, or-false after, s),
+      λ m l. absurd (omega arith),
+    )))
+  where
+    not-false : (b : Bool) → not b ≡ true → b ≡ false
+    not-false true e = clash e refl
+    not-false false e = refl
+
+-- ---- the first record that is refused
+
+abbrev refusedAfter : ℕ → List (List ℕ) → List (List ℕ) → ℕ → ℕ
+refusedAfter n earlier rs k = cond (isS (getD rs k [])) (refusalS n (getD rs k []))
+    (refusalH (take k rs ++ earlier) (getD rs k []))
+
+abbrev RecordCases : ℕ → ℕ → List (List ℕ) → List (List ℕ) → Type 0
+RecordCases n i earlier rs =
+    ((k m : ℕ) × (badRecord n i earlier rs ≡ some (refusal (suc m) (i + k))) × (k < length rs)
+    × (refusedAfter n earlier rs k ≡ suc m)
+    × ((j : ℕ) → j < k → refusedAfter n earlier rs j ≡ 0))
+    ⊎ ((badRecord n i earlier rs ≡ none) × ((k : ℕ) → k < length rs → refusedAfter n earlier rs k ≡ 0))
+
+any-swap : {A : Type 0} (p : A → Bool) (l m : List A) (x : A) → any p (l ++ x ∷ m) ≡ p x || any p (l ++ m)
+any-swap p [] m x = refl
+any-swap p (y ∷ l) m x = ap (λ z. p y || z) (any-swap p l m x) ∙ swap (p y) (p x) (any p (l ++ m))
+  where
+    swap : (a b c : Bool) → a || (b || c) ≡ b || (a || c)
+    swap true b c = sym (or-true b)
+    swap false b c = refl
+
+-- the order of the earlier records does not matter
+earlier-same : (n : ℕ) (earlier rs : List (List ℕ)) (r : List ℕ) (k : ℕ) → refusedAfter n earlier (r ∷ rs) (suc k)
+    ≡ refusedAfter n (r ∷ earlier) rs k
+earlier-same n earlier rs r k =
+    let x = getD rs k [] in
+    ap (λ (b : Bool). cond (isS x) (refusalS n x)
+    (firstFailed (unless 8 (layoutH x) ∷ unless 9 (canonical (shapeOf x)) ∷ unless 10 (not b) ∷ [])))
+    (sym (any-swap (sameList eqb x) (take k rs) earlier r))
+
+record-cases : (n i : ℕ) (earlier rs : List (List ℕ)) → RecordCases n i earlier rs
+record-cases n i earlier [] = inr (refl, λ k l. absurd (omega arith))
+record-cases n i earlier (r ∷ rs) = by-first (cond (isS r) (refusalS n r) (refusalH earlier r)) refl
+    (record-cases n (suc i) (r ∷ earlier) rs)
+  where
+    by-first : (m : ℕ) → cond (isS r) (refusalS n r) (refusalH earlier r) ≡ m → RecordCases n (suc i) (r ∷ earlier) rs
+        → RecordCases n i earlier (r ∷ rs)
+    by-first (suc m) e c = inl (
+      0,
+      m,
+      rw (e, badRecord) (ap (λ p. some (refusal (suc m) p)) (omega arith)),
+      omega
+          arith,
+      e,
+      λ j l. absurd (omega arith),
+    )
+    by-first zero e (inl (k, m, q, lt, w, f)) =
+        inl (
+          suc k,
+          m,
+          rw (e, badRecord) (q ∙ ap (λ p. some (refusal (suc m) p)) (omega arith)),
+          omega arith,
+          earlier-same n earlier rs r k ∙ w,
+          λ j l. by-place j l,
+        )
+      where
+        by-place : (j : ℕ) → j < suc k → refusedAfter n earlier (r ∷ rs) j ≡ 0
+        by-place zero l = e
+        by-place (suc j) l = earlier-same n earlier rs r j ∙ f j (omega arith)
+    by-first zero e (inr (q, f)) = inr (rw (e, badRecord) q, λ k l. by-place k l)
+      where
+        by-place : (k : ℕ) → k < suc (length rs) → refusedAfter n earlier (r ∷ rs) k ≡ 0
+        by-place zero l = e
+        by-place (suc k) l = earlier-same n earlier rs r k ∙ f k (omega arith)
+
+-- ---- the whole check
+
+none-earlier : (rs : List (List ℕ)) (k : ℕ) → recordRefusal rs k ≡ refusedAfter (count isS rs) [] rs k
+none-earlier rs k = ap (λ l. cond (isS (getD rs k [])) (refusalS (count isS rs) (getD rs k []))
+    (refusalH l (getD rs k []))) (sym (append-nil (take k rs)))
+
+-- a refused input and what is wrong with it, or an accepted one with nothing wrong
+abbrev pub CheckCases : List ℕ → Type 0
+CheckCases s = ((x : Refusal) × (check s ≡ bad x) × BadInput s x) ⊎ ((r : Routine) × (check s ≡ good r) × GoodInput s r)
+
+no-records : (s : List ℕ) → noRecords s ≡ true → check s ≡ bad (refusal 1 0)
+unfolding check
+no-records s a = rw (a, check)
+
+module _ (s : List ℕ) (a : noRecords s ≡ false) where
+  check-kinds : check s ≡ checkKinds (recordsOf s)
+  unfolding check
+  check-kinds = rw (a, check)
+
+  kinds-counts : badKind false 0 (recordsOf s) ≡ none → check s ≡ checkCounts (recordsOf s)
+  kinds-counts q = check-kinds ∙ rw (q, checkKinds)
+
+  module _ (q : badKind false 0 (recordsOf s) ≡ none) (f : (k : ℕ) → k < length (recordsOf s)
+      → wrongKind (recordsOf s) k ≡ false) where
+    counts-records : between 1 64 (count isS (recordsOf s)) ≡ true → between 1 16 (count isH (recordsOf s)) ≡ true
+        → check s ≡ checkRecords (count isS (recordsOf s)) (recordsOf s)
+    counts-records b c = kinds-counts q ∙ rw (b, checkCounts) (rw (c, checkCounts))
+
+    by-record : between 1 64 (count isS (recordsOf s)) ≡ true → between 1 16 (count isH (recordsOf s)) ≡ true
+        → RecordCases (count isS (recordsOf s)) 0 [] (recordsOf s) → CheckCases s
+    by-record b c (inl (i, m, p, lt, w, g)) = inl (
+      refusal (suc m) (0 + i),
+      counts-records b c ∙ rw (p, checkRecords),
+      bad-record m i (ap (refusal (suc m)) (zero-add i)) a f b c lt (λ j l. none-earlier (recordsOf s) j ∙ g j l)
+          (none-earlier (recordsOf s) i ∙ w),
+    )
+    by-record b c (inr (p, g)) = inr (
+      routineOf (recordsOf s),
+      counts-records b c ∙ rw (p, checkRecords),
+      record {
+        wide = a;
+        kinds = f;
+        statements = b;
+        shapes = c;
+        records = λ j l. none-earlier (recordsOf s) j
+            ∙ g j l;
+        isRead = refl;
+      },
+    )
+
+    by-counts : CheckCases s
+    by-counts = bool-case (between 1 64 (count isS (recordsOf s)))
+        (λ b. bool-case (between 1 16 (count isH (recordsOf s)))
+        (λ c. by-record b c (record-cases (count isS (recordsOf s)) 0 [] (recordsOf s)))
+        (λ c. inl (refusal 3 0, kinds-counts q ∙ rw (b, checkCounts) (rw (c, checkCounts)), bad-shapes refl a f b c)))
+        (λ b. inl (refusal 2 0, kinds-counts q ∙ rw (b, checkCounts), bad-statements refl a f b))
+
+  by-kind : KindCases false 0 (recordsOf s) → CheckCases s
+  by-kind (inl (i, q, lt, w, f)) = inl (
+    refusal 4 (0 + i),
+    check-kinds
+        ∙ rw (q, checkKinds),
+    bad-kind i (ap (refusal 4) (zero-add i)) a lt f w,
+  )
+  by-kind (inr (q, f)) = by-counts q f
+
+pub check-cases : (s : List ℕ) → CheckCases s
+check-cases s = bool-case (noRecords s) (λ a. inl (refusal 1 0, no-records s a, bad-length refl a))
+    (λ a. by-kind s a (kind-cases false 0 (recordsOf s)))
+
+bad-inj : {x y : Refusal} → bad x ≡ bad y → x ≡ y
+bad-inj {x} {y} e = cc
+
+-- a refused input has something wrong with it, at the place that is given
+pub refused-input : (s : List ℕ) (x : Refusal) → check s ≡ bad x → BadInput s x
+refused-input s x e = ⊎-elim
+    (λ (p : (y : Refusal) × (check s ≡ bad y) × BadInput s y). subst (BadInput s) (bad-inj (sym (p .1) ∙ e)) (p .2))
+    (λ (p : (r : Routine) × (check s ≡ good r) × GoodInput s r). bad-good (sym e ∙ p .1)) (check-cases s)
+
+-- an accepted input has nothing wrong with it
+pub accepted-input : (s : List ℕ) (r : Routine) → check s ≡ good r → GoodInput s r
+accepted-input s r e = ⊎-elim
+    (λ (p : (x : Refusal) × (check s ≡ bad x) × BadInput s x). bad-good (sym (p .1) ∙ e))
+    (λ (p : (q : Routine) × (check s ≡ good q) × GoodInput s q). subst (GoodInput s) (good-inj (sym (p .1) ∙ e))
+    (p .2)) (check-cases s)
+
+-- an input is not both
+pub bad-not-good : (s : List ℕ) (x : Refusal) (r : Routine) → BadInput s x → GoodInput s r → ⊥
+bad-not-good s x r (bad-length e a) G = clash a (G .wide)
+bad-not-good s x r (bad-kind i e a lt f w) G = clash w (G .kinds i lt)
+bad-not-good s x r (bad-statements e a f b) G = clash (G .statements) b
+bad-not-good s x r (bad-shapes e a f b c) G = clash (G .shapes) c
+bad-not-good s x r (bad-record n i e a f b c lt g w) G = let z = G .records i lt in omega arith
+
+-- so an input with nothing wrong is accepted
+pub good-accepted : (s : List ℕ) (r : Routine) → GoodInput s r → check s ≡ good r
+good-accepted s r G = ⊎-elim
+    (λ (p : (x : Refusal) × (check s ≡ bad x) × BadInput s x). absurd (bad-not-good s (p .0) r (p .2) G))
+    (λ (p : (q : Routine) × (check s ≡ good q) × GoodInput s q). p .1 ∙ ap good (p .2 .isRead ∙ sym (G .isRead)))
+    (check-cases s)
+
+-- ---- numbers and places
+
+statement-number : (n : ℕ) (r : List ℕ) (m : ℕ) → refusalS n r ≡ suc m → (5 ≤ suc m) × (suc m ≤ 7)
+statement-number n r m e = by-check (failed-given (checksS n r) m e)
+  where
+    by-check : Given (checksS n r) (suc m) → (5 ≤ suc m) × (suc m ≤ 7)
+    by-check (inl (z, p)) = (omega arith, omega arith)
+    by-check (inr (p, inl (z, q))) = (omega arith, omega arith)
+    by-check (inr (p, inr (q, inl (z, w)))) = (omega arith, omega arith)
+    by-check (inr (p, inr (q, inr (w, x)))) = absurd x
+
+shape-number : (earlier : List (List ℕ)) (r : List ℕ) (m : ℕ) → refusalH earlier r ≡ suc m → (8 ≤ suc m) × (suc m ≤ 10)
+shape-number earlier r m e = by-check (failed-given (checksH earlier r) m e)
+  where
+    by-check : Given (checksH earlier r) (suc m) → (8 ≤ suc m) × (suc m ≤ 10)
+    by-check (inl (z, p)) = (omega arith, omega arith)
+    by-check (inr (p, inl (z, q))) = (omega arith, omega arith)
+    by-check (inr (p, inr (q, inl (z, w)))) = (omega arith, omega arith)
+    by-check (inr (p, inr (q, inr (w, x)))) = absurd x
+
+-- 5 to 7 are an S record's, 8 to 10 an H record's
+pub record-number : (rs : List (List ℕ)) (i m : ℕ) → recordRefusal rs i ≡ suc m
+    → ((isS (getD rs i []) ≡ true) × (5 ≤ suc m) × (suc m ≤ 7)) ⊎ ((isS (getD rs i []) ≡ false) × (8 ≤ suc m)
+    × (suc m ≤ 10))
+record-number rs i m e = bool-case (isS (getD rs i []))
+    (λ a. let z = statement-number (count isS rs) (getD rs i []) m (rw a at e) in inl (a, z .0, z .1))
+    (λ a. let z = shape-number (take i rs) (getD rs i []) m (rw a at e) in inr (a, z .0, z .1))
+
+-- the number is 1 to 10; for 1, 2 and 3 the place is 0, for the others it is the number of a record
+pub bad-number : (s : List ℕ) (x : Refusal) → BadInput s x
+    → (1 ≤ x .number) × (x .number ≤ 10) × (x .number ≤ 3 → x .place ≡ 0)
+    × (4 ≤ x .number → x .place < length (recordsOf s))
+bad-number s x (bad-length e a) = rw e (omega arith, omega arith, (λ l. refl), λ l. absurd (omega arith))
+bad-number s x (bad-kind i e a lt f w) = rw e (omega arith, omega arith, (λ l. absurd (omega arith)), λ l. lt)
+bad-number s x (bad-statements e a f b) = rw e (omega arith, omega arith, (λ l. refl), λ l. absurd (omega arith))
+bad-number s x (bad-shapes e a f b c) = rw e (omega arith, omega arith, (λ l. refl), λ l. absurd (omega arith))
+bad-number s x (bad-record n i e a f b c lt g w) = rw e (⊎-elim
+    (λ (p : (isS (getD (recordsOf s) i []) ≡ true) × (5 ≤ suc n) × (suc n ≤ 7)).
+    (omega arith, omega arith, (λ (l : suc n ≤ 3). absurd (omega arith)), λ (l : 4 ≤ suc n). lt))
+    (λ (p : (isS (getD (recordsOf s) i []) ≡ false) × (8 ≤ suc n) × (suc n ≤ 10)).
+    (omega arith, omega arith, (λ (l : suc n ≤ 3). absurd (omega arith)), λ (l : 4 ≤ suc n). lt))
+    (record-number (recordsOf s) i n w))

@@ -1,0 +1,8 @@
+-- The ways out of a location and the edges that they make.
+pub mod Weights
+pub mod Sizes
+pub mod Picks
+pub mod Ways
+pub mod Leave
+pub mod Location
+pub mod Guards

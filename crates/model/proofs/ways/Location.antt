@@ -1,0 +1,219 @@
+-- The edges of a location against the steps of the routine, both ways: each step is an edge, and each enabled edge is
+-- a step.
+use Prim.Native.Nat.{_≤_, ℕ}
+use mathlib.Core.Path.{_∙_, _≡_, ap, refl, subst, sym}
+use mathlib.Core.Logic.{inl, inr}
+use mathlib.Core.Option.{some}
+use mathlib.Core.Bool.{false, true}
+use mathlib.Core.List.{[], _∷_, map}
+use native.Mathlib.Omega.{arith}
+use lib.Dec.{T, eqb, leb}
+use lib.ListN.{getD, length}
+use borrow.Author.Tests.{eqb-false, eqb-true, le-leb, leb-true}
+use Rattle.model.specs.Edges.{Edge, Way, edgeBy, edgesAt, picksOf, split, splitHeap, stepBy, ways, whole, view, View, oneNode, noNode, waysOf, oneAt, moreAt}
+use Rattle.model.specs.Heap.{Heap, inUse, kept, next}
+use Rattle.model.specs.Machine.{Answer, Entry, Op, Stmt, accepts, branch, faulted, picks, refused, step, stopped, went, isStop, kind, entry, Action, action, actionOf, branchBy}
+use Rattle.model.specs.Runs.{State, Advance, made}
+use Rattle.model.specs.Shape.{counters, segments, shape}
+use Rattle.model.proofs.expansion.Facts.{kept-test, unused-of}
+use Rattle.model.specs.Notions.{Kept, In, SmallEdge, segAt, worth, ClosedHeap, guardsOn, Alone}
+use Rattle.model.proofs.expansion.Folds.{kept-down}
+use Rattle.model.proofs.ways.Leave.{Fit, begin, Lands, fits-lands}
+use Rattle.model.proofs.lists.Lists.{getD-default, in-joined, in-map, in-single, joined-in, map-in}
+use Rattle.model.proofs.lists.Logic.{bool-case, and-l}
+use Rattle.model.proofs.visits.Order.{used-below}
+use Rattle.model.proofs.ways.Picks.{branch-pick, kind-case, made-goes, pick-in, pick-low, accept-pick, accept-room, room-of}
+use Rattle.model.proofs.expansion.Start.{start}
+use Rattle.model.proofs.expansion.Step.{branch-same}
+use Rattle.model.proofs.ways.Ways.{count-length, size-at, whole-fits, view-node, view-acts, acts-no-pick, split-fits, one-alone}
+
+-- what is known of an edge by its way
+pub way-guards : (s k : ℕ) (y : Way) (a : Answer) (E : Edge) → In E (edgeBy s k y a) → E .guards ≡ y .guards
+way-guards s k y refused E i = absurd i
+way-guards s k y stopped E i = absurd i
+way-guards s k y (faulted f) E i = ap (λ (x : Edge). x .guards) (in-single E _ i)
+way-guards s k y (went b t h) E i = ap (λ (x : Edge). x .guards) (in-single E _ i)
+
+pub edge-goes : (s k : ℕ) (y : Way) (st : Stmt) (E : Edge) → In E (edgeBy s k y (stepBy st k y))
+    → isStop (kind (st .op)) ≡ false
+edge-goes s k y st E i = bool-case (isStop (kind (st .op)))
+    (λ e. bool-case (accepts (st .op) (entry (y .pick) k) (y .heap)) (λ a. absurd (rw (a, e) at i))
+    (λ a. absurd (rw a at i)))
+    (λ e. e)
+
+-- at choose the branch of an edge is the pick of its way, since nothing is lost
+pub choose-edge : (s k : ℕ) (st : Stmt) → kind (st .op) ≡ picks → (y : Way) → kept (y .heap) ≡ true → (E : Edge)
+    → In E (edgeBy s k y (stepBy st k y)) → E .branchNo ≡ y .pick
+choose-edge s k st q y kt E i =
+    let j = rw q at i in
+    bool-case (leb (y .pick) 1)
+    (λ a. ap (λ (x : Edge). x .branchNo) (in-single E _ (rw (a, kt) at j)))
+    (λ a. absurd (rw a at j))
+
+module _ (s : ℕ) (st : Stmt) (H : Heap) (cl : ClosedHeap H) (kp : Kept H) where
+  abbrev op-of : Op
+  op-of = st .op
+
+  abbrev does : Action
+  does = action op-of
+
+  abbrev nodes : ℕ
+  nodes = length (shape H .slots)
+
+  counter-same : (n : ℕ) → view does (shape H) ≡ oneNode n → getD (counters H) n 0 ≡ getD (counters H) n 1
+  counter-same n a =
+      let lt = used-below (shape H .slots) n (view-node H cl kp does n a) in
+      getD-default (counters H) 0 1 n (omega (arith, count-length H cl kp))
+
+  -- the branch on the heap and on its shape
+  plain-branch : (p q : ℕ) → (kind op-of ≡ picks → p ≡ q) → branch op-of p H ≡ branch op-of q (shape H)
+  plain-branch p q h =
+      branch-same (shape H) (segAt (segments H)) H (start H cl kp) (kind op-of) p
+      ∙ kind-case (kind op-of) (λ e. ap (λ z. branch op-of z (shape H)) (h e))
+      (λ n. branch-pick (kind op-of) p q (shape H) n)
+
+  node-branch : (n : ℕ) → view does (shape H) ≡ oneNode n → (p q : ℕ) (g : Heap) → branch op-of p H ≡ branch op-of q g
+  node-branch n a p q g =
+      let f = view-acts (kind op-of) (shape H) n a in
+      ap (λ k. branchBy k p H) (f .1) ∙ sym (ap (λ k. branchBy k q g) (f .1))
+
+  -- ---- each way whose guards are on lands beside each entry that is accepted and, at choose, picks as the way does
+
+  plain-lands : view does (shape H) ≡ noNode → (y : Way)
+      → In y (map (λ p. whole [] p (shape H)) (picksOf (kind op-of))) → (e : Entry)
+      → isStop (kind op-of) ≡ false → accepts op-of e H ≡ true → (kind op-of ≡ picks → e .pick ≡ y .pick)
+      → Lands s st H cl kp y e
+  plain-lands v y i e g ac pk =
+      let r = in-map (λ p. whole [] p (shape H)) y (picksOf (kind op-of)) i in
+      subst (λ z. Lands s st H cl kp z e) (sym (r .2))
+      (fits-lands s st H cl kp (whole [] (r .0) (shape H)) e g
+      (whole-fits H cl kp does (e .cellNo) (r .0) [] (subst (λ x. Alone x (segAt (segments H))) (sym v) tt))
+      (pick-low (kind op-of) (r .0) (r .1)) (omega arith) ac
+      (plain-branch (e .pick) (r .0) (λ q. pk q ∙ ap (λ (z : Way). z .pick) (r .2))))
+
+  one-lands : (n : ℕ) → view does (shape H) ≡ oneNode n → guardsOn (oneAt n ∷ []) (counters H) ≡ true → (e : Entry)
+      → isStop (kind op-of) ≡ false → accepts op-of e H ≡ true → Lands s st H cl kp (whole (oneAt n ∷ []) 0 (shape H)) e
+  one-lands n v on e g ac =
+      let z = eqb-true (getD (counters H) n 0) 1 (and-l (eqb (getD (counters H) n 0) 1) true on) in
+      fits-lands s st H cl kp (whole (oneAt n ∷ []) 0 (shape H)) e g
+      (whole-fits H cl kp does (e .cellNo) 0 (oneAt n ∷ []) (subst (λ x. Alone x (segAt (segments H))) (sym v)
+      (one-alone H cl kp n (sym (counter-same n v) ∙ z))))
+      (omega arith) (omega arith) ac (node-branch n v (e .pick) 0 (shape H))
+
+  split-lands : (n : ℕ) → view does (shape H) ≡ oneNode n → guardsOn (moreAt n ∷ []) (counters H) ≡ true → (e : Entry)
+      → isStop (kind op-of) ≡ false → accepts op-of e H ≡ true
+      → Lands s st H cl kp (split (moreAt n ∷ []) n (shape H)) e
+  split-lands n v on e g ac =
+      let z = leb-true 2 (getD (counters H) n 0) (and-l (leb 2 (getD (counters H) n 0)) true on) in
+      let w = counter-same n v in
+      fits-lands s st H cl kp (split (moreAt n ∷ []) n (shape H)) e g
+      (split-fits H cl kp does (e .cellNo) n (moreAt n ∷ []) v (omega arith))
+      (omega arith) (omega arith) ac (node-branch n v (e .pick) 0 (splitHeap n nodes (shape H)))
+
+  way-lands : (v : View) → view does (shape H) ≡ v → (y : Way) → In y (waysOf (kind op-of) v (shape H))
+      → guardsOn (y .guards) (counters H) ≡ true → (e : Entry) → isStop (kind op-of) ≡ false → accepts op-of e H ≡ true
+      → (kind op-of ≡ picks → e .pick ≡ y .pick) → Lands s st H cl kp y e
+  way-lands noNode v y i on e g ac pk = plain-lands v y i e g ac pk
+  way-lands (oneNode n) v y (inl q) on e g ac pk =
+      subst (λ z. Lands s st H cl kp z e) (sym q) (one-lands n v (rw q at on) e g ac)
+  way-lands (oneNode n) v y (inr (inl q)) on e g ac pk =
+      subst (λ z. Lands s st H cl kp z e) (sym q) (split-lands n v (rw q at on) e g ac)
+  way-lands (oneNode n) v y (inr (inr x)) on e g ac pk = absurd x
+
+  -- the way that the heap takes
+  abbrev Taken : View → Entry → Type 0
+  Taken v e = (y : Way) × In y (waysOf (kind op-of) v (shape H)) × (guardsOn (y .guards) (counters H) ≡ true)
+      × (kind op-of ≡ picks → e .pick ≡ y .pick)
+
+  take-way : (v : View) → view does (shape H) ≡ v → (e : Entry) → accepts op-of e H ≡ true → Taken v e
+  take-way noNode v e ac =
+      let r = pick-in (kind op-of) (e .pick) (accept-pick op-of e H ac) in (
+        whole [] (r .0) (shape H),
+        map-in (λ p. whole [] p (shape H)) (r .0) (picksOf (kind op-of)) (r .1),
+        refl,
+        r .2,
+      )
+  take-way (oneNode n) v e ac =
+      let f = view-acts (kind op-of) (shape H) n v in
+      let np : kind op-of ≡ picks → e .pick ≡ 0 = λ q. absurd (acts-no-pick (f .0) (sym (f .1) ∙ q)) in
+      let u = view-node H cl kp does n v in
+      let lt = used-below (shape H .slots) n u in
+      let sz = size-at H cl kp n in
+      let w = counter-same n v in
+      bool-case (eqb (getD (counters H) n 0) 1)
+      (λ q. (whole (oneAt n ∷ []) 0 (shape H), inl refl, rw q, np))
+      (λ q. let ne = eqb-false (getD (counters H) n 0) 1 q in
+      let two = le-leb 2 (getD (counters H) n 0) (omega arith) in
+      (split (moreAt n ∷ []) n (shape H), inr (inl refl), rw two, np))
+
+  edge-in : (y : Way) (E : Edge) → In y (ways op-of (shape H)) → edgeBy s nodes y (stepBy st nodes y) ≡ E ∷ []
+      → In E (edgesAt s st (shape H))
+  edge-in y E i e =
+      joined-in E (edgeBy s nodes y (stepBy st nodes y)) (map (λ z. edgeBy s nodes z (stepBy st nodes z))
+      (ways op-of (shape H)))
+      (map-in (λ z. edgeBy s nodes z (stepBy st nodes z)) y (ways op-of (shape H)) i) (rw e (inl refl))
+
+  -- each step that the routine makes is an edge of the location
+  pub leave-forward : (e : Entry) (x : Advance State) → made (begin s H) (step st e H) ≡ some x
+      → (E : Edge) × In E (edgesAt s st (shape H)) × (guardsOn (E .guards) (counters H) ≡ true)
+      × (x .branchNo ≡ E .branchNo)
+      × Fit (x .after) (E .to) (map (worth (counters H)) (E .updates))
+  leave-forward e x m =
+      let g = made-goes (begin s H) st e H x m in
+      let T = take-way (view does (shape H)) refl e (g .1) in
+      let r = way-lands (view does (shape H)) refl (T .0) (T .1) (T .2) e (g .0) (g .1) (T .3) in
+      let L = r .3 in
+      let z : L .taken ≡ x = (let u = L .isMade in cc) in (
+        r .0,
+        edge-in (T .0) (r .0) (T .1) (r .1),
+        ap (λ gs. guardsOn gs (counters H)) (r .2) ∙ T .2,
+        ap (λ (y : Advance State). y .branchNo) (sym z) ∙ L .branches,
+        subst (λ (y : Advance State). Fit (y .after) (r .0 .to) (map (worth (counters H)) (r .0 .updates))) z (L .fits),
+      )
+
+  -- the way of an edge
+  pub edge-way : (E : Edge) → In E (edgesAt s st (shape H))
+      → (y : Way) × In y (ways op-of (shape H)) × In E (edgeBy s nodes y (stepBy st nodes y))
+  edge-way E i =
+      let r = in-joined E (map (λ z. edgeBy s nodes z (stepBy st nodes z)) (ways op-of (shape H))) i in
+      let q = in-map (λ z. edgeBy s nodes z (stepBy st nodes z)) (r .0) (ways op-of (shape H)) (r .1) in
+      (q .0, q .1, subst (In E) (q .2) (r .2))
+
+  -- a way of choose has the shape as it is
+  choose-way : kind op-of ≡ picks → (y : Way) → In y (ways op-of (shape H)) → (y .heap ≡ shape H) × (y .pick ≤ 1)
+  choose-way q y i =
+      let v : view does (shape H) ≡ noNode = ap (λ k. view (actionOf k) (shape H)) q in
+      let r = in-map (λ p. whole [] p (shape H)) y (picksOf (kind op-of))
+      (subst (λ x. In y (waysOf (kind op-of) x (shape H))) v i) in (
+        ap (λ (z : Way). z .heap) (r .2),
+        subst (λ (z : Way). z .pick ≤ 1) (sym (r .2))
+            (pick-low (kind op-of) (r .0) (r .1)),
+      )
+
+  -- each enabled edge is a step of the routine, fed the edge's branch and whichever cell that is not in use
+  pub leave-backward : (E : Edge) → In E (edgesAt s st (shape H)) → guardsOn (E .guards) (counters H) ≡ true
+      → (e : Entry)
+      → e .pick ≡ E .branchNo → inUse (next H (e .cellNo)) ≡ false
+      → (x : Advance State) × (made (begin s H) (step st e H) ≡ some x) × (x .branchNo ≡ E .branchNo)
+      × Fit (x .after) (E .to) (map (worth (counters H)) (E .updates))
+      × SmallEdge nodes E
+  leave-backward E i on e p u =
+      let w = edge-way E i in
+      let y = w .0 in
+      let on′ = ap (λ gs. guardsOn gs (counters H)) (sym (way-guards s nodes y (stepBy st nodes y) E (w .2))) ∙ on in
+      let g : isStop (kind op-of) ≡ false = edge-goes s nodes y st E (w .2) in
+      let kt = kept-test (shape H) (kept-down (shape H) (segAt (segments H)) H (start H cl kp) kp) in
+      let pk : kind op-of ≡ picks → e .pick ≡ y .pick =
+      λ q. p ∙ choose-edge s nodes st q y (ap kept (choose-way q y (w .1) .0) ∙ kt) E (w .2) in
+      let ac : accepts op-of e H ≡ true =
+      accept-room op-of e H (room-of does H (e .cellNo) (unused-of (next H (e .cellNo)) u))
+      (λ q. let z = pk q in let l = choose-way q y (w .1) .1 in omega arith) in
+      let r = way-lands (view does (shape H)) refl y (w .1) on′ e g ac pk in
+      let z : E ≡ r .0 = in-single E (r .0) (subst (In E) (r .1) (w .2)) in
+      let L = r .3 in (
+        L .taken,
+        L .isMade,
+        L .branches ∙ ap (λ (x : Edge). x .branchNo) (sym z),
+        subst (λ (x : Edge). Fit (L .taken .after) (x .to) (map (worth (counters H)) (x .updates))) (sym z) (L .fits),
+        subst (SmallEdge nodes) (sym z) (r .4),
+      )

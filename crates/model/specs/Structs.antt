@@ -1,0 +1,58 @@
+-- What the structs that the code passes by value stand for. Assumes nothing.
+use Prim.Native.Nat.{ℕ, zero, suc, _≤_}
+use mathlib.Core.List.{List, [], _∷_, map}
+use mathlib.Core.Path.{_≡_}
+use lib.ListN.{length, take}
+use Rattle.model.specs.Edges.{Edge, Guard, isMore, isOne}
+use Rattle.model.specs.Machine.{Op, Stmt}
+use Rattle.model.specs.Records.{byte, guardBytes, locRecord, opOf, updateCode}
+use Rattle.model.specs.declared.Decoded.{Decoded}
+use Rattle.model.specs.declared.EdgeMade.{EdgeMade}
+use Rattle.model.specs.declared.Guards.{Guards}
+
+-- ---- a statement's record, decoded
+
+-- the struct that the record r is decoded into
+abbrev pub decoded : List ℕ → Decoded
+decoded r = record {
+  op = byte r 1;
+  u = record { 0 = byte r 2 };
+  w = record { 0 = byte r 3 };
+  first = record { 0 = byte r 4 };
+  second = record { 0 = byte r 5 };
+}
+
+abbrev pub opIn : Decoded → Op
+opIn d = opOf (d .op) (d .u .0) (d .w .0)
+
+abbrev pub stmtIn : Decoded → Stmt
+stmtIn d = record { op = opIn d; firstTarget = d .first .0; secondTarget = d .second .0 }
+
+-- ---- guards
+
+abbrev pub guardBy : ℕ → ℕ → List Guard
+guardBy zero n = []
+guardBy (suc zero) n = record { node = n; test = isOne } ∷ []
+guardBy (suc (suc t)) n = record { node = n; test = isMore } ∷ []
+
+abbrev pub guardsIn : Guards → List Guard
+guardsIn g = guardBy (g .first .test) (g .first .node .0)
+
+-- the two bytes that an E record has for them
+abbrev pub guardsBytes : Guards → List ℕ
+guardsBytes g = g .first .test ∷ g .first .node .0 ∷ []
+
+-- guards that are written as they are read: no node where there is no guard
+abbrev pub Writes : Guards → Type 0
+Writes g = guardBytes (guardsIn g) ≡ guardsBytes g
+
+-- ---- an edge
+
+-- the edge E as bytes: its target's record t, its updates us, and what else was made
+pub record IsEdge (E : Edge) (t us : List ℕ) (r : EdgeMade) : Type 0 where
+  pub branch : r .branch ≡ E .branchNo
+  pub guards : guardBytes (E .guards) ≡ guardsBytes (r .guards)
+  pub target : t ≡ locRecord (E .to)
+  pub number : r .nodes ≡ length (E .updates)
+  pub few : r .nodes ≤ 12
+  pub updates : take (r .nodes) us ≡ map updateCode (E .updates)

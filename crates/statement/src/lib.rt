@@ -1,0 +1,32 @@
+// A statement's record decoded, and the statement after it.
+use model::Decoded;
+use model::Pointer;
+use model::Statement;
+ghost use mathlib.Core.Path.{_≡_};
+ghost use lib.ListN.{length};
+ghost use Rattle.model.specs.Machine.{target};
+ghost use Rattle.model.specs.Structs.{decoded, stmtIn};
+
+// The fields of an S record.
+pub fn decode(rec: &[u8]) -> Decoded
+    requires { ⌜ length (now rec) ≡ 32 ⌝ }
+    ensures { λ r. ⌜ r ≡ decoded (now (rec .entry)) ⌝ }
+{
+    Decoded {
+        op: rec[1],
+        u: Pointer(rec[2]),
+        w: Pointer(rec[3]),
+        first: Statement(rec[4]),
+        second: Statement(rec[5]),
+    }
+}
+
+// The next statement: the first target for branch 0, else the second.
+pub fn next_of(d: Decoded, branch: u8) -> Statement
+    ensures { λ r. ⌜ r .0 ≡ target (stmtIn d) branch ⌝ }
+{
+    if branch == 0 {
+        return d.first;
+    }
+    d.second
+}

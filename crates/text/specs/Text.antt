@@ -1,0 +1,72 @@
+-- The text of an outcome, as the request's P1 fixes it: "prints each L, then each E, as 64 hex digits a line, or
+-- `refused`, number and place in base 10 with one space between". Assumes nothing.
+use Prim.Native.Nat.{ℕ, zero, suc, _+_, _*_, _/_, _%_, _≤_}
+use mathlib.Core.Bool.{true, false}
+use mathlib.Core.List.{List, [], _∷_, _++_, map}
+use lib.Dec.{ltb}
+use lib.ListN.{length}
+use Rattle.model.specs.Base.{joined}
+use Rattle.model.specs.Records.{Refusal, isAccepted, isRefused}
+use Rattle.model.specs.Answers.{outcomeOf}
+use Rattle.model.specs.Translate.{Outcome, chunks}
+use Rattle.model.specs.declared.Translated.{Translated}
+
+-- ---- records
+
+-- a digit below 16: 0 to 9, then a to f
+abbrev pub digitOf : ℕ → ℕ
+digitOf n = elim (ltb n 10) [
+  | true ↦ 48 + n
+  | false ↦ 87 + n
+]
+
+-- a byte: two digits, the high one first
+abbrev pub byteOf : ℕ → List ℕ
+byteOf b = digitOf (b / 16) ∷ digitOf (b % 16) ∷ []
+
+-- a record as a line: the digits of each byte, and a line's end
+abbrev pub lineOf : List ℕ → List ℕ
+lineOf r = joined (map byteOf r) ++ 10 ∷ []
+
+-- the first n records of a table, a line each
+abbrev pub linesOf : ℕ → List ℕ → List ℕ
+linesOf n t = joined (map lineOf (chunks n t))
+
+-- ---- a refusal
+
+-- a number in base 10, the high digit first, with at most f digits
+abbrev pub digitsWithin : ℕ → ℕ → List ℕ
+digitsWithin zero n = []
+digitsWithin (suc f) n =
+    elim (ltb n 10) [
+      | true ↦ (48 + n) ∷ []
+      | false ↦ digitsWithin f (n / 10) ++ (48 + n % 10) ∷ []
+    ]
+
+-- the same with all its digits, of which there are at most n + 1
+unfoldable pub decimalOf : ℕ → List ℕ
+decimalOf n = digitsWithin (suc n) n
+
+-- the word `refused` and a space
+abbrev pub refusedWord : List ℕ
+refusedWord = 0x72 ∷ 0x65 ∷ 0x66 ∷ 0x75 ∷ 0x73 ∷ 0x65 ∷ 0x64 ∷ 0x20 ∷ []
+
+abbrev pub refusalLine : Refusal → List ℕ
+refusalLine x = refusedWord ++ decimalOf (x .number) ++ 0x20 ∷ [] ++ decimalOf (x .place) ++ 10 ∷ []
+
+-- ---- the whole answer
+
+-- the locations and then the edges where nothing is refused, else the refusal
+unfoldable pub textOf : Outcome → List ℕ
+textOf o =
+    elim (o .verdict) [
+      | isAccepted ↦ let t = o .tables in linesOf (t .locCount) (t .locBytes) ++ linesOf (t .edgeCount) (t .edgeBytes)
+      | isRefused x ↦ refusalLine x
+    ]
+
+-- the records that are counted stand in the tables, and the text has room for them
+abbrev pub Stand : ℕ → List ℕ → ℕ → List ℕ → Type 0
+Stand i ls j es = (i ≤ 1024) × (j ≤ 2048) × (32 * i ≤ length ls) × (32 * j ≤ length es)
+
+abbrev pub Stands : Translated → List ℕ → List ℕ → Type 0
+Stands o ls es = Stand (outcomeOf o ls es .tables .locCount) ls (outcomeOf o ls es .tables .edgeCount) es

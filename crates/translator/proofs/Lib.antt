@@ -1,5 +1,0 @@
-pub mod Starts
-pub mod Outcomes
-pub mod Listed
-pub mod Answers
-pub mod Telling

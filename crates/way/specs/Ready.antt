@@ -1,0 +1,32 @@
+-- A way out of a location that is ready to be taken. Assumes nothing.
+use Prim.Native.Nat.{ℕ, _≤_, _<_}
+use mathlib.Core.Path.{_≡_}
+use mathlib.Core.Bool.{true, false}
+use mathlib.Core.List.{List}
+use lib.ListN.{length}
+use Rattle.model.specs.Edges.{at, oneNode, view}
+use Rattle.model.specs.Heap.{Heap}
+use Rattle.model.specs.Machine.{action, isStop, kind}
+use Rattle.model.specs.Notions.{Canon}
+use Rattle.model.specs.Records.{locRecord, opCount}
+use Rattle.model.specs.Structs.{Writes, opIn}
+use Rattle.model.specs.declared.Decoded.{Decoded}
+use Rattle.way.specs.declared.Way.{Way}
+
+-- the fields of an accepted statement
+pub record DecodedOk (d : Decoded) : Type 0 where
+  pub known : d .op < opCount
+  pub isU : d .u .0 < 6
+  pub isW : d .w .0 < 6
+
+-- the record l is that of statement s with shape h; d is the statement; and the way is one of the location's
+pub record WayReady (l : List ℕ) (d : Decoded) (s : ℕ) (h : Heap) (y : Way) : Type 0 where
+  pub isRecord : l ≡ locRecord (at s h)
+  pub isShape : Canon h
+  pub six : length (h .ptrs) ≡ 6
+  pub statement : DecodedOk d
+  pub low : s < 64
+  pub goes : isStop (kind (opIn d)) ≡ false
+  pub pick : y .pick ≤ 1
+  pub guards : Writes (y .guards)
+  pub isNode : y .split ≡ true → view (action (opIn d)) h ≡ oneNode (y .node .0)
