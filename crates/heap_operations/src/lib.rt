@@ -11,7 +11,7 @@ use plain_step::take_step;
 ghost use mathlib.Core.Path.{_≡_};
 ghost use Rattle.model.specs.Answers.{foldingOf, unfoldingOf, steppingOf};
 ghost use Rattle.model.specs.Image.{heapOf, foldImage, unfoldImage, stepImage};
-ghost use Rattle.segment.specs.Shape.{ShapeReady};
+ghost use Rattle.folding.specs.Shape.{ShapeReady};
 ghost use Rattle.heap_operations.specs.Fold.{foldedHeap};
 
 // Folds a heap whose visit order and counts of holders are given. Sizes past the nodes stay zero.
@@ -24,7 +24,7 @@ fn fold_heap(pointers: &[u8], cells: &[u8], order: &[u8], held: &[u8]) -> Folded
     let mut size = [0u32; 12];
     let mut shape = [0u8; 32];
     let k = segment::cut(order, held, &mut node, &mut last, &mut size);
-    segment::fold_shape(pointers, cells, &last[..k], &node, &mut shape[4..]);
+    folding::fold_shape(pointers, cells, &last[..k], &node, &mut shape[4..]);
     record::write_head(&mut shape, 0x48, Statement(0), k);
     Folded {
         ended: Ended::Accepted,

@@ -17,7 +17,7 @@ use Rattle.model.proofs.expansion.Start.{where-is}
 use Rattle.model.proofs.shapes.Segments.{each-cell-once}
 use Rattle.model.proofs.visits.Order.{Toured, toured, used-below}
 use Rattle.record.proofs.Bytes.{headed-is}
-use Rattle.segment.specs.Shape.{IsShape}
+use Rattle.folding.specs.Shape.{IsShape}
 use Rattle.update.proofs.Updates.{Segmented, update-codes}
 use Rattle.update.specs.Codes.{CellsReady, codeAt}
 use Rattle.update.specs.declared.Weights.{Weights}

@@ -10,7 +10,7 @@ use Rattle.model.specs.Image.{heapOf}
 use Rattle.model.specs.Notions.{Used}
 use Rattle.model.specs.Records.{locRecord, updateCode}
 use Rattle.model.specs.Shape.{segments, shape}
-use Rattle.segment.specs.Shape.{ShapeReady}
+use Rattle.folding.specs.Shape.{ShapeReady}
 use Rattle.update.specs.Codes.{weightIn}
 use Rattle.update.specs.declared.Weights.{Weights}
 

@@ -22,7 +22,7 @@ pub fn leave(
     let mut size = [0u32; 16];
     record::blank(target);
     let m = segment::cut(order, held, &mut node, &mut last, &mut size);
-    segment::fold_shape(pointers, cells, &last[..m], &node, &mut target[4..]);
+    folding::fold_shape(pointers, cells, &last[..m], &node, &mut target[4..]);
     // the updates come last: what was written byte by byte is read in words soon after
     update::sum_cells(order, &node, weights, updates);
     m

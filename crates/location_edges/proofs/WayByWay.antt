@@ -15,11 +15,11 @@ use Rattle.way.specs.declared.Way.{Way}
 use Rattle.listing.specs.Grow.{GrownTo, Holds}
 use Rattle.listing.specs.declared.Grown.{Grown}
 use Rattle.listing.specs.declared.Grown.the-variants.{Added, Full}
-use Rattle.explore.specs.declared.Ways.{Ways}
-use Rattle.explore.specs.Explore.{LocsOk}
-use Rattle.explore.specs.LocationEdges.{AreWays, AtShape, EdgesAdded, ShapeGiven, WayAdded, WayGiven}
-use Rattle.explore.proofs.Added.{add-full, add-step, more, more-fine}
-use Rattle.explore.proofs.EdgesByWay.{WayAt, edges-all, edges-none, edgesFrom, next-way}
+use Rattle.location_edges.specs.declared.Ways.{Ways}
+use Rattle.location_edges.specs.Added.{LocsOk}
+use Rattle.location_edges.specs.LocationEdges.{AreWays, AtShape, EdgesAdded, ShapeGiven, WayAdded, WayGiven}
+use Rattle.location_edges.proofs.Added.{add-full, add-step, more, more-fine}
+use Rattle.location_edges.proofs.EdgesByWay.{WayAt, edges-all, edges-none, edgesFrom, next-way}
 
 -- The listing stands in the tables ls and es; adding all edges to t₀ gives the same as adding those left to it.
 pub record Left (n i cl ce : ℕ) (edges left : List Edge) (t₀ : Listing) (ls es : List ℕ) (c : Counts) : Type 0 where

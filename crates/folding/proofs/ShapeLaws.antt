@@ -23,10 +23,10 @@ use Rattle.model.proofs.shapes.Segments.{core-first}
 use Rattle.model.proofs.expansion.Start.{end, last-head}
 use Rattle.model.proofs.visits.Walks.{holders, pointed}
 use Rattle.model.proofs.expansion.Writes.{holds-inj, slot-clash}
 use Rattle.segment.specs.Cut.{heldCore, segs}
-use Rattle.segment.specs.Fold.{foldByte}
+use Rattle.folding.specs.Fold.{foldByte}
 use Rattle.segment.proofs.CutLaws.{cut-same}
-use Rattle.segment.proofs.ListLaws.{map-at}
+use Rattle.folding.proofs.ListLaws.{map-at}
 
 -- the table m has for each cell of the segments ss the number of its segment
 abbrev pub Nodes : List Seg → List ℕ → Type 0

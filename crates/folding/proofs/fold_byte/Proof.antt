@@ -2,8 +2,8 @@
 use Prim.Native.Nat.{_<_}
 use borrow.Author.Needs.{needs}
 use borrow.Author.Tests.{lt-ltb, le-ltb}
-use Rattle.segment.proofs.fold_byte.Statement.{statement}
-use Rattle.segment.proofs.fold_byte.Tie as tie
+use Rattle.folding.proofs.fold_byte.Statement.{statement}
+use Rattle.folding.proofs.fold_byte.Tie as tie
 
 shared-slice-read-result : tie.Need-shared-slice-read-result
 shared-slice-read-result c = c .before .before .pre (search needs)

@@ -17,10 +17,10 @@ use Rattle.model.specs.Notions.{flat, segAt, AllClosed, Closed, seg}
 use Rattle.model.proofs.visits.Order.{pigeon, toured}
 use Rattle.model.proofs.shapes.Segments.{each-cell-once, segments-are, twelve}
 use Rattle.model.proofs.expansion.Start.{end}
 use Rattle.segment.specs.Cut.{CutReady, heldCore, segs, IsCut, CutTables}
-use Rattle.segment.specs.Fold.{AllIn, InTable, LastsIn, FoldReady, foldedBytes, foldByte}
-use Rattle.segment.proofs.ShapeLaws.{shape-pointers, shape-successors, cell-low, segs-same, slot-of}
-use Rattle.segment.specs.Shape.{ShapeReady, IsShape}
+use Rattle.folding.specs.Fold.{AllIn, InTable, LastsIn, FoldReady, foldedBytes, foldByte}
+use Rattle.folding.proofs.ShapeLaws.{shape-pointers, shape-successors, cell-low, segs-same, slot-of}
+use Rattle.folding.specs.Shape.{ShapeReady, IsShape}
 
 flat-first : (ss : List Seg) → 0 < length (flat ss) → (0 < length ss) × (getD (flat ss) 0 0 ≡ segAt ss 0 .first)
 flat-first [] h = absurd (omega arith)

@@ -1,8 +1,8 @@
 -- `add_way` meets its contract: what the way leaves is its edge, as bytes.
 use native.Mathlib.Omega.{arith}
 use borrow.Author.Needs.{needs}
-use Rattle.explore.proofs.add_way.Statement.{statement}
-use Rattle.explore.proofs.add_way.Tie as tie
+use Rattle.location_edges.proofs.add_way.Statement.{statement}
+use Rattle.location_edges.proofs.add_way.Tie as tie
 
 one-edge-requires : tie.Need-one-edge-requires
 one-edge-requires c κs =

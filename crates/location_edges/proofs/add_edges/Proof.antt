@@ -1,9 +1,9 @@
 -- `add_edges` meets its contract: the op and the value that it looks at tell how many ways there are.
 use native.Mathlib.Omega.{arith}
 use borrow.Author.Needs.{needs}
-use Rattle.explore.proofs.LocationBytes.{counted, location-wide}
-use Rattle.explore.proofs.add_edges.Statement.{statement}
-use Rattle.explore.proofs.add_edges.Tie as tie
+use Rattle.location_edges.proofs.LocationBytes.{counted, location-wide}
+use Rattle.location_edges.proofs.add_edges.Statement.{statement}
+use Rattle.location_edges.proofs.add_edges.Tie as tie
 
 part-view-end : tie.Need-part-view-end
 part-view-end c = omega (arith, location-wide (c .before .before .before .pre .here))

@@ -21,8 +21,8 @@ use Rattle.way.specs.Way.{wayIn, wayNumber}
 use Rattle.way.specs.declared.Way.{Way}
 use Rattle.listing.specs.Grow.{Holds, GrownTo}
 use Rattle.listing.specs.declared.Grown.{Grown}
-use Rattle.explore.specs.Explore.{LocsOk, AddedTo, addedIn}
-use Rattle.explore.specs.declared.Ways.{Ways}
+use Rattle.location_edges.specs.Added.{LocsOk, AddedTo, addedIn}
+use Rattle.location_edges.specs.declared.Ways.{Ways}
 
 -- d is an accepted statement among n: its fields, and where its branches lead
 pub record Among (d : Decoded) (n : ℕ) : Type 0 where

@@ -19,8 +19,8 @@ use Rattle.model.proofs.records.ReadBack.{canon-writable, location-length, loca
 use Rattle.model.proofs.records.ShapeBack.{values-pass}
 use Rattle.way.proofs.Opened.{ready-heap}
 use Rattle.way.specs.Way.{OpenReady, wayNumber}
-use Rattle.explore.specs.declared.Ways.{Ways}
-use Rattle.explore.specs.LocationEdges.{AtShape, Counted}
+use Rattle.location_edges.specs.declared.Ways.{Ways}
+use Rattle.location_edges.specs.LocationEdges.{AtShape, Counted}
 
 module _ {l : List ℕ} {d : Decoded} {n s : ℕ} {h : Heap} (A : AtShape l d n s h) where
   writable : Writable h

@@ -29,9 +29,9 @@ use Rattle.model.proofs.ways.Ways.{view-looks}
 use Rattle.way.specs.Ready.{WayReady}
 use Rattle.way.specs.Way.{IsWay, wayBy, wayIn}
 use Rattle.way.specs.declared.Way as declared
-use Rattle.explore.specs.declared.Ways.{Ways}
-use Rattle.explore.specs.Explore.{LocOk}
-use Rattle.explore.specs.LocationEdges.{AtShape, Counted, WayEdge}
+use Rattle.location_edges.specs.declared.Ways.{Ways}
+use Rattle.location_edges.specs.Added.{LocOk}
+use Rattle.location_edges.specs.LocationEdges.{AtShape, Counted, WayEdge}
 
 -- ---- one way
 

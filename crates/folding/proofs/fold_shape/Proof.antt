@@ -2,11 +2,11 @@
 use mathlib.Core.Path.{_∙_}
 use lib.ListN.{length, length-map}
 use borrow.Author.Needs.{needs}
-use Rattle.segment.proofs.ListLaws.{over-front}
-use Rattle.segment.proofs.fold_shape.Statement.{statement}
-use Rattle.segment.proofs.fold_shape.Tie as tie
+use Rattle.folding.proofs.ListLaws.{over-front}
+use Rattle.folding.proofs.fold_shape.Statement.{statement}
+use Rattle.folding.proofs.fold_shape.Tie as tie
 use mathlib.Core.List.{map}
-use Rattle.segment.specs.Fold.{foldByte}
+use Rattle.folding.specs.Fold.{foldByte}
 
 returns : tie.Need-returns
 returns c =

@@ -3,9 +3,9 @@ use Prim.Native.Nat.{_-_}
 use mathlib.Core.Path.{_≡_, refl, _∙_}
 use lib.ListN.{length}
 use borrow.Author.Needs.{needs}
-use Rattle.explore.proofs.WayByWay.{Adds, adds-end, adds-full, adds-next, adds-start, way-given}
-use Rattle.explore.proofs.add_ways.Statement.{statement}
-use Rattle.explore.proofs.add_ways.Tie as tie
+use Rattle.location_edges.proofs.WayByWay.{Adds, adds-end, adds-full, adds-next, adds-start, way-given}
+use Rattle.location_edges.proofs.add_ways.Statement.{statement}
+use Rattle.location_edges.proofs.add_ways.Tie as tie
 
 abbrev Inv-loop : tie.InvT-loop
 Inv-loop d location ways locations₀ edges₀ i held₀ j₀ locations edges held j =

@@ -16,7 +16,7 @@ use Rattle.model.proofs.lists.Logic.{bool-case}
 use Rattle.model.specs.declared.Counts.{Counts}
 use Rattle.listing.specs.Grow.{GrownTo}
 use Rattle.listing.specs.declared.Grown.the-variants.{Added, Full}
-use Rattle.explore.specs.Explore.{LocOk, LocsOk}
+use Rattle.location_edges.specs.Added.{LocOk, LocsOk}
 
 -- the listing with the edge e of location i
 abbrev pub more : ℕ → Edge → Listing → Listing
