@@ -30,10 +30,10 @@ use Rattle.way.proofs.Ready.{node-below, node-used, nodes-few, nodes-is, shape-
 use Rattle.way.specs.Ready.{WayReady}
 use Rattle.way.specs.Way.{wayIn}
 use Rattle.way.specs.declared.Way as declared
-use Rattle.edge.specs.Edge.{LeavesBy}
-use Rattle.edge.specs.WayRun.{FaultMade, WayRan, leftIn}
+use Rattle.edge.specs.Edge.{FaultMade, LeavesBy}
+use Rattle.way_run.specs.WayRun.{WayRan, leftIn}
 use Rattle.refold.specs.Refold.{IsLeft, LeaveReady}
-use Rattle.edge.specs.declared.Gone.{Gone}
+use Rattle.way_run.specs.declared.Gone.{Gone}
 
 -- ---- the edge of an answer
 

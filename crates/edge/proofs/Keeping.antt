@@ -33,10 +33,9 @@ use Rattle.way.proofs.Ready.{nodes-few, nodes-is, shape-is}
 use Rattle.way.specs.Ready.{WayReady}
 use Rattle.way.specs.Way.{wayIn}
 use Rattle.way.specs.declared.Way.{Way}
-use Rattle.edge.specs.Edge.{LeavesBy}
-use Rattle.edge.specs.WayRun.{staysAt}
+use Rattle.edge.specs.Edge.{LeavesBy, staysAt}
 use Rattle.edge.proofs.Edges.{guards-is, step-way, went-edge}
-use Rattle.edge.proofs.Running.{branch-pointers}
+use Rattle.way_run.proofs.Running.{branch-pointers}
 
 -- ---- ops that keep the heap
 

@@ -11,44 +11,7 @@ ghost use mathlib.Core.Bool.{true};
 ghost use Prim.Native.Nat.{_≤_};
 ghost use lib.ListN.{length, set};
 ghost use Rattle.model.specs.Records.{byte};
-ghost use Rattle.machine.specs.Run.{bytes};
-ghost use Rattle.edge.specs.Edge.{EdgeReady, LeavesBy};
-ghost use Rattle.edge.specs.WayRun.{EdgeOn, FaultMade, RunsReady, WayRan, staysAt};
-
-// What the run by a way gives beside the heap image: the fault (0 for none), the branch, how many cells there are, and
-// how many were visited.
-pub struct Gone {
-    pub fault: u8,
-    pub branch: u8,
-    pub cells: usize,
-    pub visited: usize,
-}
-
-// Opens the location's shape for the way and runs the statement on it; the marks of the run count holders.
-fn run_way(
-    location: &[u8],
-    d: Decoded,
-    way: Way,
-    pointers: &mut [u8],
-    cells: &mut [u8],
-    order: &mut [u8],
-    seen: &mut [u8],
-) -> Gone
-    requires { ⌜ RunsReady (now location) d way (bytes (now pointers) (now cells)) (now order) (now seen) ⌝ }
-    ensures { λ r. ⌜ WayRan (now (location .entry)) d way (bytes (now (pointers .exit)) (now (cells .exit)))
-        (now (order .exit)) (now (seen .exit)) r ⌝ }
-{
-    let k = location[3] as usize;
-    let n = way::open_way(location, d.op, way, pointers, cells);
-    let branch = effect::branch_of(d, way.pick, &pointers[..]);
-    let ran = machine::run(d, k, pointers, &mut cells[..n], order, seen);
-    Gone {
-        fault: ran.fault,
-        branch: branch,
-        cells: n,
-        visited: ran.visited,
-    }
-}
+ghost use Rattle.edge.specs.Edge.{EdgeOn, EdgeReady, FaultMade, LeavesBy, staysAt};
 
 // The edge to a fault.
 fn fault_edge(location: &[u8], fault: u8, guards: Guards, target: &mut [u8]) -> EdgeMade
@@ -106,7 +69,7 @@ fn run_edge(
     let mut cells = [0u8; 16];
     let mut order = [0u8; 16];
     let mut seen = [0u8; 16];
-    let gone = run_way(
+    let gone = way_run::run_way(
         location,
         d,
         way,
