@@ -7,10 +7,10 @@ use lib.ListN.{length, take, drop}
 use borrow.Author.Needs.{needs}
 use borrow.Rule.Slice.PartMut.{putMid}
 use Rattle.model.proofs.lists.Slices.{part-from}
-use Rattle.text.specs.Text.{lineOf, linesOf}
-use Rattle.text.proofs.Lines.{lines-next, part-written}
-use Rattle.text.proofs.write_lines.Statement.{statement}
-use Rattle.text.proofs.write_lines.Tie as tie
+use Rattle.hex_lines.specs.Lines.{lineOf, linesOf}
+use Rattle.hex_lines.proofs.Lines.{lines-next, part-written}
+use Rattle.hex_lines.proofs.write_lines.Statement.{statement}
+use Rattle.hex_lines.proofs.write_lines.Tie as tie
 
 abbrev Inv-loop : tie.InvT-loop
 Inv-loop table n text₀ at i₀ text i =

@@ -3,9 +3,9 @@ use mathlib.Core.Path.{_≡_, ap, _∙_}
 use mathlib.Core.List.{_++_}
 use lib.ListN.{take}
 use borrow.Author.Needs.{needs}
-use Rattle.text.specs.Text.{linesOf}
-use Rattle.text.proofs.write_tables.Statement.{statement}
-use Rattle.text.proofs.write_tables.Tie as tie
+use Rattle.hex_lines.specs.Lines.{linesOf}
+use Rattle.hex_lines.proofs.write_tables.Statement.{statement}
+use Rattle.hex_lines.proofs.write_tables.Tie as tie
 
 returns : tie.Need-returns
 returns c =

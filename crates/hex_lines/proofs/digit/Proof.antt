@@ -2,9 +2,9 @@
 use mathlib.Core.Path.{refl}
 use borrow.Author.Needs.{needs}
 use borrow.Author.Tests.{le-ltb, lt-ltb}
-use Rattle.text.specs.Text.{digitOf}
-use Rattle.text.proofs.digit.Statement.{statement}
-use Rattle.text.proofs.digit.Tie as tie
+use Rattle.hex_lines.specs.Lines.{digitOf}
+use Rattle.hex_lines.proofs.digit.Statement.{statement}
+use Rattle.hex_lines.proofs.digit.Tie as tie
 
 returns : tie.Need-returns
 returns c = rw (digitOf, lt-ltb (c .before .args .n) 10 (c .if1 .taken)) refl

@@ -7,9 +7,9 @@ use native.Mathlib.Omega.{arith}
 use lib.ListN.{set, take, drop, length-set}
 use lib.Seq.{sets-eq}
 use borrow.Author.Needs.{needs}
-use Rattle.text.specs.Text.{byteOf, digitOf}
-use Rattle.text.proofs.write_byte.Statement.{statement}
-use Rattle.text.proofs.write_byte.Tie as tie
+use Rattle.hex_lines.specs.Lines.{byteOf, digitOf}
+use Rattle.hex_lines.proofs.write_byte.Statement.{statement}
+use Rattle.hex_lines.proofs.write_byte.Tie as tie
 
 returns : tie.Need-returns
 returns c =

@@ -3,9 +3,9 @@ use borrow.Author.Needs.{needs}
 use mathlib.Core.List.{[]}
 use Rattle.machine.proofs.RunLaws.{run-done, run-faults, run-leaks, visit-ready}
 use Rattle.machine.specs.Run.{bytes}
-use Rattle.plain_step.proofs.StepLaws.{ran-on, run-ready}
-use Rattle.plain_step.proofs.run_on.Statement.{statement}
-use Rattle.plain_step.proofs.run_on.Tie as tie
+use Rattle.image_run.proofs.RunLaws.{ran-on, run-ready}
+use Rattle.image_run.proofs.run_on.Statement.{statement}
+use Rattle.image_run.proofs.run_on.Tie as tie
 
 returns : tie.Need-returns
 returns c =

@@ -2,9 +2,9 @@
 use mathlib.Core.Path.{ap, sym, _∙_}
 use lib.ListN.{length}
 use borrow.Author.Needs.{needs}
-use Rattle.plain_step.proofs.StepLaws.{put-back}
-use Rattle.plain_step.proofs.run_saved.Statement.{statement}
-use Rattle.plain_step.proofs.run_saved.Tie as tie
+use Rattle.image_run.proofs.RunLaws.{put-back}
+use Rattle.image_run.proofs.run_saved.Statement.{statement}
+use Rattle.image_run.proofs.run_saved.Tie as tie
 
 restore-requires : tie.Need-restore-requires
 restore-requires c κs =

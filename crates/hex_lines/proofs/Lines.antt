@@ -1,4 +1,4 @@
--- The text grows by a line with each record, and by each piece that is put behind it; the text of an outcome.
+-- The text grows by a line with each record, and by each piece that is put behind it.
 use Prim.Native.Nat.{ℕ, zero, suc, _+_, _-_, _*_, _≤_}
 use mathlib.Core.Path.{_≡_, sym, ap, _∙_}
 use mathlib.Core.List.{List, _++_, append-assoc, append-nil, map}
@@ -9,12 +9,8 @@ use lib.Seq.{drop-drop}
 use Rattle.model.specs.Base.{joined}
 use Rattle.model.specs.Translate.{chunks}
 use borrow.Rule.Slice.PartMut.{midOf, putMid}
-use Rattle.model.specs.Answers.{outcomeOf}
-use Rattle.model.specs.Records.{refusal}
-use Rattle.model.specs.declared.Translated.{Translated}
-use Rattle.model.specs.declared.Translated.the-variants as translated
 use Rattle.model.proofs.lists.Slices.{front-is, put-back}
-use Rattle.text.specs.Text.{lineOf, linesOf, refusalLine, textOf}
+use Rattle.hex_lines.specs.Lines.{lineOf, linesOf}
 
 -- one record more of a table, f of each
 chunks-next : (f : List ℕ → List ℕ) (i : ℕ) (t : List ℕ)
@@ -37,15 +33,3 @@ pub part-written : (t r ys : List ℕ) (a n : ℕ) → length (putMid a (length 
 part-written t r ys a n k h e =
     front-is t (putMid a (length t - a) t ys) (take a t ++ r) (a + n) k h
     (put-back t r ys a n e ∙ sym (append-assoc (take a t) r (drop (a + n) t)))
-
--- ---- the two texts of an outcome
-
-pub listed-text : (ls es : List ℕ) {o : Translated} {i j : ℕ} → o ≡ translated.Listed i j
-    → linesOf i ls ++ linesOf j es ≡ textOf (outcomeOf o ls es)
-unfolding textOf
-listed-text ls es q = ap (λ x. textOf (outcomeOf x ls es)) (sym q)
-
-pub refused-text : (ls es : List ℕ) {o : Translated} {n p : ℕ} → o ≡ translated.Refused n p
-    → refusalLine (refusal n p) ≡ textOf (outcomeOf o ls es)
-unfolding textOf
-refused-text ls es q = ap (λ x. textOf (outcomeOf x ls es)) (sym q)

@@ -8,9 +8,9 @@ use lib.Seq.{set-split}
 use borrow.Author.Needs.{needs}
 use Rattle.model.specs.Base.{joined}
 use Rattle.model.proofs.lists.Slices.{joined-next, put-next}
-use Rattle.text.specs.Text.{byteOf}
-use Rattle.text.proofs.write_line.Statement.{statement}
-use Rattle.text.proofs.write_line.Tie as tie
+use Rattle.hex_lines.specs.Lines.{byteOf}
+use Rattle.hex_lines.proofs.write_line.Statement.{statement}
+use Rattle.hex_lines.proofs.write_line.Tie as tie
 
 abbrev Inv-loop : tie.InvT-loop
 Inv-loop rec line₀ i₀ line i =

@@ -1,4 +1,4 @@
--- The plain step by its parts, once the checks are passed. Assumes nothing.
+-- A statement run on an image that passed the checks. Assumes nothing.
 use Prim.Native.Nat.{ℕ, _≤_}
 use mathlib.Core.Path.{_≡_}
 use mathlib.Core.List.{List}

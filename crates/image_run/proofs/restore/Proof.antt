@@ -4,8 +4,8 @@ use native.Mathlib.Omega.{arith}
 use borrow.Author.Needs.{needs}
 use borrow.Author.Tests.{eq-eqb, ne-eqb}
 use Rattle.record.proofs.Copied.{copied-whole}
-use Rattle.plain_step.proofs.restore.Statement.{statement}
-use Rattle.plain_step.proofs.restore.Tie as tie
+use Rattle.image_run.proofs.restore.Statement.{statement}
+use Rattle.image_run.proofs.restore.Tie as tie
 
 returns : tie.Need-returns
 returns c =
