@@ -37,7 +37,7 @@ pub fn check_image(pointers: &[u8], cells: &[u8], order: &mut [u8], seen: &mut [
             visited: 0,
         };
     }
-    if !visit::is_closed(pointers, cells) {
+    if !closed_image::is_closed(pointers, cells) {
         return Checked {
             refusal: 13,
             visited: 0,

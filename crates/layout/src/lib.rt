@@ -48,5 +48,5 @@ pub fn canonical_shape(rec: &[u8]) -> bool
     ensures { λ r. ⌜ r ≡ canonical (shapeOf (now (rec .entry))) ⌝ }
 {
     let end = 10 + rec[3] as usize;
-    visit::is_canonical(&rec[4..10], &rec[10..end])
+    canonical::is_canonical(&rec[4..10], &rec[10..end])
 }

@@ -1,11 +1,11 @@
--- What the inner functions ask and give: a value that names a cell in use, one walk, one cell of a canonical heap.
--- Assumes nothing.
+-- The cells of an image, and what the inner functions ask and give: one walk, one cell that may be lost. Assumes
+-- nothing.
 use Prim.Native.Nat.{ℕ, _+_, _<_, _≤_}
 use mathlib.Core.Path.{_≡_}
 use mathlib.Core.Logic.{_⊎_}
 use mathlib.Core.Bool.{Bool, not, _&&_, cond}
 use mathlib.Core.List.{List, map}
-use lib.Dec.{eqb, leb}
+use lib.Dec.{eqb}
 use lib.ListN.{length, getD, take}
 use Rattle.model.specs.Base.{count, mem}
 use Rattle.model.specs.Heap.{Val, Slot, unused, holds}
@@ -54,7 +54,3 @@ pub record Walked (cs l m : List ℕ) (v : ℕ) (o s : List ℕ) (r : ℕ) : Typ
 -- ---- one cell that may be lost: in use and without a mark
 abbrev pub lostAt : ℕ → ℕ → Bool
 lostAt b m = not (eqb b 0xfd) && eqb m 0
-
--- ---- one cell of a canonical heap: core, and visited in its own place
-abbrev pub placed : List ℕ → List ℕ → ℕ → Bool
-placed o h c = leb 2 (getD h c 0) && eqb (getD o c 0) c

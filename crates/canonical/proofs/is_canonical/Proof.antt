@@ -1,15 +1,15 @@
--- `visit::is_canonical` meets its contract: the order has every cell, none is lost, and each is core and in its place.
--- Assumes nothing.
+-- `canonical::is_canonical` meets its contract: the order has every cell, none is lost, and each is core and in its
+-- place. Assumes nothing.
 use Prim.Native.Nat.{_≤_}
 use native.Mathlib.Omega.{arith}
 use mathlib.Core.Path.{_≡_, sym, _∙_}
 use lib.ListN.{length, getD-replicate}
 use borrow.Author.Needs.{needs}
 use borrow.Author.Tests.{not-false, not-true}
 use Rattle.visit.proofs.Laws.{kept-marked}
-use Rattle.visit.proofs.Numbering.{canonical-placed, not-kept, not-numbered}
-use Rattle.visit.proofs.is_canonical.Statement.{statement}
-use Rattle.visit.proofs.is_canonical.Tie as tie
+use Rattle.canonical.proofs.Numbering.{canonical-placed, not-kept, not-numbered}
+use Rattle.canonical.proofs.is_canonical.Statement.{statement}
+use Rattle.canonical.proofs.is_canonical.Tie as tie
 
 visit-requires : tie.Need-visit-requires
 visit-requires c κs =

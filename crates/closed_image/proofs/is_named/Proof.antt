@@ -1,10 +1,10 @@
--- `visit::is_named` meets its contract, test by test. Assumes nothing.
+-- `closed_image::is_named` meets its contract, test by test. Assumes nothing.
 use mathlib.Core.Path.{sym}
 use borrow.Author.Needs.{needs}
 use borrow.Author.Tests.{eq-eqb, ne-eqb}
-use Rattle.visit.proofs.ByteLaws.{named-in, named-past}
-use Rattle.visit.proofs.is_named.Statement.{statement}
-use Rattle.visit.proofs.is_named.Tie as tie
+use Rattle.closed_image.proofs.ByteLaws.{named-in, named-past}
+use Rattle.closed_image.proofs.is_named.Statement.{statement}
+use Rattle.closed_image.proofs.is_named.Tie as tie
 
 returns : tie.Need-returns
 returns c = rw (eq-eqb _ _ (c .if1 .taken))

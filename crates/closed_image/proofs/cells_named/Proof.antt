@@ -1,4 +1,5 @@
--- `visit::cells_named` meets its contract. What is left of the test is what the whole test gives. Assumes nothing.
+-- `closed_image::cells_named` meets its contract. What is left of the test is what the whole test gives. Assumes
+-- nothing.
 use Prim.Native.Nat.{_-_, _<_}
 use mathlib.Core.Path.{_≡_, sym, _∙_}
 use mathlib.Core.List.{map}
@@ -8,10 +9,10 @@ use borrow.Author.Tests.{not-false, not-true}
 use Rattle.model.specs.Base.{all}
 use Rattle.model.specs.Heap.{slotNamed}
 use Rattle.model.specs.Image.{cellSlot}
-use Rattle.visit.proofs.ListLaws.{all-end, all-fail, all-pass}
+use Rattle.closed_image.proofs.ListLaws.{all-end, all-fail, all-pass}
 use Rattle.visit.specs.Steps.{slotAt}
-use Rattle.visit.proofs.cells_named.Statement.{statement}
-use Rattle.visit.proofs.cells_named.Tie as tie
+use Rattle.closed_image.proofs.cells_named.Statement.{statement}
+use Rattle.closed_image.proofs.cells_named.Tie as tie
 
 abbrev Inv-loop : tie.InvT-loop
 Inv-loop cells i₀ i = all (slotNamed (slotAt cells)) (map cellSlot cells)

@@ -1,14 +1,14 @@
--- `visit::all_placed` meets its contract. What is left of the test is what the whole test gives. Assumes nothing.
+-- `canonical::all_placed` meets its contract. What is left of the test is what the whole test gives. Assumes nothing.
 use Prim.Native.Nat.{_-_, _<_}
 use native.Mathlib.Omega.{arith}
 use mathlib.Core.Path.{_≡_, ap, sym, _∙_}
 use borrow.Author.Needs.{needs}
 use borrow.Author.Tests.{eq-eqb, le-leb, lt-leb, ne-eqb}
 use Rattle.model.specs.Base.{all, numbers}
-use Rattle.visit.proofs.ListLaws.{numbers-end, numbers-fail, numbers-pass}
-use Rattle.visit.specs.Steps.{placed}
-use Rattle.visit.proofs.all_placed.Statement.{statement}
-use Rattle.visit.proofs.all_placed.Tie as tie
+use Rattle.canonical.proofs.ListLaws.{numbers-end, numbers-fail, numbers-pass}
+use Rattle.canonical.specs.Placed.{placed}
+use Rattle.canonical.proofs.all_placed.Statement.{statement}
+use Rattle.canonical.proofs.all_placed.Tie as tie
 
 abbrev Inv-loop : tie.InvT-loop
 Inv-loop order held n i₀ i = all (placed order held) (numbers 0 n) ≡ all (placed order held) (numbers i (n - i))

@@ -12,10 +12,10 @@ use Rattle.model.specs.Base.{all, numbers, sameList}
 use Rattle.model.specs.Heap.{kept, order}
 use Rattle.model.specs.Image.{cellSlot, heapOf}
 use Rattle.model.specs.Shape.{allCore, canonical, core, numbered}
 use Rattle.visit.proofs.Laws.{visited-length}
-use Rattle.visit.proofs.ListLaws.{all-both, numbered-by, numbered-length, numbers-same}
-use Rattle.visit.specs.Steps.{placed}
+use Rattle.canonical.proofs.ListLaws.{all-both, numbered-by, numbered-length, numbers-same}
+use Rattle.canonical.specs.Placed.{placed}
 use Rattle.visit.specs.Visit.{Visited}
 
 -- the order leaves a cell out
 pub not-numbered : {ps cs o s : List ℕ} {r : ℕ} → Visited ps cs o s r → length cs ≤ length o → (r ≡ length cs → ⊥)

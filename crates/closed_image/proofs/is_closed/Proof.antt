@@ -1,4 +1,4 @@
--- `visit::is_closed` meets its contract. Assumes nothing.
+-- `closed_image::is_closed` meets its contract. Assumes nothing.
 use mathlib.Core.Path.{ap, sym, _∙_}
 use mathlib.Core.Bool.{_&&_}
 use mathlib.Core.List.{map}
@@ -6,9 +6,9 @@ use borrow.Author.Needs.{needs}
 use Rattle.model.specs.Base.{all}
 use Rattle.model.specs.Heap.{slotNamed}
 use Rattle.model.specs.Image.{cellSlot}
 use Rattle.visit.specs.Steps.{slotAt}
-use Rattle.visit.proofs.is_closed.Statement.{statement}
-use Rattle.visit.proofs.is_closed.Tie as tie
+use Rattle.closed_image.proofs.is_closed.Statement.{statement}
+use Rattle.closed_image.proofs.is_closed.Tie as tie
 
 returns : tie.Need-returns
 returns c =

@@ -1,9 +1,9 @@
--- `visit::slot_named` meets its contract. Assumes nothing.
+-- `closed_image::slot_named` meets its contract. Assumes nothing.
 use mathlib.Core.Path.{_∙_}
 use borrow.Author.Needs.{needs}
 use borrow.Author.Tests.{eq-eqb, ne-eqb}
-use Rattle.visit.proofs.slot_named.Statement.{statement}
-use Rattle.visit.proofs.slot_named.Tie as tie
+use Rattle.closed_image.proofs.slot_named.Statement.{statement}
+use Rattle.closed_image.proofs.slot_named.Tie as tie
 
 returns : tie.Need-returns
 returns c = rw (eq-eqb _ _ (c .if1 .taken))
