@@ -58,7 +58,7 @@ pub fn translate(input: &[u8], locations: &mut [u8], edges: &mut [u8]) -> Transl
             statements: n,
             shapes: m,
         } => {
-            let most = listing::places(model::MOST_LOCATIONS, locations.len());
+            let most = location_table::places(model::MOST_LOCATIONS, locations.len());
             if most < m {
                 return Translated::Refused {
                     number: 11,
