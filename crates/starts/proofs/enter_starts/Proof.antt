@@ -7,10 +7,10 @@ use lib.ListN.{length, take}
 use borrow.Author.Needs.{needs}
 use Rattle.model.specs.Records.{locRecord}
 use Rattle.model.specs.Translate.{tableOf}
-use Rattle.automaton.specs.Starts.{startLocs}
-use Rattle.automaton.proofs.Starts.{enter-end, enter-none, enter-turn}
-use Rattle.automaton.proofs.enter_starts.Statement.{statement}
-use Rattle.automaton.proofs.enter_starts.Tie as tie
+use Rattle.starts.specs.Starts.{startLocs}
+use Rattle.starts.proofs.Starts.{enter-end, enter-none, enter-turn}
+use Rattle.starts.proofs.enter_starts.Statement.{statement}
+use Rattle.starts.proofs.enter_starts.Tie as tie
 
 abbrev Inv-loop : tie.InvT-loop
 Inv-loop input n m locations₀ j₀ locations j =

@@ -2,8 +2,8 @@
 use mathlib.Core.Path.{refl}
 use borrow.Author.Needs.{needs}
 use borrow.Author.Tests.{le-ltb, lt-ltb}
-use Rattle.listing.proofs.keep_target.Statement.{statement}
-use Rattle.listing.proofs.keep_target.Tie as tie
+use Rattle.location_table.proofs.keep_target.Statement.{statement}
+use Rattle.location_table.proofs.keep_target.Tie as tie
 
 returns : tie.Need-returns
 returns c = simp (lt-ltb _ _ (c .if1 .taken)) (refl, refl)

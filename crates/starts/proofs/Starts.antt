@@ -1,8 +1,8 @@
--- The starting shapes in the location table: one more entered, all entered, and the listing that the tables then hold.
+-- The starting shapes in the location table: one more entered, all entered.
 use Prim.Native.Nat.{ℕ, zero, suc, _+_, _<_, _≤_}
 use native.Mathlib.Numerals.{add-one}
 use native.Mathlib.Omega.{arith}
-use mathlib.Core.Path.{_≡_, refl, sym, ap, subst, _∙_}
+use mathlib.Core.Path.{_≡_, sym, ap, subst, _∙_}
 use mathlib.Core.Logic.{inl, inr}
 use mathlib.Core.List.{List, [], _∷_, _++_, map}
 use lib.ListN.{length, getD, take, replicate, length-map}
@@ -20,18 +20,10 @@ use Rattle.model.specs.Listings.{WritableLoc}
 use Rattle.model.proofs.records.ReadBack.{canon-writable, record-length}
 use Rattle.input.specs.Input.{routineOf}
 use Rattle.input.specs.Accepted.{Accepted}
-use Rattle.input.proofs.Facts.{accepted-wide, start-at, start-record, starts-length, stmt-at, stmts-length}
+use Rattle.input.proofs.Facts.{start-at, start-record, starts-length}
 use Rattle.record.specs.Written.{locationBytes, placed}
 use Rattle.record.proofs.Placed.{placed-next}
-use Rattle.listing.specs.Grow.{Holds}
-use Rattle.explore.specs.Explore.{StatementsOk, LocsOk, LocOk, ExploreReady}
-use Rattle.automaton.specs.Starts.{startLocs}
-use Rattle.automaton.proofs.Outcomes.{startListing}
-use Rattle.model.specs.declared.Counts.{Counts}
-
--- m locations and no edges
-abbrev pub startCounts : ℕ → Counts
-startCounts m = record { locations = m; edges = 0 }
+use Rattle.starts.specs.Starts.{startLocs}
 
 in-take : {A : Type 0} (x : A) (n : ℕ) (l : List A) → In x (take n l) → In x l
 in-take x zero l i = absurd i
@@ -40,27 +32,22 @@ in-take x (suc n) (y ∷ l) (inl e) = inl e
 in-take x (suc n) (y ∷ l) (inr i) = inr (in-take x n l i)
 
 module _ (s : List ℕ) (n m : ℕ) (g : check s ≡ good (routineOf n s)) (A : Accepted s n m) where
-  count-is : length (startLocs n s) ≡ m
+  pub count-is : length (startLocs n s) ≡ m
   count-is = length-map (routineOf n s .starts) (at 0) ∙ starts-length s n m (A .whole)
 
   pub records-number : length (map locRecord (startLocs n s)) ≡ m
   records-number = length-map (startLocs n s) locRecord ∙ count-is
 
   -- each is a shape with six pointers
-  start-shape : (l : Loc) → In l (startLocs n s) → (h : Heap) × (l ≡ at 0 h) × (Canon h × (length (h .ptrs) ≡ 6))
+  pub start-shape : (l : Loc) → In l (startLocs n s) → (h : Heap) × (l ≡ at 0 h) × (Canon h × (length (h .ptrs) ≡ 6))
   start-shape l i =
       let y = in-map (at 0) l (routineOf n s .starts) i in
       (y .0, y .2, check-good s (routineOf n s) g .shapes (y .0) (y .1))
 
-  start-writable : (l : Loc) → In l (startLocs n s) → WritableLoc l
+  pub start-writable : (l : Loc) → In l (startLocs n s) → WritableLoc l
   start-writable l i =
       let y = start-shape l i in
       subst WritableLoc (sym (y .1)) (canon-writable (y .0) (y .2 .0) (y .2 .1))
-
-  start-fine : (l : Loc) → In l (startLocs n s) → LocOk n l
-  start-fine l i =
-      let y = start-shape l i in
-      subst (LocOk n) (sym (y .1)) (y .2, A .someStatements)
 
   start-wide : (r : List ℕ) → In r (map locRecord (startLocs n s)) → length r ≡ 32
   start-wide = records-wide locRecord (startLocs n s) (λ l i. record-length l (start-writable l i))
@@ -96,45 +83,3 @@ module _ (s : List ℕ) (n m : ℕ) (g : check s ≡ good (routineOf n s)) (A : 
   pub enter-none : (ls : List ℕ) → ls ≡ replicate (length ls) 0
       → ls ≡ tableOf (length ls) (take 0 (map locRecord (startLocs n s)))
   enter-none ls e = e ∙ sym (table-empty (length ls))
-
-  -- the listing of the starting shapes, before the first edge
-  pub starts-held : (ls es : List ℕ) → ls ≡ tableOf (length ls) (map locRecord (startLocs n s))
-      → es ≡ replicate (length es) 0 → m ≤ places mostLocations (length ls)
-      → Holds (startListing (routineOf n s)) ls es (startCounts m)
-  starts-held ls es p q room = record {
-    locs = p;
-    edges = q ∙ sym (table-empty (length es));
-    locNumber = sym count-is;
-    edgeNumber = refl;
-    locsFit = omega (arith, count-is);
-    edgesFit = omega arith;
-    goodLocs = start-writable;
-    goodLinks = λ k i. absurd i;
-  }
-
-  pub starts-fine : LocsOk n (startListing (routineOf n s))
-  starts-fine = start-fine
-
-  pub statements-ok : StatementsOk s n (routineOf n s .stmts)
-  statements-ok = record {
-    number = stmts-length s n m (A .whole);
-    room = omega (arith, A .whole);
-    each = λ i h. record {
-      wide = accepted-wide s n m A i (omega arith);
-      isStatement = A .isStatement i h;
-      accepted = A .noRefusal i h;
-      few = A .fewStatements;
-    };
-    read = stmt-at s n m (A .whole);
-  }
-
-  pub explore-ready : (ls es : List ℕ) → ls ≡ tableOf (length ls) (map locRecord (startLocs n s))
-      → es ≡ replicate (length es) 0 → m ≤ places mostLocations (length ls)
-      → ExploreReady s n ls es (startCounts m)
-  explore-ready ls es p q room = record {
-    statements = routineOf n s .stmts;
-    readable = statements-ok;
-    list = startListing (routineOf n s);
-    held = starts-held ls es p q room;
-    fine = starts-fine;
-  }

@@ -3,8 +3,8 @@ use Prim.Native.Nat.{_*_}
 use borrow.Author.Needs.{needs}
 use Rattle.model.proofs.lists.Slices.{put-back}
 use Rattle.record.proofs.Copied.{location-whole}
-use Rattle.listing.proofs.put_location.Statement.{statement}
-use Rattle.listing.proofs.put_location.Tie as tie
+use Rattle.location_table.proofs.put_location.Statement.{statement}
+use Rattle.location_table.proofs.put_location.Tie as tie
 
 returns : tie.Need-returns
 returns c =

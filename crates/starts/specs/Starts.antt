@@ -1,4 +1,4 @@
--- The starting shapes of an input as locations, and what entering and listing them asks of the input and the tables.
+-- The starting shapes of an input as locations, and what entering them asks of the input and the table.
 -- Assumes nothing.
 use Prim.Native.Nat.{ℕ, _≤_}
 use mathlib.Core.Path.{_≡_}
@@ -20,8 +20,3 @@ pub record StartsReady (s : List ℕ) (n m : ℕ) (ls : List ℕ) : Type 0 where
   pub accepted : Accepted s n m
   pub room : m ≤ places mostLocations (length ls)
   pub blank : ls ≡ replicate (length ls) 0
-
--- the edge table is cleared too
-pub record ListReady (s : List ℕ) (n m : ℕ) (ls es : List ℕ) : Type 0 where
-  pub starts : StartsReady s n m ls
-  pub blank : es ≡ replicate (length es) 0

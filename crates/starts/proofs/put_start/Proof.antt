@@ -6,8 +6,8 @@ use borrow.Author.Needs.{needs}
 use Rattle.model.specs.Records.{recordAt}
 use Rattle.model.proofs.lists.Slices.{put-back}
 use Rattle.record.specs.Written.{locationBytes}
-use Rattle.automaton.proofs.put_start.Statement.{statement}
-use Rattle.automaton.proofs.put_start.Tie as tie
+use Rattle.starts.proofs.put_start.Statement.{statement}
+use Rattle.starts.proofs.put_start.Tie as tie
 
 returns : tie.Need-returns
 returns c =
