@@ -16,8 +16,8 @@ fn clear_both(locations: &mut [u8], edges: &mut [u8])
     ensures { λ _. ⌜ (now (locations .exit) ≡ replicate (length (now (locations .entry))) 0)
         × (now (edges .exit) ≡ replicate (length (now (edges .entry))) 0) ⌝ }
 {
-    record::clear(locations);
-    record::clear(edges);
+    fill::fill(locations, 0);
+    fill::fill(edges, 0);
 }
 
 // The listing of a checked input, in cleared tables that have a place for each starting shape.

@@ -1,4 +1,4 @@
--- Loops that test each number below n, and a list against the numbers from i on.
+-- The numbers below n one by one, and a list against the numbers from i on.
 use Prim.Native.Nat.{ℕ, zero, suc, _+_, _-_, _<_, _≤_}
 use native.Mathlib.Nat.{add-zero}
 use native.Mathlib.Numerals.{add-one}
@@ -13,20 +13,13 @@ use Rattle.model.proofs.lists.Logic.{not-true}
 use Rattle.model.proofs.lists.Numbers.{length-numbers}
 use Rattle.model.proofs.shapes.Same.{bytes-same}
 
--- a loop that tests each number below n: one that passes, one that fails, and the end
-numbers-step : (i n : ℕ) → i < n → numbers i (n - i) ≡ i ∷ numbers (i + 1) (n - (i + 1))
+-- the numbers from i to n: the first of them and the others, and none at the end
+pub numbers-step : (i n : ℕ) → i < n → numbers i (n - i) ≡ i ∷ numbers (i + 1) (n - (i + 1))
 numbers-step i n h = let e : n - i ≡ suc (n - (i + 1)) = omega arith in ap (numbers i) e
     ∙ ap (λ k. i ∷ numbers k (n - (i + 1))) (sym (add-one i))
 
-pub numbers-pass : (p : ℕ → Bool) (i n : ℕ) → i < n → p i ≡ true → all p (numbers i (n - i))
-    ≡ all p (numbers (i + 1) (n - (i + 1)))
-numbers-pass p i n h e = ap (all p) (numbers-step i n h) ∙ rw e
-
-pub numbers-fail : (p : ℕ → Bool) (i n : ℕ) → i < n → p i ≡ false → all p (numbers i (n - i)) ≡ false
-numbers-fail p i n h e = ap (all p) (numbers-step i n h) ∙ rw e
-
-pub numbers-end : (p : ℕ → Bool) (i n : ℕ) → n ≤ i → all p (numbers i (n - i)) ≡ true
-numbers-end p i n h = let e : n - i ≡ 0 = omega arith in rw e
+pub numbers-end : (i n : ℕ) → n ≤ i → numbers i (n - i) ≡ []
+numbers-end i n h = let e : n - i ≡ 0 = omega arith in rw e
 
 and-cross : (a b c d : Bool) → (a && b) && (c && d) ≡ (a && c) && (b && d)
 and-cross true true c d = refl

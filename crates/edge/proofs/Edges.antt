@@ -31,9 +31,9 @@ use Rattle.way.specs.Ready.{WayReady}
 use Rattle.way.specs.Way.{wayIn}
 use Rattle.way.specs.declared.Way as declared
 use Rattle.edge.specs.Edge.{FaultMade, LeavesBy}
-use Rattle.way_run.specs.WayRun.{WayRan, leftIn}
+use Rattle.shape_run.specs.WayRun.{WayRan, leftIn}
 use Rattle.refold.specs.Refold.{IsLeft, LeaveReady}
-use Rattle.way_run.specs.declared.Gone.{Gone}
+use Rattle.shape_run.specs.declared.Gone.{Gone}
 
 -- ---- the edge of an answer
 

@@ -35,7 +35,7 @@ use Rattle.way.specs.Way.{wayIn}
 use Rattle.way.specs.declared.Way.{Way}
 use Rattle.edge.specs.Edge.{LeavesBy, staysAt}
 use Rattle.edge.proofs.Edges.{guards-is, step-way, went-edge}
-use Rattle.way_run.proofs.Running.{branch-pointers}
+use Rattle.shape_run.proofs.Running.{branch-pointers}
 
 -- ---- ops that keep the heap
 

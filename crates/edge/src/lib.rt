@@ -69,7 +69,7 @@ fn run_edge(
     let mut cells = [0u8; 16];
     let mut order = [0u8; 16];
     let mut seen = [0u8; 16];
-    let gone = way_run::run_way(
+    let gone = shape_run::run_way(
         location,
         d,
         way,

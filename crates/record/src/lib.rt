@@ -90,10 +90,3 @@ pub fn put_edge(table: &mut [u8], n: usize, fields: EdgeFields, updates: &[u16])
     let at = 32 * n;
     write_edge(&mut table[at..], fields, updates);
 }
-
-// Clears a table.
-pub fn clear(table: &mut [u8])
-    ensures { λ _. ⌜ now (table .exit) ≡ replicate (length (now (table .entry))) 0 ⌝ }
-{
-    fill::fill(table, 0);
-}

@@ -5,7 +5,8 @@ use mathlib.Core.Path.{_≡_, ap, sym, _∙_}
 use borrow.Author.Needs.{needs}
 use borrow.Author.Tests.{eq-eqb, le-leb, lt-leb, ne-eqb}
 use Rattle.model.specs.Base.{all, numbers}
-use Rattle.canonical.proofs.ListLaws.{numbers-end, numbers-fail, numbers-pass}
+use Rattle.model.proofs.lists.Loops.{test-end, test-fail, test-pass}
+use Rattle.canonical.proofs.ListLaws.{numbers-end, numbers-step}
 use Rattle.canonical.specs.Placed.{placed}
 use Rattle.canonical.proofs.all_placed.Statement.{statement}
 use Rattle.canonical.proofs.all_placed.Tie as tie
@@ -30,30 +31,30 @@ returns c =
     let a = c .before .before .before .before .args in
     let l = c .before .before .before .loop in
     let h : l .i < a .n = search needs in
-    sym (l .inv ∙ numbers-fail (placed (a .order .now) (a .held .now)) (l .i) (a .n) h
-    (rw (lt-leb _ _ (c .if1 .taken))))
+    test-fail (placed (a .order .now) (a .held .now)) (l .inv) (numbers-step (l .i) (a .n) h)
+    (rw (lt-leb _ _ (c .if1 .taken)))
 
 returns-2 : tie.Need-returns-2 Inv-loop μ-loop
 returns-2 c =
     let a = c .before .before .before .before .before .before .args in
     let l = c .before .before .before .before .before .loop in
     let h : l .i < a .n = search needs in
-    sym (l .inv ∙ numbers-fail (placed (a .order .now) (a .held .now)) (l .i) (a .n) h
-    (rw (le-leb _ _ (c .before .before .if1 .left), ne-eqb _ _ (c .if2 .taken))))
+    test-fail (placed (a .order .now) (a .held .now)) (l .inv) (numbers-step (l .i) (a .n) h)
+    (rw (le-leb _ _ (c .before .before .if1 .left), ne-eqb _ _ (c .if2 .taken)))
 
 loop-again : tie.Need-loop-again Inv-loop μ-loop
 loop-again c =
     let a = c .before .before .before .before .before .before .args in
     let l = c .before .before .before .before .before .loop in
     let h : l .i < a .n = search needs in
-    l .inv ∙ numbers-pass (placed (a .order .now) (a .held .now)) (l .i) (a .n) h
+    test-pass (placed (a .order .now) (a .held .now)) (l .inv) (numbers-step (l .i) (a .n) h)
     (rw (le-leb _ _ (c .before .before .if1 .left), eq-eqb _ _ (c .if2 .left)))
 
 returns-3 : tie.Need-returns-3 Inv-loop μ-loop
 returns-3 c =
     let a = c .before .before .args in
     let l = c .before .loop in
-    sym (l .inv ∙ numbers-end (placed (a .order .now) (a .held .now)) (l .i) (a .n) (c .loop-test .left))
+    test-end (placed (a .order .now) (a .held .now)) (l .inv) (numbers-end (l .i) (a .n) (c .loop-test .left))
 
 pub all-placed-spec : {M : Type 1} → statement M
 all-placed-spec =

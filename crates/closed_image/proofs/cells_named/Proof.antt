@@ -9,7 +9,8 @@ use borrow.Author.Tests.{not-false, not-true}
 use Rattle.model.specs.Base.{all}
 use Rattle.model.specs.Heap.{slotNamed}
 use Rattle.model.specs.Image.{cellSlot}
-use Rattle.closed_image.proofs.ListLaws.{all-end, all-fail, all-pass}
+use Rattle.model.proofs.lists.Loops.{test-end, test-fail, test-pass}
+use Rattle.model.proofs.lists.Slices.{map-end, map-step}
 use Rattle.visit.specs.Steps.{slotAt}
 use Rattle.closed_image.proofs.cells_named.Statement.{statement}
 use Rattle.closed_image.proofs.cells_named.Tie as tie
@@ -26,22 +27,22 @@ returns c =
     let cs = c .before .before .before .before .before .before .args .cells .now in
     let l = c .before .before .before .before .loop in
     let h : l .i < length cs = search needs in
-    sym (l .inv ∙ all-fail (slotNamed (slotAt cs)) cellSlot cs (l .i) h (sym (c .before .slot-named .ensures)
-    ∙ not-true _ (c .if1 .taken)))
+    test-fail (slotNamed (slotAt cs)) (l .inv) (map-step cellSlot cs (l .i) h)
+    (sym (c .before .slot-named .ensures) ∙ not-true _ (c .if1 .taken))
 
 loop-again : tie.Need-loop-again Inv-loop μ-loop
 loop-again c =
     let cs = c .before .before .before .before .before .before .args .cells .now in
     let l = c .before .before .before .before .loop in
     let h : l .i < length cs = search needs in
-    l .inv ∙ all-pass (slotNamed (slotAt cs)) cellSlot cs (l .i) h (sym (c .before .slot-named .ensures)
-    ∙ not-false _ (c .if1 .left))
+    test-pass (slotNamed (slotAt cs)) (l .inv) (map-step cellSlot cs (l .i) h)
+    (sym (c .before .slot-named .ensures) ∙ not-false _ (c .if1 .left))
 
 returns-2 : tie.Need-returns-2 Inv-loop μ-loop
 returns-2 c =
     let cs = c .before .before .before .args .cells .now in
     let l = c .before .loop in
-    sym (l .inv ∙ all-end (slotNamed (slotAt cs)) cellSlot cs (l .i) (c .loop-test .left))
+    test-end (slotNamed (slotAt cs)) (l .inv) (map-end cellSlot cs (l .i) (c .loop-test .left))
 
 pub cells-named-spec : {M : Type 1} → statement M
 cells-named-spec =

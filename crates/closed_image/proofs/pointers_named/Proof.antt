@@ -9,7 +9,8 @@ use borrow.Author.Tests.{not-false, not-true}
 use Rattle.model.specs.Base.{all}
 use Rattle.model.specs.Heap.{named}
 use Rattle.model.specs.Records.{valOf}
-use Rattle.closed_image.proofs.ListLaws.{all-end, all-fail, all-pass}
+use Rattle.model.proofs.lists.Loops.{test-end, test-fail, test-pass}
+use Rattle.model.proofs.lists.Slices.{map-end, map-step}
 use Rattle.visit.specs.Steps.{slotAt}
 use Rattle.closed_image.proofs.pointers_named.Statement.{statement}
 use Rattle.closed_image.proofs.pointers_named.Tie as tie
@@ -26,22 +27,22 @@ returns c =
     let a = c .before .before .before .before .before .before .before .args in
     let l = c .before .before .before .before .loop in
     let h : l .i < length (a .pointers .now) = search needs in
-    sym (l .inv ∙ all-fail (named (slotAt (a .cells .now))) valOf (a .pointers .now) (l .i) h
-    (sym (c .before .is-named .ensures) ∙ not-true _ (c .if1 .taken)))
+    test-fail (named (slotAt (a .cells .now))) (l .inv) (map-step valOf (a .pointers .now) (l .i) h)
+    (sym (c .before .is-named .ensures) ∙ not-true _ (c .if1 .taken))
 
 loop-again : tie.Need-loop-again Inv-loop μ-loop
 loop-again c =
     let a = c .before .before .before .before .before .before .before .args in
     let l = c .before .before .before .before .loop in
     let h : l .i < length (a .pointers .now) = search needs in
-    l .inv ∙ all-pass (named (slotAt (a .cells .now))) valOf (a .pointers .now) (l .i) h
+    test-pass (named (slotAt (a .cells .now))) (l .inv) (map-step valOf (a .pointers .now) (l .i) h)
     (sym (c .before .is-named .ensures) ∙ not-false _ (c .if1 .left))
 
 returns-2 : tie.Need-returns-2 Inv-loop μ-loop
 returns-2 c =
     let a = c .before .before .before .before .args in
     let l = c .before .loop in
-    sym (l .inv ∙ all-end (named (slotAt (a .cells .now))) valOf (a .pointers .now) (l .i) (c .loop-test .left))
+    test-end (named (slotAt (a .cells .now))) (l .inv) (map-end valOf (a .pointers .now) (l .i) (c .loop-test .left))
 
 pub pointers-named-spec : {M : Type 1} → statement M
 pointers-named-spec =

@@ -1,13 +1,13 @@
--- `way_run::run_way` meets its contract: the shape is opened, the branch is read off the opened image, and the image is
+-- `shape_run::run_way` meets its contract: the shape is opened, the branch is read off the opened image, and the image is
 -- run.
 use borrow.Author.Needs.{needs}
-use Rattle.way_run.proofs.run_way.Statement.{statement}
-use Rattle.way_run.proofs.run_way.Tie as tie
+use Rattle.shape_run.proofs.run_way.Statement.{statement}
+use Rattle.shape_run.proofs.run_way.Tie as tie
 use native.Mathlib.Omega.{arith}
 use Rattle.way.proofs.Ready.{open-ready, location-wide, nodes-few}
 use mathlib.Core.Path.{sym, _∙_}
 use lib.Seq.{length-take-le}
-use Rattle.way_run.proofs.Running.{run-ready, way-ran}
+use Rattle.shape_run.proofs.Running.{run-ready, way-ran}
 
 shared-slice-read-k : tie.Need-shared-slice-read-k
 shared-slice-read-k c = omega (arith, location-wide (c .before .before .before .before .before .before .pre .ready))

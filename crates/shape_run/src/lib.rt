@@ -1,8 +1,8 @@
-// The run by a way out of a location: its shape opened for the way, and the statement run on that.
+// The run by a way out of a location: its shape is opened for the way, and the statement run on that.
 use model::Decoded;
 use way::Way;
 ghost use Rattle.machine.specs.Run.{bytes};
-ghost use Rattle.way_run.specs.WayRun.{RunsReady, WayRan};
+ghost use Rattle.shape_run.specs.WayRun.{RunsReady, WayRan};
 
 // What the run by a way gives beside the heap image: the fault (0 for none), the branch, how many cells there are, and
 // how many were visited.

@@ -22,7 +22,7 @@ use Rattle.way.proofs.Ready.{location-wide, node-used, nodes-few, nodes-is, sha
 use Rattle.way.specs.Ready.{WayReady}
 use Rattle.way.specs.Way.{openedCount, openedHeap, wayIn}
 use Rattle.way.specs.declared.Way.{Way}
-use Rattle.way_run.specs.WayRun.{WayRan}
+use Rattle.shape_run.specs.WayRun.{WayRan}
 
 -- the pointers alone decide the branch
 pub branch-pointers : (k : Kind) (p : ℕ) (g h : Heap) → g .ptrs ≡ h .ptrs → branchBy k p g ≡ branchBy k p h

@@ -15,7 +15,7 @@ use Rattle.machine.specs.Run.{Bytes}
 use Rattle.way.specs.Ready.{WayReady}
 use Rattle.way.specs.Way.{wayIn}
 use Rattle.way.specs.declared.Way.{Way}
-use Rattle.way_run.specs.declared.Gone.{Gone}
+use Rattle.shape_run.specs.declared.Gone.{Gone}
 
 -- some location is given of which the way is ready, and there is room for the heap image and the visit
 pub record RunsReady (l : List ℕ) (d : Decoded) (y : Way) (image : Bytes) (visit seen : List ℕ) : Type 0 where
