@@ -1,5 +1,5 @@
--- `shape_run::run_way` meets its contract: the shape is opened, the branch is read off the opened image, and the image is
--- run.
+-- `shape_run::run_way` meets its contract: the shape is opened, the branch is read off the opened image, and the image
+-- is run.
 use borrow.Author.Needs.{needs}
 use Rattle.shape_run.proofs.run_way.Statement.{statement}
 use Rattle.shape_run.proofs.run_way.Tie as tie
