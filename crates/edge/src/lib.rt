@@ -115,7 +115,7 @@ fn keep_edge(
     requires { ⌜ (staysAt (d .op) ≡ true) × EdgeReady (now location) d way (now target) (now updates) ⌝ }
     ensures { λ r. ⌜ LeavesBy (now (location .entry)) d way (now (target .exit)) (now (updates .exit)) r ⌝ }
 {
-    let branch = effect::branch_of(d, way.pick, &location[4..10]);
+    let branch = branch::branch_of(d, way.pick, &location[4..10]);
     move_to(location, statement::next_of(d, branch), target);
     update::carry_updates(updates);
     let guards = way.guards;

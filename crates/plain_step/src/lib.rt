@@ -44,7 +44,7 @@ pub fn take_step(
     if d.op == 0 {
         return Stepped::Stopped;
     }
-    let branch = effect::branch_of(d, pick, &pointers[..]);
+    let branch = branch::branch_of(d, pick, &pointers[..]);
     let failed = run_statement(d, cell, pointers, cells);
     if failed != 0 {
         return Stepped::Faulted { fault: failed };

@@ -29,7 +29,7 @@ pub fn run_way(
 {
     let k = location[3] as usize;
     let n = way::open_way(location, d.op, way, pointers, cells);
-    let branch = effect::branch_of(d, way.pick, &pointers[..]);
+    let branch = branch::branch_of(d, way.pick, &pointers[..]);
     let ran = machine::run(d, k, pointers, &mut cells[..n], order, seen);
     Gone {
         fault: ran.fault,

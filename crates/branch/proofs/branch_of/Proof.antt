@@ -3,11 +3,11 @@ use Prim.Native.Nat.{_<_}
 use mathlib.Core.Path.{_≡_, sym}
 use native.Mathlib.Omega.{arith}
 use lib.ListN.{length}
-use Rattle.effect.proofs.Bytes.{ptr-byte}
-use Rattle.effect.proofs.Ops.{straight}
+use Rattle.branch.proofs.Bytes.{ptr-byte}
+use Rattle.branch.proofs.Ops.{straight}
 use borrow.Author.Needs.{needs}
-use Rattle.effect.proofs.branch_of.Statement.{statement}
-use Rattle.effect.proofs.branch_of.Tie as tie
+use Rattle.branch.proofs.branch_of.Statement.{statement}
+use Rattle.branch.proofs.branch_of.Tie as tie
 
 returns : tie.Need-returns
 returns c cs =

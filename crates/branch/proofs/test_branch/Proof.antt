@@ -1,8 +1,8 @@
 -- `test_branch` meets its contract: values are equal where their bytes are.
 use borrow.Author.Tests.{eq-eqb, ne-eqb}
-use Rattle.effect.proofs.Ops.{same-bytes}
-use Rattle.effect.proofs.test_branch.Statement.{statement}
-use Rattle.effect.proofs.test_branch.Tie as tie
+use Rattle.branch.proofs.Bytes.{same-bytes}
+use Rattle.branch.proofs.test_branch.Statement.{statement}
+use Rattle.branch.proofs.test_branch.Tie as tie
 
 returns : tie.Need-returns
 returns c = let a = c .before .args in rw (same-bytes (a .a) (a .b), eq-eqb (a .a) (a .b) (c .if1 .taken))
