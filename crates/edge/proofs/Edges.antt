@@ -24,8 +24,8 @@ use Rattle.model.proofs.ways.Ways.{view-acts, view-looks, view-split}
 use Rattle.effect.specs.Effect.{effectOf}
 use Rattle.machine.specs.Run.{Bytes}
 use Rattle.record.specs.Written.{faultBytes}
-use Rattle.update.specs.Codes.{weightBy, weightIn}
-use Rattle.update.specs.declared.Weights.{Weights}
+use Rattle.cell_sum.specs.Codes.{weightBy, weightIn}
+use Rattle.cell_sum.specs.declared.Weights.{Weights}
 use Rattle.way.proofs.Ready.{node-below, node-used, nodes-few, nodes-is, shape-is, statement-is}
 use Rattle.way.specs.Ready.{WayReady}
 use Rattle.way.specs.Way.{wayIn}

@@ -1,10 +1,10 @@
 // One edge of a location: the statement is run on the location's shape, opened for the way, and the result is folded.
 // A statement that keeps the heap needs no run.
+use cell_sum::Weights;
 use model::Decoded;
 use model::EdgeMade;
 use model::Guards;
 use model::Statement;
-use update::Weights;
 use way::Way;
 ghost use mathlib.Core.Path.{_≡_};
 ghost use mathlib.Core.Bool.{true};

@@ -11,8 +11,8 @@ use Rattle.model.specs.Notions.{Used}
 use Rattle.model.specs.Records.{locRecord, updateCode}
 use Rattle.model.specs.Shape.{segments, shape}
 use Rattle.folding.specs.Shape.{ShapeReady}
-use Rattle.update.specs.Codes.{weightIn}
-use Rattle.update.specs.declared.Weights.{Weights}
+use Rattle.cell_sum.specs.Codes.{weightIn}
+use Rattle.cell_sum.specs.declared.Weights.{Weights}
 
 -- a heap image in visit order with the counts of holders, of at most one cell past the old nodes, and room for the
 -- target t and the updates us; at a split the tail is in use

@@ -1,4 +1,4 @@
--- `update::clear_updates` meets its contract: the first i entries are 4096.
+-- `cell_sum::clear_updates` meets its contract: the first i entries are 4096.
 use Prim.Native.Nat.{_-_, _≤_}
 use mathlib.Core.List.{_++_, append-nil}
 use mathlib.Core.Path.{_≡_, refl, ap, _∙_}
@@ -7,8 +7,8 @@ use lib.ListN.{drop, length, length-set, replicate, set}
 use lib.Seq.{drop-length}
 use borrow.Author.Fill.{fill-more}
 use borrow.Author.Needs.{needs}
-use Rattle.update.proofs.clear_updates.Statement.{statement}
-use Rattle.update.proofs.clear_updates.Tie as tie
+use Rattle.cell_sum.proofs.clear_updates.Statement.{statement}
+use Rattle.cell_sum.proofs.clear_updates.Tie as tie
 
 abbrev Inv-loop : tie.InvT-loop
 Inv-loop updates₀ i₀ updates i = (i ≤ length updates₀) × (length updates ≡ length updates₀)

@@ -7,7 +7,7 @@ use lib.Dec.{eqb}
 use lib.ListN.{length, getD}
 use Rattle.model.specs.Base.{mem, sum}
 use Rattle.model.specs.Edges.{Weight, counter, one, less}
-use Rattle.update.specs.declared.Weights.{Weights}
+use Rattle.cell_sum.specs.declared.Weights.{Weights}
 
 -- what cell c stands for, where there are k old nodes: `sp` says that node n is split, into its head and the tail,
 -- cell k

@@ -17,9 +17,9 @@ use Rattle.model.proofs.lists.Lists.{getD-map}
 use Rattle.model.specs.Notions.{NoDup, flat, segAt, seg}
 use Rattle.model.proofs.lists.Logic.{bool-ext, mem-here, mem-there}
 use Rattle.model.proofs.lists.Slices.{sum-append}
-use Rattle.update.specs.declared.Weights.{Weights}
-use Rattle.update.specs.Codes.{codeAt, plusIn, sumAt, weightIn}
-use Rattle.update.proofs.Codes.{segment-update}
+use Rattle.cell_sum.specs.declared.Weights.{Weights}
+use Rattle.cell_sum.specs.Codes.{codeAt, plusIn, sumAt, weightIn}
+use Rattle.cell_sum.proofs.Codes.{segment-update}
 
 -- ---- sums over all cells
 

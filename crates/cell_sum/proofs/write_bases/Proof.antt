@@ -1,11 +1,11 @@
--- `update::write_bases` meets its contract: 4096 everywhere, then 0 at the tail's node.
+-- `cell_sum::write_bases` meets its contract: 4096 everywhere, then 0 at the tail's node.
 use mathlib.Core.Path.{_≡_, ap, ap₂, _∙_}
 use native.Mathlib.Omega.{arith}
 use lib.ListN.{getD, getD-replicate, length, replicate, set}
 use borrow.Author.Needs.{needs}
-use Rattle.update.proofs.Sums.{bases}
-use Rattle.update.proofs.write_bases.Statement.{statement}
-use Rattle.update.proofs.write_bases.Tie as tie
+use Rattle.cell_sum.proofs.Sums.{bases}
+use Rattle.cell_sum.proofs.write_bases.Statement.{statement}
+use Rattle.cell_sum.proofs.write_bases.Tie as tie
 
 node-of-requires : tie.Need-node-of-requires
 node-of-requires c κs = c .before .before .before .before .before .before .before .before .pre .0

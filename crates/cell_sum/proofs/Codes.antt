@@ -17,7 +17,7 @@ use Rattle.model.specs.Notions.{NoDup, flagged}
 use Rattle.model.proofs.lists.Logic.{bool-case, eqb-same, eqb-sym, mem-here, mem-there}
 use Rattle.model.proofs.ways.Ways.{split-fair, whole-fair}
 use Rattle.model.proofs.ways.Weights.{Fair, update-small, update-value, weigh}
-use Rattle.update.specs.Codes.{plusBy, weightBy}
+use Rattle.cell_sum.specs.Codes.{plusBy, weightBy}
 
 -- ---- counters a, 2a, 4a, ..: flagged ones add up to a times the flags' number
 

@@ -1,4 +1,4 @@
--- `update::add_cells` meets its contract: after i cells each entry has grown by what those of its node add, and is at
+-- `cell_sum::add_cells` meets its contract: after i cells each entry has grown by what those of its node add, and is at
 -- most 4096 for each.
 use Prim.Native.Nat.{_+_, _-_, _<_, _≤_}
 use mathlib.Core.Path.{_≡_, refl, ap, _∙_}
@@ -7,10 +7,10 @@ use lib.ListN.{getD, length, length-set, set}
 use lib.Seq.{take-all}
 use borrow.Author.Needs.{needs}
 use Rattle.model.proofs.lists.Lists.{mem-at}
-use Rattle.update.specs.Codes.{plusIn, sumAt}
-use Rattle.update.proofs.Sums.{Added, added-more, added-none}
-use Rattle.update.proofs.add_cells.Statement.{statement}
-use Rattle.update.proofs.add_cells.Tie as tie
+use Rattle.cell_sum.specs.Codes.{plusIn, sumAt}
+use Rattle.cell_sum.proofs.Sums.{Added, added-more, added-none}
+use Rattle.cell_sum.proofs.add_cells.Statement.{statement}
+use Rattle.cell_sum.proofs.add_cells.Tie as tie
 
 abbrev Inv-loop : tie.InvT-loop
 Inv-loop cells node weights updates₀ i₀ updates i =

@@ -1,13 +1,13 @@
--- `update::sum_cells` meets its contract: the bases, each at most 4096, and what the cells add.
+-- `cell_sum::sum_cells` meets its contract: the bases, each at most 4096, and what the cells add.
 use Prim.Native.Nat.{_+_}
 use mathlib.Core.Path.{_≡_, ap, _∙_}
 use native.Mathlib.Omega.{arith}
 use lib.ListN.{getD, length}
 use borrow.Author.Needs.{needs}
-use Rattle.update.specs.Codes.{plusIn, sumAt}
-use Rattle.update.proofs.Sums.{base-most, ready-same}
-use Rattle.update.proofs.sum_cells.Statement.{statement}
-use Rattle.update.proofs.sum_cells.Tie as tie
+use Rattle.cell_sum.specs.Codes.{plusIn, sumAt}
+use Rattle.cell_sum.proofs.Sums.{base-most, ready-same}
+use Rattle.cell_sum.proofs.sum_cells.Statement.{statement}
+use Rattle.cell_sum.proofs.sum_cells.Tie as tie
 
 write-bases-requires : tie.Need-write-bases-requires
 write-bases-requires c κs =

@@ -1,10 +1,10 @@
--- `update::cell_plus` meets its contract: each answer is the case of the weight that the tests say.
+-- `cell_sum::cell_plus` meets its contract: each answer is the case of the weight that the tests say.
 use mathlib.Core.Path.{refl}
 use native.Mathlib.Omega.{arith}
 use borrow.Author.Needs.{needs}
 use borrow.Author.Tests.{eq-eqb, ne-eqb}
-use Rattle.update.proofs.cell_plus.Statement.{statement}
-use Rattle.update.proofs.cell_plus.Tie as tie
+use Rattle.cell_sum.proofs.cell_plus.Statement.{statement}
+use Rattle.cell_sum.proofs.cell_plus.Tie as tie
 
 returns : tie.Need-returns
 returns c =

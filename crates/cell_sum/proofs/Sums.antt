@@ -1,27 +1,18 @@
 -- Sums over cells, for the loop that adds them up: one cell more, what an entry is after a turn, and how large it can
 -- be.
-use Prim.Native.Nat.{ℕ, _+_, _*_, _%_, _^_, _≤_, _<_}
+use Prim.Native.Nat.{ℕ, _+_, _*_, _≤_, _<_}
 use mathlib.Core.Bool.{Bool, true, false, cond}
 use mathlib.Core.List.{List, [], _∷_}
 use mathlib.Core.Path.{_≡_, sym, ap, subst, _∙_}
-use native.Mathlib.Nat.{one-mul}
 use native.Mathlib.Omega.{arith}
 use lib.Dec.{eqb}
 use lib.ListN.{getD, getD-replicate, length, length-replicate, replicate, set, take}
-use lib.Pow.{pow-mono, shl-exact}
 use lib.Seq.{getD-set-other, getD-set-same}
 use borrow.Author.Tests.{eq-eqb, eqb-false}
 use Rattle.model.proofs.lists.Logic.{eq-case}
 use Rattle.model.proofs.lists.Slices.{sum-append, take-next}
-use Rattle.update.specs.declared.Weights.{Weights}
-use Rattle.update.specs.Codes.{CellsReady, baseAt, sumAt}
-
--- a power of two that fits
-pub shifted : (c : ℕ) → c ≤ 11 → (1 * 2 ^ c) % 2 ^ 16 ≡ 2 ^ c
-shifted c h = shl-exact 1 c 16 (omega arith) (omega arith) ∙ one-mul (2 ^ c)
-
-pub power-most : (c : ℕ) → c ≤ 11 → 2 ^ c ≤ 4096
-power-most c h = let h12 : c ≤ 12 = omega arith in pow-mono h12
+use Rattle.cell_sum.specs.declared.Weights.{Weights}
+use Rattle.cell_sum.specs.Codes.{CellsReady, baseAt, sumAt}
 
 sum-next : (node : List ℕ) (f : ℕ → ℕ) (j : ℕ) (l : List ℕ) (i : ℕ) → i < length l
     → sumAt node f j (take (i + 1) l) ≡ sumAt node f j (take i l) + cond (eqb (getD node (getD l i 0) 0) j)
