@@ -4,6 +4,7 @@ ghost use mathlib.Core.Path.{_≡_};
 ghost use mathlib.Core.List.{List};
 ghost use Prim.Native.Nat.{ℕ, _<_};
 ghost use lib.ListN.{length};
+ghost use Rattle.model.specs.Base.{pointerCount};
 ghost use Rattle.model.specs.Heap.{sameVal};
 ghost use Rattle.model.specs.Machine.{branch, test};
 ghost use Rattle.model.specs.Records.{opCount, valOf};
@@ -19,7 +20,8 @@ fn test_branch(a: u8, b: u8) -> u8
 
 // The branch that a statement takes; the pick is read by choose only.
 pub fn branch_of(d: Decoded, pick: u8, pointers: &[u8]) -> u8
-    requires { ⌜ (d .op < opCount) × (d .u .0 < 6) × (d .w .0 < 6) × (length (now pointers) ≡ 6) ⌝ }
+    requires { ⌜ (d .op < opCount) × (d .u .0 < pointerCount) × (d .w .0 < pointerCount)
+        × (length (now pointers) ≡ pointerCount) ⌝ }
     ensures { λ r. ⌜ ((cs : List ℕ) → r ≡ branch (opIn d) pick (heapOf (now (pointers .entry)) cs)) ⌝ }
 {
     let op = d.op;

@@ -3,7 +3,7 @@ ghost use mathlib.Core.Path.{_≡_};
 ghost use mathlib.Core.Bool.{true};
 ghost use Prim.Native.Nat.{_≤_};
 ghost use lib.ListN.{length};
-ghost use Rattle.model.specs.Base.{all, numbers};
+ghost use Rattle.model.specs.Base.{all, numbers, mostNodes};
 ghost use Rattle.model.specs.Heap.{closed};
 ghost use Rattle.model.specs.Image.{heapOf};
 ghost use Rattle.model.specs.Shape.{canonical};
@@ -29,7 +29,7 @@ fn all_placed(order: &[u8], held: &[u8], n: usize) -> bool
 
 // Whether every cell is reachable and core, and the cells are numbered as the walks visit them.
 pub fn is_canonical(pointers: &[u8], cells: &[u8]) -> bool
-    requires { ⌜ (closed (heapOf (now pointers) (now cells)) ≡ true) × (length (now cells) ≤ 12) ⌝ }
+    requires { ⌜ (closed (heapOf (now pointers) (now cells)) ≡ true) × (length (now cells) ≤ mostNodes) ⌝ }
     ensures { λ r. ⌜ r ≡ canonical (heapOf (now (pointers .entry)) (now (cells .entry))) ⌝ }
 {
     let mut order = [0u8; 16];

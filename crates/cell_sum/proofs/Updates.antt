@@ -1,4 +1,4 @@
--- What `sum_updates` writes are the codes of an edge's updates, where the table has the segment of each cell.
+-- What `sum_cells` writes are the codes of an edge's updates, where the table has the segment of each cell.
 use Prim.Native.Nat.{ℕ, zero, suc, _+_, _≤_, _<_}
 use mathlib.Core.Bool.{Bool, true, false, _&&_, cond}
 use mathlib.Core.List.{List, [], _∷_, map}

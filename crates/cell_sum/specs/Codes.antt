@@ -5,7 +5,7 @@ use mathlib.Core.List.{List}
 use mathlib.Core.Path.{_≡_}
 use lib.Dec.{eqb}
 use lib.ListN.{length, getD}
-use Rattle.model.specs.Base.{mem, sum}
+use Rattle.model.specs.Base.{mem, sum, mostNodes}
 use Rattle.model.specs.Edges.{Weight, counter, one, less}
 use Rattle.cell_sum.specs.declared.Weights.{Weights}
 
@@ -42,7 +42,7 @@ codeAt node w l j = baseAt (w .split) (getD node (w .nodes) 0) j + sumAt node (p
 -- each cell of l is at most the number of old nodes and has its node, below m, in the table; at a split, an old node
 -- is split and the tail is a cell of l
 pub record CellsReady (l node : List ℕ) (w : Weights) (m : ℕ) : Type 0 where
-  pub fewOld : w .nodes ≤ 12
+  pub fewOld : w .nodes ≤ mostNodes
   pub below : (c : ℕ) → mem c l ≡ true → c ≤ w .nodes
   pub tabled : (c : ℕ) → mem c l ≡ true → c < length node
   pub nodes : (c : ℕ) → mem c l ≡ true → getD node c 0 < m

@@ -4,6 +4,7 @@ ghost use mathlib.Core.Path.{_≡_};
 ghost use mathlib.Core.Bool.{true};
 ghost use Prim.Native.Nat.{ℕ, _+_, _≤_, _<_};
 ghost use lib.ListN.{length, getD, replicate, set};
+ghost use Rattle.model.specs.Base.{mostNodes};
 ghost use Rattle.cell_sum.specs.Codes.{CellsReady, baseAt, codeAt, plusIn, sumAt};
 
 // What the cells of an opened shape stand for: the number of old nodes, and whether and which node is split into its
@@ -17,7 +18,7 @@ pub struct Weights {
 // What cell c adds to the code of its update: one to the constant for the head or a new cell; else the flag of the
 // node it is of.
 fn cell_plus(c: u8, weights: Weights) -> u16
-    requires { ⌜ (c ≤ weights .nodes) × (weights .nodes ≤ 12)
+    requires { ⌜ (c ≤ weights .nodes) × (weights .nodes ≤ mostNodes)
         × (weights .split ≡ true → weights .node .0 < weights .nodes) ⌝ }
     ensures { λ r. ⌜ (r ≡ plusIn weights c) × (r ≤ 4096) ⌝ }
 {

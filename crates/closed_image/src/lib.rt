@@ -4,7 +4,7 @@ ghost use mathlib.Core.Path.{_≡_};
 ghost use mathlib.Core.List.{map};
 ghost use Prim.Native.Nat.{_≤_};
 ghost use lib.ListN.{length};
-ghost use Rattle.model.specs.Base.{all};
+ghost use Rattle.model.specs.Base.{all, mostCells};
 ghost use Rattle.model.specs.Heap.{closed, named, slotNamed};
 ghost use Rattle.model.specs.Image.{cellSlot, heapOf};
 ghost use Rattle.model.specs.Records.{valOf};
@@ -66,7 +66,7 @@ fn cells_named(cells: &[u8]) -> bool
 
 // Whether every pointer, and every cell in use, names only cells in use.
 pub fn is_closed(pointers: &[u8], cells: &[u8]) -> bool
-    requires { ⌜ length (now cells) ≤ 240 ⌝ }
+    requires { ⌜ length (now cells) ≤ mostCells ⌝ }
     ensures { λ r. ⌜ r ≡ closed (heapOf (now (pointers .entry)) (now (cells .entry))) ⌝ }
 {
     if pointers_named(pointers, cells) {

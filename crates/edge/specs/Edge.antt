@@ -6,6 +6,7 @@ use mathlib.Core.Bool.{Bool}
 use mathlib.Core.List.{List, [], _∷_}
 use lib.Dec.{leb}
 use lib.ListN.{length, drop}
+use Rattle.model.specs.Base.{recordSize}
 use Rattle.model.specs.Edges.{Edge, edgeBy, stepBy}
 use Rattle.model.specs.Heap.{Heap}
 use Rattle.model.specs.Machine.{target}
@@ -31,7 +32,7 @@ pub record EdgeReady (l : List ℕ) (d : Decoded) (y : Way) (t us : List ℕ) : 
   pub number : ℕ
   pub shape : Heap
   pub ready : WayReady l d number shape y
-  pub wide : length t ≡ 32
+  pub wide : length t ≡ recordSize
   pub room : 13 ≤ length us
 
 -- the ops from the tests on keep the heap

@@ -10,12 +10,13 @@ ghost use mathlib.Core.Path.{_≡_};
 ghost use mathlib.Core.Bool.{true};
 ghost use Prim.Native.Nat.{_≤_};
 ghost use lib.ListN.{length, set};
+ghost use Rattle.model.specs.Base.{mostNodes, recordSize};
 ghost use Rattle.model.specs.Records.{byte};
 ghost use Rattle.edge.specs.Edge.{EdgeOn, EdgeReady, FaultMade, LeavesBy, staysAt};
 
 // The edge to a fault.
 fn fault_edge(location: &[u8], fault: u8, guards: Guards, target: &mut [u8]) -> EdgeMade
-    requires { ⌜ (length (now location) ≡ 32) × (length (now target) ≡ 32) ⌝ }
+    requires { ⌜ (length (now location) ≡ recordSize) × (length (now target) ≡ recordSize) ⌝ }
     ensures { λ r. ⌜ FaultMade (now (location .entry)) fault guards (now (target .exit)) r ⌝ }
 {
     record::write_fault(target, Statement(location[1]), fault);
@@ -28,7 +29,7 @@ fn fault_edge(location: &[u8], fault: u8, guards: Guards, target: &mut [u8]) -> 
 
 // How much each cell counts where the way opens the location's shape.
 fn weights_of(location: &[u8], way: Way) -> Weights
-    requires { ⌜ (length (now location) ≡ 32) × (byte (now location) 3 ≤ 12) ⌝ }
+    requires { ⌜ (length (now location) ≡ recordSize) × (byte (now location) 3 ≤ mostNodes) ⌝ }
     ensures { λ r. ⌜ (r .nodes ≡ byte (now (location .entry)) 3) × (r .split ≡ way .split)
         × (r .node .0 ≡ way .node .0) ⌝ }
 {
@@ -43,7 +44,7 @@ fn weights_of(location: &[u8], way: Way) -> Weights
 // The edge to the statement of the branch, whose shape the target has already: the target's head, and what else there
 // is to an edge.
 fn edge_on(d: Decoded, branch: u8, guards: Guards, nodes: usize, target: &mut [u8]) -> EdgeMade
-    requires { ⌜ (length (now target) ≡ 32) × (nodes ≤ 12) ⌝ }
+    requires { ⌜ (length (now target) ≡ recordSize) × (nodes ≤ mostNodes) ⌝ }
     ensures { λ r. ⌜ EdgeOn d branch guards nodes (now (target .entry)) (now (target .exit)) r ⌝ }
 {
     record::write_head(target, 0x4c, statement::next_of(d, branch), nodes);
@@ -65,7 +66,7 @@ fn run_edge(
     requires { ⌜ EdgeReady (now location) d way (now target) (now updates) ⌝ }
     ensures { λ r. ⌜ LeavesBy (now (location .entry)) d way (now (target .exit)) (now (updates .exit)) r ⌝ }
 {
-    let mut pointers = [0u8; 6];
+    let mut pointers = [0u8; model::POINTERS];
     let mut cells = [0u8; 16];
     let mut order = [0u8; 16];
     let mut seen = [0u8; 16];
@@ -97,7 +98,7 @@ fn run_edge(
 
 // Writes the location's record with another statement.
 fn move_to(location: &[u8], to: Statement, target: &mut [u8])
-    requires { ⌜ (length (now location) ≡ 32) × (length (now target) ≡ 32) ⌝ }
+    requires { ⌜ (length (now location) ≡ recordSize) × (length (now target) ≡ recordSize) ⌝ }
     ensures { λ _. ⌜ now (target .exit) ≡ set (now (location .entry)) 1 (to .0) ⌝ }
 {
     bytes::copy(location, target);

@@ -6,6 +6,7 @@ ghost use mathlib.Core.Path.{_≡_};
 ghost use mathlib.Core.List.{List, map};
 ghost use Prim.Native.Nat.{ℕ, _≤_, _<_};
 ghost use lib.ListN.{length};
+ghost use Rattle.model.specs.Base.{mostCells};
 ghost use Rattle.model.specs.Machine.{effect, freeVal, make, perform};
 ghost use Rattle.model.specs.Records.{valOf};
 ghost use Rattle.model.specs.Structs.{opIn};
@@ -66,7 +67,7 @@ fn store_through(at: u8, v: u8, cells: &mut [u8]) -> u8
 
 // The pointer u holds the cell x, whose successor is undefined.
 fn new_cell(u: Pointer, x: usize, pointers: &mut [u8], cells: &mut [u8]) -> u8
-    requires { ⌜ (u .0 < length (now pointers)) × (x < length (now cells)) × (length (now cells) ≤ 240) ⌝ }
+    requires { ⌜ (u .0 < length (now pointers)) × (x < length (now cells)) × (length (now cells) ≤ mostCells) ⌝ }
     ensures { λ r. ⌜ HasEffect (perform (make (u .0)) x) (now (pointers .entry)) (now (cells .entry))
         r (now (pointers .exit)) (now (cells .exit)) ⌝ }
 {
@@ -96,7 +97,7 @@ fn wipe_holders(c: u8, list: &mut [u8])
 
 // The cell that the value at names is freed; freeing null does nothing.
 fn free_at(at: u8, pointers: &mut [u8], cells: &mut [u8]) -> u8
-    requires { ⌜ Named (now cells) at × (length (now cells) ≤ 240) ⌝ }
+    requires { ⌜ Named (now cells) at × (length (now cells) ≤ mostCells) ⌝ }
     ensures { λ r. ⌜ HasEffect (freeVal (valOf at)) (now (pointers .entry)) (now (cells .entry))
         r (now (pointers .exit)) (now (cells .exit)) ⌝ }
 {

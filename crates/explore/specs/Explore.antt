@@ -4,7 +4,7 @@ use mathlib.Core.Bool.{true}
 use mathlib.Core.Path.{_≡_}
 use mathlib.Core.List.{List}
 use lib.ListN.{length}
-use Rattle.model.specs.Base.{mostEdges, mostLocations, mostStatements}
+use Rattle.model.specs.Base.{mostEdges, mostLocations, mostStatements, recordSize}
 use Rattle.model.specs.Edges.{Edge, Loc, at, edgesOf, failed, stmtAt}
 use Rattle.model.specs.Machine.{Stmt}
 use Rattle.model.specs.Records.{isS, recordAt, refusal, refusalS, stmtOf}
@@ -21,7 +21,7 @@ use Rattle.explore.specs.declared.Explored.the-variants as explored
 
 -- an accepted S record among n statements
 pub record StatementOk (r : List ℕ) (n : ℕ) : Type 0 where
-  pub wide : length r ≡ 32
+  pub wide : length r ≡ recordSize
   pub isStatement : isS r ≡ true
   pub accepted : refusalS n r ≡ 0
   pub few : n ≤ mostStatements
@@ -29,7 +29,7 @@ pub record StatementOk (r : List ℕ) (n : ℕ) : Type 0 where
 -- the first n records of the input are the statements sts
 pub record StatementsOk (s : List ℕ) (n : ℕ) (sts : List Stmt) : Type 0 where
   pub number : length sts ≡ n
-  pub room : 32 * n ≤ length s
+  pub room : recordSize * n ≤ length s
   pub each : (i : ℕ) → i < n → StatementOk (recordAt s i) n
   pub read : (i : ℕ) → i < n → stmtAt sts i ≡ stmtOf (recordAt s i)
 

@@ -5,6 +5,7 @@ use model::Statement;
 ghost use mathlib.Core.Path.{_≡_};
 ghost use Prim.Native.Nat.{_*_, _≤_, _<_};
 ghost use lib.ListN.{length, take};
+ghost use Rattle.model.specs.Base.{recordSize};
 ghost use Rattle.explore.specs.Explore.{AllExplored, ExploreReady, LocationExplored};
 
 // The counts of a full listing, or the refusal: 11 or 12, and the number of the location being explored.
@@ -15,17 +16,17 @@ pub enum Explored {
 
 // Copies the record that the part begins with: the table that it stands in grows while the location is explored.
 fn copy_record(part: &[u8], rec: &mut [u8])
-    requires { ⌜ (32 ≤ length (now part)) × (length (now rec) ≡ 32) ⌝ }
-    ensures { λ _. ⌜ now (rec .exit) ≡ take 32 (now (part .entry)) ⌝ }
+    requires { ⌜ (recordSize ≤ length (now part)) × (length (now rec) ≡ recordSize) ⌝ }
+    ensures { λ _. ⌜ now (rec .exit) ≡ take recordSize (now (part .entry)) ⌝ }
 {
-    bytes::copy(&part[..32], rec);
+    bytes::copy(&part[..model::RECORD], rec);
 }
 
 // Where a statement's record begins in the input.
 fn record_start(statement: Statement) -> usize
-    ensures { λ r. ⌜ r ≡ 32 * statement .0 ⌝ }
+    ensures { λ r. ⌜ r ≡ recordSize * statement .0 ⌝ }
 {
-    32 * (statement.0 as usize)
+    model::RECORD * (statement.0 as usize)
 }
 
 // Adds the edges of location i; a fault has none.
@@ -41,14 +42,14 @@ pub fn explore_location(
     ensures { λ r. ⌜ LocationExplored (now (input .entry)) n (now (locations .entry)) (now (edges .entry)) counts i
         (now (locations .exit)) (now (edges .exit)) r ⌝ }
 {
-    let mut location = [0u8; 32];
-    let at = 32 * i;
+    let mut location = [0u8; model::RECORD];
+    let at = model::RECORD * i;
     copy_record(&locations[at..], &mut location);
     if location[2] != 0 {
         return Grown::Added { counts };
     }
     let start = record_start(Statement(location[1]));
-    let end = start + 32;
+    let end = start + model::RECORD;
     let d = statement::decode(&input[start..end]);
     location_edges::add_edges(d, &location, locations, edges, counts, i)
 }

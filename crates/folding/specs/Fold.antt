@@ -5,6 +5,7 @@ use mathlib.Core.Bool.{cond}
 use mathlib.Core.List.{List, _++_, map}
 use lib.Dec.{ltb}
 use lib.ListN.{length, getD}
+use Rattle.model.specs.Base.{pointerCount}
 
 -- a cell's byte becomes its node's; null, undefined and "not in use" stay
 abbrev pub foldByte : List ℕ → ℕ → ℕ
@@ -28,7 +29,7 @@ foldedBytes m ps cs last = map (foldByte m) ps ++ map (λ c. foldByte m (getD cs
 
 -- six pointers, the last cells of the segments, each cell's node, and room for the bytes of both
 pub record FoldReady (ps cs last m shape : List ℕ) : Type 0 where
-  pub six : length ps ≡ 6
+  pub six : length ps ≡ pointerCount
   pub pointers : AllIn m ps
   pub lasts : LastsIn m cs last
   pub room : 6 + length last ≤ length shape

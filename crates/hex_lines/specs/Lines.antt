@@ -4,7 +4,7 @@ use mathlib.Core.Bool.{true, false}
 use mathlib.Core.List.{List, [], _∷_, _++_, map}
 use lib.Dec.{ltb}
 use lib.ListN.{length}
-use Rattle.model.specs.Base.{joined}
+use Rattle.model.specs.Base.{joined, recordSize, mostLocations, mostEdges}
 use Rattle.model.specs.Translate.{chunks}
 
 -- a digit below 16: 0 to 9, then a to f
@@ -28,4 +28,4 @@ linesOf n t = joined (map lineOf (chunks n t))
 
 -- the records that are counted stand in the tables, and the text has room for them
 abbrev pub Stand : ℕ → List ℕ → ℕ → List ℕ → Type 0
-Stand i ls j es = (i ≤ 1024) × (j ≤ 2048) × (32 * i ≤ length ls) × (32 * j ≤ length es)
+Stand i ls j es = (i ≤ mostLocations) × (j ≤ mostEdges) × (recordSize * i ≤ length ls) × (recordSize * j ≤ length es)

@@ -3,6 +3,7 @@ ghost use mathlib.Core.Path.{_≡_};
 ghost use mathlib.Core.List.{_++_};
 ghost use Prim.Native.Nat.{_+_, _*_, _≤_, _<_};
 ghost use lib.ListN.{length, take, drop};
+ghost use Rattle.model.specs.Base.{recordSize};
 ghost use Rattle.hex_lines.specs.Lines.{byteOf, digitOf, lineOf, linesOf, Stand};
 
 // The hex digit of a number below 16.
@@ -25,11 +26,11 @@ fn write_byte(byte: u8, line: &mut [u8], i: usize)
 
 // A record as a line: two digits for each of its 32 bytes.
 fn write_line(rec: &[u8], line: &mut [u8])
-    requires { ⌜ (32 ≤ length (now rec)) × (65 ≤ length (now line)) ⌝ }
-    ensures { λ _. ⌜ now (line .exit) ≡ lineOf (take 32 (now (rec .entry))) ++ drop 65 (now (line .entry)) ⌝ }
+    requires { ⌜ (recordSize ≤ length (now rec)) × (65 ≤ length (now line)) ⌝ }
+    ensures { λ _. ⌜ now (line .exit) ≡ lineOf (take recordSize (now (rec .entry))) ++ drop 65 (now (line .entry)) ⌝ }
 {
     let mut i = 0;
-    while i < 32 {
+    while i < model::RECORD {
         write_byte(rec[i], line, i);
         i += 1;
     }
@@ -38,13 +39,13 @@ fn write_line(rec: &[u8], line: &mut [u8])
 
 // The first n records of a table as lines, behind the first `at` bytes of the text; answers where they end.
 fn write_lines(table: &[u8], n: usize, text: &mut [u8], at: usize) -> usize
-    requires { ⌜ (32 * n ≤ length (now table)) × (at + 65 * n ≤ length (now text)) ⌝ }
+    requires { ⌜ (recordSize * n ≤ length (now table)) × (at + 65 * n ≤ length (now text)) ⌝ }
     ensures { λ r. ⌜ (r ≡ at + 65 * n)
         × (take r (now (text .exit)) ≡ take at (now (text .entry)) ++ linesOf n (now (table .entry))) ⌝ }
 {
     let mut i = 0;
     while i < n {
-        let from = 32 * i;
+        let from = model::RECORD * i;
         let to = at + 65 * i;
         write_line(&table[from..], &mut text[to..]);
         i += 1;

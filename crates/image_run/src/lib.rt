@@ -13,8 +13,8 @@ fn run_on(d: Decoded, x: usize, pointers: &mut [u8], cells: &mut [u8]) -> u8
     ensures { λ r. ⌜ RunOn d x (now (pointers .entry)) (now (cells .entry))
         r (now (pointers .exit)) (now (cells .exit)) ⌝ }
 {
-    let mut order = [0u8; 240];
-    let mut seen = [0u8; 240];
+    let mut order = [0u8; model::MOST_CELLS];
+    let mut seen = [0u8; model::MOST_CELLS];
     let number = effect::run_effect(d, x, pointers, cells);
     if number != 0 {
         return number;

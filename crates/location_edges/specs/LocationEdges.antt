@@ -5,7 +5,7 @@ use mathlib.Core.Path.{_≡_}
 use mathlib.Core.Bool.{false}
 use mathlib.Core.List.{List, [], _∷_}
 use lib.ListN.{length}
-use Rattle.model.specs.Base.{mostStatements}
+use Rattle.model.specs.Base.{mostStatements, pointerCount}
 use Rattle.model.specs.Heap.{Heap}
 use Rattle.model.specs.Machine.{action, branch, isStop, kind, target}
 use Rattle.model.specs.Edges.{Edge, at, edgeBy, edgesAt, stepBy, view, viewVal}
@@ -34,7 +34,7 @@ pub record Among (d : Decoded) (n : ℕ) : Type 0 where
 pub record AtShape (l : List ℕ) (d : Decoded) (n s : ℕ) (h : Heap) : Type 0 where
   pub isRecord : l ≡ locRecord (at s h)
   pub isShape : Canon h
-  pub six : length (h .ptrs) ≡ 6
+  pub six : length (h .ptrs) ≡ pointerCount
   pub statement : Among d n
   pub low : s < n
 

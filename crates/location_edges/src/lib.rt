@@ -25,7 +25,7 @@ fn add_way(
     ensures { λ r. ⌜ WayAdded (now (location .entry)) d way (now (locations .entry)) (now (edges .entry)) counts i
         (now (locations .exit)) (now (edges .exit)) r ⌝ }
 {
-    let mut target = [0u8; 32];
+    let mut target = [0u8; model::RECORD];
     let mut updates = [0u16; 16];
     let made = edge::one_edge(location, d, way, &mut target, &mut updates);
     listing::add_edge(locations, edges, counts, i, made, &target, &updates)

@@ -3,6 +3,7 @@ use model::Statement;
 ghost use mathlib.Core.Path.{_≡_};
 ghost use Prim.Native.Nat.{_+_, _*_, _≤_};
 ghost use lib.ListN.{length};
+ghost use Rattle.model.specs.Base.{recordSize};
 ghost use Rattle.model.specs.Records.{byte};
 ghost use Rattle.model.specs.Translate.{places};
 ghost use Rattle.record.specs.Written.{placed};
@@ -12,22 +13,24 @@ ghost use Rattle.location_table.specs.Target.{targetKept, countKept};
 pub fn places(most: usize, len: usize) -> usize
     ensures { λ r. ⌜ r ≡ places most len ⌝ }
 {
-    let fit = len / 32;
+    let fit = len / model::RECORD;
     if fit < most { fit } else { most }
 }
 
 // The L record rec as number n of the table: the part of the table from 32 times the number on is lent to the writer.
 fn put_location(table: &mut [u8], n: usize, rec: &[u8])
-    requires { ⌜ (32 * n + 32 ≤ length (now table)) × (length (now rec) ≡ 32) × (byte (now rec) 0 ≡ 0x4c) ⌝ }
+    requires { ⌜ (recordSize * n + recordSize ≤ length (now table)) × (length (now rec) ≡ recordSize)
+        × (byte (now rec) 0 ≡ 0x4c) ⌝ }
     ensures { λ _. ⌜ now (table .exit) ≡ placed (now (table .entry)) n (now (rec .entry)) ⌝ }
 {
-    let at = 32 * n;
+    let at = model::RECORD * n;
     record::write_location(&mut table[at..], Statement(rec[1]), rec[2], rec);
 }
 
 // A target with number j, the next one where it is new: it is written there, and the count of locations is answered.
 pub fn keep_target(locations: &mut [u8], nl: usize, j: usize, target: &[u8]) -> usize
-    requires { ⌜ (32 * j + 32 ≤ length (now locations)) × (length (now target) ≡ 32) × (byte (now target) 0 ≡ 0x4c) ⌝ }
+    requires { ⌜ (recordSize * j + recordSize ≤ length (now locations)) × (length (now target) ≡ recordSize)
+        × (byte (now target) 0 ≡ 0x4c) ⌝ }
     ensures { λ r. ⌜ (r ≡ countKept nl j)
         × (now (locations .exit) ≡ targetKept (now (locations .entry)) nl j (now (target .entry))) ⌝ }
 {

@@ -15,8 +15,8 @@ fn run_statement(d: Decoded, x: usize, pointers: &mut [u8], cells: &mut [u8]) ->
         r (now (pointers .exit)) (now (cells .exit)) ⌝ }
 {
     let n = cells.len();
-    let mut ps = [0u8; 6];
-    let mut cs = [0u8; 240];
+    let mut ps = [0u8; model::POINTERS];
+    let mut cs = [0u8; model::MOST_CELLS];
     bytes::copy(&pointers[..], &mut ps);
     bytes::copy(&cells[..], &mut cs);
     image_run::run_saved(d, x, pointers, cells, &ps, &cs[..n])

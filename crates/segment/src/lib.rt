@@ -3,11 +3,12 @@ use model::Node;
 ghost use mathlib.Core.Path.{_≡_};
 ghost use Prim.Native.Nat.{_+_, _-_, _<_, _≤_};
 ghost use lib.ListN.{length, getD, drop};
+ghost use Rattle.model.specs.Base.{mostCells};
 ghost use Rattle.segment.specs.Cut.{CutReady, Entered, IsCut, Put, PutReady, heldCore, segs, cutTables};
 
 // The node of the last of k segments.
 fn last_node(k: usize) -> Node
-    requires { ⌜ (0 < k) × (k ≤ 240) ⌝ }
+    requires { ⌜ (0 < k) × (k ≤ mostCells) ⌝ }
     ensures { λ r. ⌜ r .0 ≡ k - 1 ⌝ }
 {
     Node((k - 1) as u8)
@@ -29,7 +30,7 @@ fn begin(head: u8, n: Node, node: &mut [u8], last: &mut [u8], size: &mut [u32])
 // The cell goes behind the segment of node n.
 fn extend(c: u8, n: Node, node: &mut [u8], last: &mut [u8], size: &mut [u32])
     requires { ⌜ (c < length (now node)) × (n .0 < length (now last)) × (n .0 < length (now size))
-        × (getD (now size) (n .0) 0 < 240) ⌝ }
+        × (getD (now size) (n .0) 0 < mostCells) ⌝ }
     ensures { λ _. ⌜ Entered c (n .0) (getD (now (size .entry)) (n .0) 0 + 1)
         (cutTables (now (node .entry)) (now (last .entry)) (now (size .entry)))
         (cutTables (now (node .exit)) (now (last .exit)) (now (size .exit))) ⌝ }

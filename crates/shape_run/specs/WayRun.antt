@@ -3,6 +3,7 @@ use Prim.Native.Nat.{ℕ, _+_, _≤_}
 use mathlib.Core.Path.{_≡_}
 use mathlib.Core.List.{List}
 use lib.ListN.{length, getD, take}
+use Rattle.model.specs.Base.{pointerCount}
 use Rattle.model.specs.Heap.{Heap, IsHeap, order}
 use Rattle.model.specs.Image.{heapOf}
 use Rattle.model.specs.Machine.{branch, carryOut}
@@ -22,7 +23,7 @@ pub record RunsReady (l : List ℕ) (d : Decoded) (y : Way) (image : Bytes) (vis
   pub number : ℕ
   pub shape : Heap
   pub ready : WayReady l d number shape y
-  pub six : length (image .pointers) ≡ 6
+  pub six : length (image .pointers) ≡ pointerCount
   pub room : 13 ≤ length (image .cells)
   pub places : 13 ≤ length visit
   pub marks : 13 ≤ length seen

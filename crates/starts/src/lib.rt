@@ -4,6 +4,7 @@ ghost use mathlib.Core.Path.{_≡_};
 ghost use mathlib.Core.List.{map};
 ghost use Prim.Native.Nat.{_+_, _*_, _≤_};
 ghost use lib.ListN.{length};
+ghost use Rattle.model.specs.Base.{recordSize};
 ghost use Rattle.model.specs.Records.{locRecord, recordAt};
 ghost use Rattle.model.specs.Translate.{tableOf};
 ghost use Rattle.record.specs.Written.{locationBytes, placed};
@@ -12,13 +13,14 @@ ghost use Rattle.starts.specs.Starts.{startLocs, StartsReady};
 // Enters the shape of record i of the input as location j, at statement 0 without a fault: the part of the table from
 // 32 times its number on is lent to the writer.
 fn put_start(input: &[u8], i: usize, locations: &mut [u8], j: usize)
-    requires { ⌜ (32 * i + 32 ≤ length (now input)) × (32 * j + 32 ≤ length (now locations)) ⌝ }
+    requires { ⌜ (recordSize * i + recordSize ≤ length (now input))
+        × (recordSize * j + recordSize ≤ length (now locations)) ⌝ }
     ensures { λ _. ⌜ now (locations .exit)
         ≡ placed (now (locations .entry)) j (locationBytes 0 0 (recordAt (now (input .entry)) i)) ⌝ }
 {
-    let at = 32 * j;
-    let start = 32 * i;
-    let end = start + 32;
+    let at = model::RECORD * j;
+    let start = model::RECORD * i;
+    let end = start + model::RECORD;
     record::write_location(&mut locations[at..], Statement(0), 0, &input[start..end]);
 }
 

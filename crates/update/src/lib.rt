@@ -6,6 +6,7 @@ ghost use Prim.Native.Nat.{ℕ, _+_, _*_, _^_, _≤_, _<_};
 ghost use lib.Bits.{bitAnd};
 ghost use lib.Count.{ones};
 ghost use lib.ListN.{length, getD, set};
+ghost use Rattle.model.specs.Base.{mostNodes};
 ghost use Rattle.model.specs.Runs.{added, applied};
 ghost use Rattle.update.specs.Counted.{addedCount};
 
@@ -31,7 +32,7 @@ pub fn set_code(updates: &mut [u16], n: Node, code: u16)
 // The codes of the updates when the heap stays as it is: each of the 12 counters is its own old counter.
 pub fn carry_updates(updates: &mut [u16])
     requires { ⌜ 12 ≤ length (now updates) ⌝ }
-    ensures { λ _. ⌜ ((j : ℕ) → j < 12 → getD (now (updates .exit)) j 0 ≡ 4096 + 2 ^ j) ⌝ }
+    ensures { λ _. ⌜ ((j : ℕ) → j < mostNodes → getD (now (updates .exit)) j 0 ≡ 4096 + 2 ^ j) ⌝ }
 {
     let mut j: u8 = 0;
     while j < 12 {
@@ -52,7 +53,7 @@ pub fn counters_added(update: u16) -> u32
 
 // The sum of the counters of a set, the lowest first.
 fn sum_of(set: u16, counters: &[u32]) -> u64
-    requires { ⌜ (set < 4096) × (length (now counters) ≡ 12) ⌝ }
+    requires { ⌜ (set < 4096) × (length (now counters) ≡ mostNodes) ⌝ }
     ensures { λ r. ⌜ (r ≡ added set (now (counters .entry))) × (r ≤ 4294967295 * 12) ⌝ }
 {
     let mut left = set;
@@ -67,7 +68,7 @@ fn sum_of(set: u16, counters: &[u32]) -> u64
 
 // A new counter: the old counters that the update adds, and its constant.
 pub fn apply(update: u16, counters: &[u32]) -> u64
-    requires { ⌜ length (now counters) ≡ 12 ⌝ }
+    requires { ⌜ length (now counters) ≡ mostNodes ⌝ }
     ensures { λ r. ⌜ r ≡ applied (now (counters .entry)) update ⌝ }
 {
     let sum = sum_of(update & 0x0fff, counters) + (update / 4096 % 4) as u64;

@@ -7,7 +7,7 @@ use mathlib.Core.Bool.{Bool, not, _&&_, cond}
 use mathlib.Core.List.{List, map}
 use lib.Dec.{eqb}
 use lib.ListN.{length, getD, take}
-use Rattle.model.specs.Base.{count, mem}
+use Rattle.model.specs.Base.{count, mem, mostCells}
 use Rattle.model.specs.Heap.{Val, Slot, unused, holds}
 use Rattle.model.specs.Image.{cellSlot}
 use Rattle.model.specs.Records.{valOf}
@@ -22,7 +22,7 @@ slotAt cs c = getD (map cellSlot cs) c unused
 
 -- n cells are in the order o, each once and in use, and s marks exactly these
 pub record Visiting (cs o s : List ℕ) (n : ℕ) : Type 0 where
-  pub few : length cs ≤ 240
+  pub few : length cs ≤ mostCells
   pub room : length cs ≤ length o
   pub marks : length cs ≤ length s
   pub counted : n ≤ length cs
