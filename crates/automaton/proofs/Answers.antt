@@ -16,7 +16,7 @@ use Rattle.input.specs.declared.Checked.the-variants as checked
 use Rattle.input.specs.Accepted.{Accepted}
 use Rattle.input.specs.Input.{GoodCounts, checkedOf, routineOf}
 use Rattle.input.proofs.Facts.{accepted, starts-length}
-use Rattle.automaton.specs.Starts.{ListReady}
+use Rattle.automaton.specs.Ready.{ListReady}
 use Rattle.automaton.proofs.Outcomes.{outcome-automaton, outcome-bad, outcome-few}
 
 -- the contract of the translator, of an answer and what the tables then hold

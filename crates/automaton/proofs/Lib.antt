@@ -1,4 +1,4 @@
 pub mod Outcomes
-pub mod Starts
+pub mod Ready
 pub mod Listed
 pub mod Answers

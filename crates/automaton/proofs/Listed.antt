@@ -14,8 +14,9 @@ use Rattle.input.proofs.Facts.{starts-length}
 use Rattle.explore.specs.Explore.{AllExplored, ExploredTo, ExploreReady, exploredIn}
 use Rattle.explore.specs.declared.Explored.{Explored}
 use Rattle.explore.specs.declared.Explored.the-variants as explored
-use Rattle.automaton.specs.Starts.{startLocs, ListReady}
-use Rattle.automaton.proofs.Starts.{explore-ready, startCounts, starts-fine, starts-held, statements-ok}
+use Rattle.starts.specs.Starts.{startLocs}
+use Rattle.automaton.specs.Ready.{ListReady}
+use Rattle.automaton.proofs.Ready.{explore-ready, startCounts, starts-fine, starts-held, statements-ok}
 use Rattle.automaton.proofs.Outcomes.{listedBy, outcome-full, outcome-listed, startListing}
 
 -- ls is the location table as it was lent, and ks the same with the starting shapes entered

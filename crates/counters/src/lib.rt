@@ -3,7 +3,7 @@ ghost use mathlib.Core.Path.{_≡_};
 ghost use Prim.Native.Nat.{_≤_};
 ghost use lib.Dec.{leb};
 ghost use lib.ListN.{length};
-ghost use Rattle.model.specs.Base.{all, sum};
+ghost use Rattle.model.specs.Base.{all, sum, mostNodes};
 ghost use Rattle.model.specs.Image.{countersFit};
 
 // Whether each counter is at least 1.
@@ -22,7 +22,7 @@ fn all_positive(counters: &[u32]) -> bool
 
 // The number of cells that at most twelve counters ask for: it fits, since each has 32 bits.
 fn total(counters: &[u32]) -> u64
-    requires { ⌜ length (now counters) ≤ 12 ⌝ }
+    requires { ⌜ length (now counters) ≤ mostNodes ⌝ }
     ensures { λ r. ⌜ r ≡ sum (λ v. v) (now (counters .entry)) ⌝ }
 {
     let mut t: u64 = 0;
@@ -36,7 +36,7 @@ fn total(counters: &[u32]) -> u64
 
 // Whether the counters are twelve and fit k nodes and n cells: each node has a cell, counters past them ask for none.
 pub fn counters_fit(k: usize, counters: &[u32], n: usize) -> bool
-    requires { ⌜ k ≤ 12 ⌝ }
+    requires { ⌜ k ≤ mostNodes ⌝ }
     ensures { λ r. ⌜ r ≡ countersFit k (now (counters .entry)) n ⌝ }
 {
     if counters.len() != 12 {

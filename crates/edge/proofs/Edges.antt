@@ -24,16 +24,16 @@ use Rattle.model.proofs.ways.Ways.{view-acts, view-looks, view-split}
 use Rattle.effect.specs.Effect.{effectOf}
 use Rattle.machine.specs.Run.{Bytes}
 use Rattle.record.specs.Written.{faultBytes}
-use Rattle.update.specs.Codes.{weightBy, weightIn}
-use Rattle.update.specs.declared.Weights.{Weights}
+use Rattle.cell_sum.specs.Codes.{weightBy, weightIn}
+use Rattle.cell_sum.specs.declared.Weights.{Weights}
 use Rattle.way.proofs.Ready.{node-below, node-used, nodes-few, nodes-is, shape-is, statement-is}
 use Rattle.way.specs.Ready.{WayReady}
 use Rattle.way.specs.Way.{wayIn}
 use Rattle.way.specs.declared.Way as declared
-use Rattle.edge.specs.Edge.{LeavesBy}
-use Rattle.edge.specs.WayRun.{FaultMade, WayRan, leftIn}
+use Rattle.edge.specs.Edge.{FaultMade, LeavesBy}
+use Rattle.shape_run.specs.WayRun.{WayRan, leftIn}
 use Rattle.refold.specs.Refold.{IsLeft, LeaveReady}
-use Rattle.edge.specs.declared.Gone.{Gone}
+use Rattle.shape_run.specs.declared.Gone.{Gone}
 
 -- ---- the edge of an answer
 

@@ -27,16 +27,15 @@ use Rattle.model.proofs.records.Ops.{each-op, op-stops}
 use Rattle.model.proofs.shapes.Canon.{canon-fold, canon-segments, single}
 use Rattle.model.proofs.ways.Ways.{no-view}
 use Rattle.loss.specs.Loss.{keepsAt}
-use Rattle.update.proofs.Codes.{segment-update}
-use Rattle.update.specs.Codes.{plusBy, weightBy}
+use Rattle.cell_sum.proofs.Codes.{segment-update}
+use Rattle.cell_sum.specs.Codes.{plusBy, weightBy}
 use Rattle.way.proofs.Ready.{nodes-few, nodes-is, shape-is}
 use Rattle.way.specs.Ready.{WayReady}
 use Rattle.way.specs.Way.{wayIn}
 use Rattle.way.specs.declared.Way.{Way}
-use Rattle.edge.specs.Edge.{LeavesBy}
-use Rattle.edge.specs.WayRun.{staysAt}
+use Rattle.edge.specs.Edge.{LeavesBy, staysAt}
 use Rattle.edge.proofs.Edges.{guards-is, step-way, went-edge}
-use Rattle.edge.proofs.Running.{branch-pointers}
+use Rattle.shape_run.proofs.Running.{branch-pointers}
 
 -- ---- ops that keep the heap
 

@@ -1,3 +1,2 @@
-pub mod Running
 pub mod Edges
 pub mod Keeping

@@ -1,13 +1,21 @@
--- One edge of a location: what it asks of the record and the way, and what it leaves. Assumes nothing.
+-- One edge of a location: what it asks of the record and the way, what it leaves, and what its parts make. Assumes
+-- nothing.
 use Prim.Native.Nat.{ℕ, _≤_}
 use mathlib.Core.Path.{_≡_}
+use mathlib.Core.Bool.{Bool}
 use mathlib.Core.List.{List, [], _∷_}
-use lib.ListN.{length}
+use lib.Dec.{leb}
+use lib.ListN.{length, drop}
+use Rattle.model.specs.Base.{recordSize}
 use Rattle.model.specs.Edges.{Edge, edgeBy, stepBy}
 use Rattle.model.specs.Heap.{Heap}
+use Rattle.model.specs.Machine.{target}
+use Rattle.model.specs.Records.{byte}
 use Rattle.model.specs.Structs.{IsEdge, stmtIn}
 use Rattle.model.specs.declared.Decoded.{Decoded}
 use Rattle.model.specs.declared.EdgeMade.{EdgeMade}
+use Rattle.model.specs.declared.Guards.{Guards}
+use Rattle.record.specs.Written.{faultBytes}
 use Rattle.way.specs.Ready.{WayReady}
 use Rattle.way.specs.Way.{wayIn}
 use Rattle.way.specs.declared.Way.{Way}
@@ -24,5 +32,19 @@ pub record EdgeReady (l : List ℕ) (d : Decoded) (y : Way) (t us : List ℕ) : 
   pub number : ℕ
   pub shape : Heap
   pub ready : WayReady l d number shape y
-  pub wide : length t ≡ 32
+  pub wide : length t ≡ recordSize
   pub room : 13 ≤ length us
+
+-- the ops from the tests on keep the heap
+abbrev pub staysAt : ℕ → Bool
+staysAt op = leb 8 op
+
+-- what is made of a fault f of the location l: t is the fault's record
+abbrev pub FaultMade : List ℕ → ℕ → Guards → List ℕ → EdgeMade → Type 0
+FaultMade l f g t r = (r .branch ≡ 0) × (r .guards ≡ g) × (r .nodes ≡ 0) × (t ≡ faultBytes (byte l 1) f)
+
+-- the edge by branch b, with guards g and m new nodes, to the statement of that branch: its target before (t) and
+-- after (t′)
+abbrev pub EdgeOn : Decoded → ℕ → Guards → ℕ → List ℕ → List ℕ → EdgeMade → Type 0
+EdgeOn d b g m t t′ r =
+    (r ≡ record { branch = b; guards = g; nodes = m }) × (t′ ≡ 0x4c ∷ target (stmtIn d) b ∷ 0 ∷ m ∷ drop 4 t)

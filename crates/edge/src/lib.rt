@@ -1,58 +1,22 @@
 // One edge of a location: the statement is run on the location's shape, opened for the way, and the result is folded.
 // A statement that keeps the heap needs no run.
+use cell_sum::Weights;
 use model::Decoded;
 use model::EdgeMade;
 use model::Guards;
 use model::Statement;
-use update::Weights;
 use way::Way;
 ghost use mathlib.Core.Path.{_≡_};
 ghost use mathlib.Core.Bool.{true};
 ghost use Prim.Native.Nat.{_≤_};
 ghost use lib.ListN.{length, set};
+ghost use Rattle.model.specs.Base.{mostNodes, recordSize};
 ghost use Rattle.model.specs.Records.{byte};
-ghost use Rattle.machine.specs.Run.{bytes};
-ghost use Rattle.edge.specs.Edge.{EdgeReady, LeavesBy};
-ghost use Rattle.edge.specs.WayRun.{EdgeOn, FaultMade, RunsReady, WayRan, staysAt};
-
-// What the run by a way gives beside the heap image: the fault (0 for none), the branch, how many cells there are, and
-// how many were visited.
-pub struct Gone {
-    pub fault: u8,
-    pub branch: u8,
-    pub cells: usize,
-    pub visited: usize,
-}
-
-// Opens the location's shape for the way and runs the statement on it; the marks of the run count holders.
-fn run_way(
-    location: &[u8],
-    d: Decoded,
-    way: Way,
-    pointers: &mut [u8],
-    cells: &mut [u8],
-    order: &mut [u8],
-    seen: &mut [u8],
-) -> Gone
-    requires { ⌜ RunsReady (now location) d way (bytes (now pointers) (now cells)) (now order) (now seen) ⌝ }
-    ensures { λ r. ⌜ WayRan (now (location .entry)) d way (bytes (now (pointers .exit)) (now (cells .exit)))
-        (now (order .exit)) (now (seen .exit)) r ⌝ }
-{
-    let k = location[3] as usize;
-    let n = way::open_way(location, d.op, way, pointers, cells);
-    let branch = effect::branch_of(d, way.pick, &pointers[..]);
-    let ran = machine::run(d, k, pointers, &mut cells[..n], order, seen);
-    Gone {
-        fault: ran.fault,
-        branch: branch,
-        cells: n,
-        visited: ran.visited,
-    }
-}
+ghost use Rattle.edge.specs.Edge.{EdgeOn, EdgeReady, FaultMade, LeavesBy, staysAt};
 
 // The edge to a fault.
 fn fault_edge(location: &[u8], fault: u8, guards: Guards, target: &mut [u8]) -> EdgeMade
-    requires { ⌜ (length (now location) ≡ 32) × (length (now target) ≡ 32) ⌝ }
+    requires { ⌜ (length (now location) ≡ recordSize) × (length (now target) ≡ recordSize) ⌝ }
     ensures { λ r. ⌜ FaultMade (now (location .entry)) fault guards (now (target .exit)) r ⌝ }
 {
     record::write_fault(target, Statement(location[1]), fault);
@@ -65,7 +29,7 @@ fn fault_edge(location: &[u8], fault: u8, guards: Guards, target: &mut [u8]) -> 
 
 // How much each cell counts where the way opens the location's shape.
 fn weights_of(location: &[u8], way: Way) -> Weights
-    requires { ⌜ (length (now location) ≡ 32) × (byte (now location) 3 ≤ 12) ⌝ }
+    requires { ⌜ (length (now location) ≡ recordSize) × (byte (now location) 3 ≤ mostNodes) ⌝ }
     ensures { λ r. ⌜ (r .nodes ≡ byte (now (location .entry)) 3) × (r .split ≡ way .split)
         × (r .node .0 ≡ way .node .0) ⌝ }
 {
@@ -80,7 +44,7 @@ fn weights_of(location: &[u8], way: Way) -> Weights
 // The edge to the statement of the branch, whose shape the target has already: the target's head, and what else there
 // is to an edge.
 fn edge_on(d: Decoded, branch: u8, guards: Guards, nodes: usize, target: &mut [u8]) -> EdgeMade
-    requires { ⌜ (length (now target) ≡ 32) × (nodes ≤ 12) ⌝ }
+    requires { ⌜ (length (now target) ≡ recordSize) × (nodes ≤ mostNodes) ⌝ }
     ensures { λ r. ⌜ EdgeOn d branch guards nodes (now (target .entry)) (now (target .exit)) r ⌝ }
 {
     record::write_head(target, 0x4c, statement::next_of(d, branch), nodes);
@@ -102,11 +66,11 @@ fn run_edge(
     requires { ⌜ EdgeReady (now location) d way (now target) (now updates) ⌝ }
     ensures { λ r. ⌜ LeavesBy (now (location .entry)) d way (now (target .exit)) (now (updates .exit)) r ⌝ }
 {
-    let mut pointers = [0u8; 6];
+    let mut pointers = [0u8; model::POINTERS];
     let mut cells = [0u8; 16];
     let mut order = [0u8; 16];
     let mut seen = [0u8; 16];
-    let gone = run_way(
+    let gone = shape_run::run_way(
         location,
         d,
         way,
@@ -134,7 +98,7 @@ fn run_edge(
 
 // Writes the location's record with another statement.
 fn move_to(location: &[u8], to: Statement, target: &mut [u8])
-    requires { ⌜ (length (now location) ≡ 32) × (length (now target) ≡ 32) ⌝ }
+    requires { ⌜ (length (now location) ≡ recordSize) × (length (now target) ≡ recordSize) ⌝ }
     ensures { λ _. ⌜ now (target .exit) ≡ set (now (location .entry)) 1 (to .0) ⌝ }
 {
     bytes::copy(location, target);
@@ -152,7 +116,7 @@ fn keep_edge(
     requires { ⌜ (staysAt (d .op) ≡ true) × EdgeReady (now location) d way (now target) (now updates) ⌝ }
     ensures { λ r. ⌜ LeavesBy (now (location .entry)) d way (now (target .exit)) (now (updates .exit)) r ⌝ }
 {
-    let branch = effect::branch_of(d, way.pick, &location[4..10]);
+    let branch = branch::branch_of(d, way.pick, &location[4..10]);
     move_to(location, statement::next_of(d, branch), target);
     update::carry_updates(updates);
     let guards = way.guards;

@@ -7,7 +7,7 @@ use mathlib.Core.List.{List, [], _∷_, map}
 use lib.Dec.{eqb}
 use lib.ListN.{getD, length, length-map, set}
 use borrow.Author.Tests.{leb-false, eqb-true, ne-eqb}
-use Rattle.model.specs.Heap.{Val, Slot, unused, holds, Heap, ptr, next, closed, undef}
+use Rattle.model.specs.Heap.{Val, Slot, unused, holds, Heap, ptr, next, closed}
 use Rattle.model.specs.Machine.{Effect, done, put, putSlot, setPtr, held, wipe, wipeSlot, freeVal, make, perform}
 use Rattle.model.specs.Machine.{action}
 use Rattle.model.specs.Records.{valOf, opOf}
@@ -20,13 +20,11 @@ use Rattle.model.proofs.expansion.Effects.{closed-ptr}
 use Rattle.model.proofs.expansion.Facts.{test-closed}
 use Rattle.model.proofs.lists.Lists.{getD-map, map-set}
 use Rattle.model.proofs.expansion.Writes.{slot-clash}
+use Rattle.branch.proofs.Bytes.{ptr-byte}
 use Rattle.model.specs.declared.Decoded.{Decoded}
 use Rattle.effect.specs.Effect.{Access, EffectReady, Named, HasEffect, assigned, loaded, stored, wipeByte}
 
 -- ---- reading
-
-pub ptr-byte : (ps cs : List ℕ) (u : ℕ) → u < length ps → ptr (heapOf ps cs) u ≡ valOf (getD ps u 0)
-ptr-byte ps cs u h = getD-map valOf ps u 0 undef h
 
 next-byte : (ps cs : List ℕ) (c : ℕ) → c < length cs → next (heapOf ps cs) c ≡ cellSlot (getD cs c 0)
 next-byte ps cs c h = getD-map cellSlot cs c 0 unused h

@@ -5,6 +5,7 @@ use mathlib.Core.Bool.{true, false, cond}
 use mathlib.Core.List.{List}
 use lib.Dec.{eqb}
 use lib.ListN.{length, getD}
+use Rattle.model.specs.Base.{pointerCount, mostCells}
 use Rattle.model.specs.Heap.{Val, Heap, holds, next, closed}
 use Rattle.model.specs.Machine.{Effect, action, done, fault, atNull, atUndef, leak, through, setPtr, putSlot, held}
 use Rattle.model.specs.Records.{opCount, valOf}
@@ -15,10 +16,10 @@ use Rattle.model.specs.declared.Decoded.{Decoded}
 -- a known op on two of six pointers of a closed image; at new, the cell x is one of the image
 pub record EffectReady (d : Decoded) (x : ℕ) (ps cs : List ℕ) : Type 0 where
   pub known : d .op < opCount
-  pub isU : d .u .0 < 6
-  pub isW : d .w .0 < 6
-  pub six : length ps ≡ 6
-  pub few : length cs ≤ 240
+  pub isU : d .u .0 < pointerCount
+  pub isW : d .w .0 < pointerCount
+  pub six : length ps ≡ pointerCount
+  pub few : length cs ≤ mostCells
   pub isClosed : closed (heapOf ps cs) ≡ true
   pub room : pastEnd (action (opIn d)) x (length cs) ≡ false
 

@@ -1,4 +1,4 @@
-// The effect of a statement on a heap image that is lent, and the branch that the statement takes.
+// The effect of a statement on a heap image that is lent.
 // An effect answers 0 where it is done, else the fault's number; a fault leaves the image. It does not look for leaks.
 use model::Decoded;
 use model::Pointer;
@@ -6,10 +6,9 @@ ghost use mathlib.Core.Path.{_≡_};
 ghost use mathlib.Core.List.{List, map};
 ghost use Prim.Native.Nat.{ℕ, _≤_, _<_};
 ghost use lib.ListN.{length};
-ghost use Rattle.model.specs.Heap.{sameVal};
-ghost use Rattle.model.specs.Machine.{branch, effect, freeVal, make, perform, test};
-ghost use Rattle.model.specs.Records.{opCount, valOf};
-ghost use Rattle.model.specs.Image.{heapOf};
+ghost use Rattle.model.specs.Base.{mostCells};
+ghost use Rattle.model.specs.Machine.{effect, freeVal, make, perform};
+ghost use Rattle.model.specs.Records.{valOf};
 ghost use Rattle.model.specs.Structs.{opIn};
 ghost use Rattle.effect.specs.Effect.{EffectReady, Access, Named, HasEffect, assigned, loaded, stored, wipeByte};
 
@@ -68,7 +67,7 @@ fn store_through(at: u8, v: u8, cells: &mut [u8]) -> u8
 
 // The pointer u holds the cell x, whose successor is undefined.
 fn new_cell(u: Pointer, x: usize, pointers: &mut [u8], cells: &mut [u8]) -> u8
-    requires { ⌜ (u .0 < length (now pointers)) × (x < length (now cells)) × (length (now cells) ≤ 240) ⌝ }
+    requires { ⌜ (u .0 < length (now pointers)) × (x < length (now cells)) × (length (now cells) ≤ mostCells) ⌝ }
     ensures { λ r. ⌜ HasEffect (perform (make (u .0)) x) (now (pointers .entry)) (now (cells .entry))
         r (now (pointers .exit)) (now (cells .exit)) ⌝ }
 {
@@ -98,7 +97,7 @@ fn wipe_holders(c: u8, list: &mut [u8])
 
 // The cell that the value at names is freed; freeing null does nothing.
 fn free_at(at: u8, pointers: &mut [u8], cells: &mut [u8]) -> u8
-    requires { ⌜ Named (now cells) at × (length (now cells) ≤ 240) ⌝ }
+    requires { ⌜ Named (now cells) at × (length (now cells) ≤ mostCells) ⌝ }
     ensures { λ r. ⌜ HasEffect (freeVal (valOf at)) (now (pointers .entry)) (now (cells .entry))
         r (now (pointers .exit)) (now (cells .exit)) ⌝ }
 {
@@ -134,29 +133,6 @@ pub fn run_effect(d: Decoded, x: usize, pointers: &mut [u8], cells: &mut [u8]) -
         5 => store_through(at, v, cells),
         6 => new_cell(d.u, x, pointers, cells),
         7 => free_at(at, pointers, cells),
-        _ => 0,
-    }
-}
-
-// The branch of a test: 0 where the two values are equal.
-fn test_branch(a: u8, b: u8) -> u8
-    ensures { λ r. ⌜ r ≡ test (sameVal (valOf a) (valOf b)) ⌝ }
-{
-    if a == b { 0 } else { 1 }
-}
-
-// The branch that a statement takes; the pick is read by choose only.
-pub fn branch_of(d: Decoded, pick: u8, pointers: &[u8]) -> u8
-    requires { ⌜ (d .op < opCount) × (d .u .0 < 6) × (d .w .0 < 6) × (length (now pointers) ≡ 6) ⌝ }
-    ensures { λ r. ⌜ ((cs : List ℕ) → r ≡ branch (opIn d) pick (heapOf (now (pointers .entry)) cs)) ⌝ }
-{
-    let op = d.op;
-    let i = d.u.0 as usize;
-    let j = d.w.0 as usize;
-    match op {
-        8 => test_branch(pointers[i], 0xfe),
-        9 => test_branch(pointers[i], pointers[j]),
-        10 => pick,
         _ => 0,
     }
 }

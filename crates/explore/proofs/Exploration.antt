@@ -18,7 +18,8 @@ use Rattle.listing.specs.Grow.{Holds}
 use Rattle.listing.specs.declared.Grown.{Grown}
 use Rattle.listing.specs.declared.Grown.the-variants.{Added, Full}
 use Rattle.explore.specs.declared.Explored.the-variants as explored
-use Rattle.explore.specs.Explore.{AddedTo, AllExplored, ExploreReady, LocationExplored, LocsOk, StatementsOk, exploredIn}
+use Rattle.explore.specs.Explore.{AllExplored, ExploreReady, LocationExplored, StatementsOk, exploredIn}
+use Rattle.location_edges.specs.Added.{AddedTo, LocsOk}
 
 -- The listing, of no fewer locations than m, stands in the tables ls and es; exploring it from location i on gives o.
 pub record Left (m n cl ce : ℕ) (sts : List Stmt) (o : Explored) (ls es : List ℕ) (c : Counts) (i : ℕ) : Type 0 where

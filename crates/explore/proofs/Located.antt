@@ -22,8 +22,9 @@ use Rattle.listing.specs.Grow.{Holds}
 use Rattle.listing.specs.declared.Grown.{Grown}
 use Rattle.listing.specs.declared.Grown.the-variants.{Added}
 use Rattle.listing.proofs.Kept.{place-within}
-use Rattle.explore.specs.Explore.{AddedTo, ExploreReady, LocOk, LocsOk, StatementsOk, addedIn}
-use Rattle.explore.specs.LocationEdges.{AtShape, EdgesAdded, ShapeGiven}
+use Rattle.explore.specs.Explore.{ExploreReady, StatementsOk}
+use Rattle.location_edges.specs.Added.{AddedTo, LocOk, LocsOk, addedIn}
+use Rattle.location_edges.specs.LocationEdges.{AtShape, EdgesAdded, ShapeGiven}
 use Rattle.explore.proofs.Targets.{among}
 
 -- a location whose byte 2 is not zero has no edges

@@ -12,7 +12,7 @@ use Rattle.model.proofs.lists.Logic.{and-l, and-r, bool-case, clash}
 use Rattle.model.proofs.records.Ops.{each-op}
 use Rattle.model.proofs.records.Statements.{passed-s, statement-fields}
 use Rattle.explore.specs.Explore.{StatementOk}
-use Rattle.explore.specs.LocationEdges.{Among}
+use Rattle.location_edges.specs.LocationEdges.{Among}
 
 -- a kind with a second branch
 abbrev turns : Kind → Bool

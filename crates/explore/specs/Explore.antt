@@ -4,7 +4,7 @@ use mathlib.Core.Bool.{true}
 use mathlib.Core.Path.{_≡_}
 use mathlib.Core.List.{List}
 use lib.ListN.{length}
-use Rattle.model.specs.Base.{mostEdges, mostLocations, mostStatements}
+use Rattle.model.specs.Base.{mostEdges, mostLocations, mostStatements, recordSize}
 use Rattle.model.specs.Edges.{Edge, Loc, at, edgesOf, failed, stmtAt}
 use Rattle.model.specs.Machine.{Stmt}
 use Rattle.model.specs.Records.{isS, recordAt, refusal, refusalS, stmtOf}
@@ -15,12 +15,13 @@ use Rattle.model.specs.declared.Counts.{Counts}
 use Rattle.listing.specs.Grow.{Holds}
 use Rattle.listing.specs.declared.Grown.{Grown}
 use Rattle.listing.specs.declared.Grown.the-variants as grown
+use Rattle.location_edges.specs.Added.{LocsOk, AddedTo, addedIn}
 use Rattle.explore.specs.declared.Explored as declared
 use Rattle.explore.specs.declared.Explored.the-variants as explored
 
 -- an accepted S record among n statements
 pub record StatementOk (r : List ℕ) (n : ℕ) : Type 0 where
-  pub wide : length r ≡ 32
+  pub wide : length r ≡ recordSize
   pub isStatement : isS r ≡ true
   pub accepted : refusalS n r ≡ 0
   pub few : n ≤ mostStatements
@@ -28,25 +29,11 @@ pub record StatementOk (r : List ℕ) (n : ℕ) : Type 0 where
 -- the first n records of the input are the statements sts
 pub record StatementsOk (s : List ℕ) (n : ℕ) (sts : List Stmt) : Type 0 where
   pub number : length sts ≡ n
-  pub room : 32 * n ≤ length s
+  pub room : recordSize * n ≤ length s
   pub each : (i : ℕ) → i < n → StatementOk (recordAt s i) n
   pub read : (i : ℕ) → i < n → stmtAt sts i ≡ stmtOf (recordAt s i)
 
--- a location that is listed: a shape with six pointers, or a fault, at one of n statements
-abbrev pub LocOk : ℕ → Loc → Type 0
-LocOk n (at s h) = GoodLoc (at s h) × (s < n)
-LocOk n (failed s f) = s < n
-
-abbrev pub LocsOk : ℕ → Listing → Type 0
-LocsOk n t = (l : Loc) → In l (t .locs) → LocOk n l
-
--- the tables hold what an exploration gives; or it found no place, at location i for the first form
-abbrev pub AddedTo : ℕ → ℕ → Explored → List ℕ → List ℕ → Grown → Type 0
-AddedTo n i (listed t) ls es (grown.Added c) = Holds t ls es c × LocsOk n t
-AddedTo n i (listed t) ls es (grown.Full m) = ⊥
-AddedTo n i (full x) ls es (grown.Added c) = ⊥
-AddedTo n i (full x) ls es (grown.Full m) = x ≡ refusal m i
-
+-- the tables hold what an exploration gives; or it found no place
 abbrev pub ExploredTo : ℕ → Explored → List ℕ → List ℕ → declared.Explored → Type 0
 ExploredTo n (listed t) ls es (explored.Listed c) = Holds t ls es c × LocsOk n t
 ExploredTo n (listed t) ls es (explored.Full m p) = ⊥
@@ -61,10 +48,7 @@ pub record ExploreReady (s : List ℕ) (n : ℕ) (ls es : List ℕ) (c : Counts)
   pub held : Holds list ls es c
   pub fine : LocsOk n list
 
--- edges of location i added to the listing t, and t explored, with the places of the tables ls and es
-abbrev pub addedIn : List ℕ → List ℕ → ℕ → List Edge → Listing → Explored
-addedIn ls es i e t = addEdges (places mostLocations (length ls)) (places mostEdges (length es)) i e t
-
+-- the listing t explored, with the places of the tables ls and es
 abbrev pub exploredIn : List ℕ → List ℕ → List Stmt → Listing → Explored
 exploredIn ls es sts t =
     explore sts (places mostLocations (length ls)) (places mostEdges (length es)) (places mostLocations (length ls)) 0 t

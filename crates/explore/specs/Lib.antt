@@ -1,2 +1,1 @@
 pub mod Explore
-pub mod LocationEdges

@@ -12,7 +12,7 @@ use Rattle.model.specs.Shape.{counters, segments, shape, size}
 use Rattle.model.proofs.images.Images.{fold-suc, fold-zero, image-accepted, number-case}
 use Rattle.record.proofs.Bytes.{headed-is}
 use Rattle.record.proofs.ListLaws.{drop-zeros}
-use Rattle.segment.specs.Shape.{IsShape, ShapeReady}
+use Rattle.folding.specs.Shape.{IsShape, ShapeReady}
 use Rattle.image_checks.specs.Checked.{ImageChecked}
 use Rattle.heap_operations.specs.Fold.{foldedHeap}
 

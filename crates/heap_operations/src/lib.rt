@@ -11,7 +11,7 @@ use plain_step::take_step;
 ghost use mathlib.Core.Path.{_≡_};
 ghost use Rattle.model.specs.Answers.{foldingOf, unfoldingOf, steppingOf};
 ghost use Rattle.model.specs.Image.{heapOf, foldImage, unfoldImage, stepImage};
-ghost use Rattle.segment.specs.Shape.{ShapeReady};
+ghost use Rattle.folding.specs.Shape.{ShapeReady};
 ghost use Rattle.heap_operations.specs.Fold.{foldedHeap};
 
 // Folds a heap whose visit order and counts of holders are given. Sizes past the nodes stay zero.
@@ -19,12 +19,12 @@ fn fold_heap(pointers: &[u8], cells: &[u8], order: &[u8], held: &[u8]) -> Folded
     requires { ⌜ ShapeReady (now pointers) (now cells) (now order) (now held) ⌝ }
     ensures { λ r. ⌜ foldingOf r ≡ foldedHeap (heapOf (now (pointers .entry)) (now (cells .entry))) ⌝ }
 {
-    let mut node = [0u8; 240];
-    let mut last = [0u8; 12];
-    let mut size = [0u32; 12];
-    let mut shape = [0u8; 32];
+    let mut node = [0u8; model::MOST_CELLS];
+    let mut last = [0u8; model::MOST_NODES];
+    let mut size = [0u32; model::MOST_NODES];
+    let mut shape = [0u8; model::RECORD];
     let k = segment::cut(order, held, &mut node, &mut last, &mut size);
-    segment::fold_shape(pointers, cells, &last[..k], &node, &mut shape[4..]);
+    folding::fold_shape(pointers, cells, &last[..k], &node, &mut shape[4..]);
     record::write_head(&mut shape, 0x48, Statement(0), k);
     Folded {
         ended: Ended::Accepted,
@@ -37,8 +37,8 @@ fn fold_heap(pointers: &[u8], cells: &[u8], order: &[u8], held: &[u8]) -> Folded
 pub fn fold(pointers: &[u8], cells: &[u8]) -> Folded
     ensures { λ r. ⌜ foldingOf r ≡ foldImage (now (pointers .entry)) (now (cells .entry)) ⌝ }
 {
-    let mut order = [0u8; 240];
-    let mut seen = [0u8; 240];
+    let mut order = [0u8; model::MOST_CELLS];
+    let mut seen = [0u8; model::MOST_CELLS];
     let checked = check_image(pointers, cells, &mut order, &mut seen);
     if checked.refusal != 0 {
         return Folded {
@@ -46,8 +46,8 @@ pub fn fold(pointers: &[u8], cells: &[u8]) -> Folded
                 number: checked.refusal,
                 place: 0,
             },
-            shape: [0u8; 32],
-            counters: [0u32; 12],
+            shape: [0u8; model::RECORD],
+            counters: [0u32; model::MOST_NODES],
         };
     }
     fold_heap(pointers, cells, &order[..checked.visited], &seen)

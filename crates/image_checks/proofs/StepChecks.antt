@@ -16,7 +16,8 @@ use Rattle.model.proofs.lists.Logic.{and-l, and-true}
 use Rattle.model.proofs.records.Checks.{failed-after, failed-before, given-failed, none-failed, pass-after, pass-before, pass-none}
 use Rattle.model.proofs.records.Ops.{each-op}
 use Rattle.model.proofs.records.Statements.{statement-fields}
-use Rattle.visit.proofs.ByteLaws.{slot-at, used-byte}
+use Rattle.closed_image.proofs.ByteLaws.{used-byte}
+use Rattle.visit.proofs.ByteLaws.{slot-at}
 use Rattle.image_checks.specs.Checked.{EntryChecked, ImageChecked}
 
 -- ---- the record

@@ -5,6 +5,7 @@ ghost use mathlib.Core.Bool.{_&&_};
 ghost use mathlib.Core.Path.{_≡_};
 ghost use lib.Dec.{eqb};
 ghost use lib.ListN.{length, replicate};
+ghost use Rattle.model.specs.Base.{recordSize, mostCells};
 ghost use Rattle.model.specs.Image.{lengths, refusalUnfold, checksStatement};
 ghost use Rattle.model.specs.Records.{firstFailed, layoutH, opCount};
 ghost use Rattle.image_checks.specs.Checked.{EntryChecked, ImageChecked};
@@ -13,7 +14,7 @@ ghost use Rattle.image_checks.specs.Checked.{EntryChecked, ImageChecked}
 fn lengths_ok(pointers: &[u8], cells: &[u8]) -> bool
     ensures { λ r. ⌜ r ≡ lengths (now (pointers .entry)) (now (cells .entry)) ⌝ }
 {
-    if pointers.len() != 6 {
+    if pointers.len() != model::POINTERS {
         return false;
     }
     cells.len() <= model::MOST_CELLS
@@ -27,7 +28,7 @@ pub struct Checked {
 
 // Checks an image: its lengths and values, then that every cell in use is visited. Its order and marks are kept.
 pub fn check_image(pointers: &[u8], cells: &[u8], order: &mut [u8], seen: &mut [u8]) -> Checked
-    requires { ⌜ (length (now order) ≡ 240) × (now seen ≡ replicate 240 0) ⌝ }
+    requires { ⌜ (length (now order) ≡ mostCells) × (now seen ≡ replicate mostCells 0) ⌝ }
     ensures { λ r. ⌜ ImageChecked (now (pointers .entry)) (now (cells .entry))
         (now (order .exit)) (now (seen .exit)) (r .refusal) (r .visited) ⌝ }
 {
@@ -37,7 +38,7 @@ pub fn check_image(pointers: &[u8], cells: &[u8], order: &mut [u8], seen: &mut [
             visited: 0,
         };
     }
-    if !visit::is_closed(pointers, cells) {
+    if !closed_image::is_closed(pointers, cells) {
         return Checked {
             refusal: 13,
             visited: 0,
@@ -59,9 +60,9 @@ pub fn check_image(pointers: &[u8], cells: &[u8], order: &mut [u8], seen: &mut [
 
 // Whether rec is a record that keeps the layout of a shape.
 fn is_shape(rec: &[u8]) -> bool
-    ensures { λ r. ⌜ r ≡ eqb (length (now (rec .entry))) 32 && layoutH (now (rec .entry)) ⌝ }
+    ensures { λ r. ⌜ r ≡ eqb (length (now (rec .entry))) recordSize && layoutH (now (rec .entry)) ⌝ }
 {
-    if rec.len() != 32 {
+    if rec.len() != model::RECORD {
         return false;
     }
     layout::layout_ok(rec)
@@ -71,7 +72,7 @@ fn is_shape(rec: &[u8]) -> bool
 pub fn unfold_refusal(rec: &[u8], counters: &[u32], pointers: usize, cells: usize) -> u8
     ensures { λ r. ⌜ r ≡ refusalUnfold (now (rec .entry)) (now (counters .entry)) pointers cells ⌝ }
 {
-    if pointers != 6 {
+    if pointers != model::POINTERS {
         return 13;
     }
     if model::MOST_CELLS < cells {
@@ -96,13 +97,13 @@ pub fn step_refusal(rec: &[u8], pointers: &[u8], cells: &[u8]) -> u8
     ensures { λ r. ⌜ r
         ≡ firstFailed (checksStatement (now (rec .entry)) (now (pointers .entry)) (now (cells .entry))) ⌝ }
 {
-    let mut order = [0u8; 240];
-    let mut seen = [0u8; 240];
+    let mut order = [0u8; model::MOST_CELLS];
+    let mut seen = [0u8; model::MOST_CELLS];
     let checked = check_image(pointers, cells, &mut order, &mut seen);
     if checked.refusal != 0 {
         return checked.refusal;
     }
-    if rec.len() != 32 {
+    if rec.len() != model::RECORD {
         return 4;
     }
     if rec[0] != 0x53 {

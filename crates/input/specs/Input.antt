@@ -4,6 +4,7 @@ use Prim.Native.Nat.{ℕ, _+_, _*_, _≤_}
 use mathlib.Core.Path.{_≡_}
 use mathlib.Core.List.{List, map}
 use lib.ListN.{length, take, drop}
+use Rattle.model.specs.Base.{recordSize, mostStatements, mostShapes}
 use Rattle.model.specs.Records.{refusal, shapeOf, stmtOf}
 use Rattle.model.specs.Translate.{Checked as CheckedInput, bad, good, Routine}
 use Rattle.model.specs.Listings.{recordsOf}
@@ -21,5 +22,6 @@ checkedOf (Bad k p) s = bad (refusal k p)
 -- n statements and m shapes are the whole input, neither too many; a refusal of the input has one of the numbers 1 to
 -- 10
 abbrev pub GoodCounts : Checked → List ℕ → Type 0
-GoodCounts (Good n m) s = (1 ≤ n) × (n ≤ 64) × (1 ≤ m) × (m ≤ 16) × (32 * (n + m) ≡ length s)
+GoodCounts (Good n m) s = (1 ≤ n) × (n ≤ mostStatements) × (1 ≤ m) × (m ≤ mostShapes)
+    × (recordSize * (n + m) ≡ length s)
 GoodCounts (Bad k p) s = (1 ≤ k) × (k ≤ 10)

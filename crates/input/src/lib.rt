@@ -9,7 +9,7 @@ ghost use mathlib.Core.Option.{none};
 ghost use Prim.Native.Nat.{_+_, _*_, _≤_};
 ghost use lib.Dec.{eqb};
 ghost use lib.ListN.{length};
-ghost use Rattle.model.specs.Base.{any, count, sameList};
+ghost use Rattle.model.specs.Base.{any, count, sameList, recordSize};
 ghost use Rattle.model.specs.Records.{isS, refusalH};
 ghost use Rattle.model.specs.Translate.{badKind, between, check, checkCounts, checkKinds, checkRecords};
 ghost use Rattle.model.specs.Listings.{recordsOf};
@@ -33,13 +33,13 @@ fn kind_fits(after: bool, tag: u8) -> bool
 
 // The first record of a wrong kind; the number of records where there is none.
 fn wrong_kind(input: &[u8], records: usize) -> usize
-    requires { ⌜ 32 * records ≡ length (now input) ⌝ }
+    requires { ⌜ recordSize * records ≡ length (now input) ⌝ }
     ensures { λ r. ⌜ kindFound records r ≡ badKind false 0 (recordsOf (now (input .entry))) ⌝ }
 {
     let mut after = false;
     let mut i = 0;
     while i < records {
-        let tag = input[32 * i];
+        let tag = input[model::RECORD * i];
         if !kind_fits(after, tag) {
             return i;
         }
@@ -51,13 +51,13 @@ fn wrong_kind(input: &[u8], records: usize) -> usize
 
 // How many records are statements.
 fn count_statements(input: &[u8], records: usize) -> usize
-    requires { ⌜ 32 * records ≡ length (now input) ⌝ }
+    requires { ⌜ recordSize * records ≡ length (now input) ⌝ }
     ensures { λ r. ⌜ r ≡ count isS (recordsOf (now (input .entry))) ⌝ }
 {
     let mut n: usize = 0;
     let mut i = 0;
     while i < records {
-        if input[32 * i] == 0x53 {
+        if input[model::RECORD * i] == 0x53 {
             n += 1;
         }
         i += 1;
@@ -69,7 +69,7 @@ fn count_statements(input: &[u8], records: usize) -> usize
 
 // Whether a record equals one of the first i records of the input.
 fn repeats(input: &[u8], i: usize, rec: &[u8]) -> bool
-    requires { ⌜ (32 * i ≤ length (now input)) × (length (now rec) ≡ 32) ⌝ }
+    requires { ⌜ (recordSize * i ≤ length (now input)) × (length (now rec) ≡ recordSize) ⌝ }
     ensures { λ r. ⌜ r ≡ any (sameList eqb (now (rec .entry))) (earlier (now (input .entry)) i) ⌝ }
 {
     search::find(input, i, rec) < i
@@ -77,7 +77,7 @@ fn repeats(input: &[u8], i: usize, rec: &[u8]) -> bool
 
 // The refusal of an H record after the first i records of the input, 0 for none.
 fn shape_refusal(input: &[u8], i: usize, rec: &[u8]) -> u8
-    requires { ⌜ (32 * i ≤ length (now input)) × (length (now rec) ≡ 32) ⌝ }
+    requires { ⌜ (recordSize * i ≤ length (now input)) × (length (now rec) ≡ recordSize) ⌝ }
     ensures { λ r. ⌜ r ≡ refusalH (earlier (now (input .entry)) i) (now (rec .entry)) ⌝ }
 {
     if !layout_ok(rec) {
@@ -94,11 +94,11 @@ fn shape_refusal(input: &[u8], i: usize, rec: &[u8]) -> u8
 
 // The refusal of record i where there are so many statements, 0 for none.
 fn record_refusal(input: &[u8], i: usize, statements: usize) -> u8
-    requires { ⌜ 32 * (i + 1) ≤ length (now input) ⌝ }
+    requires { ⌜ recordSize * (i + 1) ≤ length (now input) ⌝ }
     ensures { λ r. ⌜ r ≡ recordRefusal statements (now (input .entry)) i ⌝ }
 {
-    let at = 32 * i;
-    let end = at + 32;
+    let at = model::RECORD * i;
+    let end = at + model::RECORD;
     let rec = &input[at..end];
     if rec[0] == 0x53 {
         return statement_refusal(rec, statements);
@@ -136,7 +136,7 @@ fn within(low: usize, high: usize, n: usize) -> bool
 
 // The numbers of statements and of shapes, then the records.
 fn check_counts(input: &[u8], records: usize) -> Checked
-    requires { ⌜ (32 * records ≡ length (now input)) × (badKind false 0 (recordsOf (now input)) ≡ none) ⌝ }
+    requires { ⌜ (recordSize * records ≡ length (now input)) × (badKind false 0 (recordsOf (now input)) ≡ none) ⌝ }
     ensures outcome { λ r. ⌜ checkedOf r (now (input .entry)) ≡ checkCounts (recordsOf (now (input .entry))) ⌝ }
     ensures counts { λ r. ⌜ GoodCounts r (now (input .entry)) ⌝ }
 {
@@ -159,7 +159,7 @@ fn check_counts(input: &[u8], records: usize) -> Checked
 
 // The kinds of the records, then all else.
 fn check_kinds(input: &[u8], records: usize) -> Checked
-    requires { ⌜ 32 * records ≡ length (now input) ⌝ }
+    requires { ⌜ recordSize * records ≡ length (now input) ⌝ }
     ensures outcome { λ r. ⌜ checkedOf r (now (input .entry)) ≡ checkKinds (recordsOf (now (input .entry))) ⌝ }
     ensures counts { λ r. ⌜ GoodCounts r (now (input .entry)) ⌝ }
 {
@@ -176,11 +176,11 @@ pub fn check(input: &[u8]) -> Checked
     ensures counts { λ r. ⌜ GoodCounts r (now (input .entry)) ⌝ }
 {
     let length = input.len();
-    if (length == 0) | (length % 32 != 0) {
+    if (length == 0) | (length % model::RECORD != 0) {
         return Checked::Bad {
             number: 1,
             place: 0,
         };
     }
-    check_kinds(input, length / 32)
+    check_kinds(input, length / model::RECORD)
 }

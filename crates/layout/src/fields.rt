@@ -1,7 +1,7 @@
 // Tests of bytes and of single fields of S and H records. They are joined by & and |, so that there are no branches.
 ghost use mathlib.Core.Path.{_≡_};
 ghost use lib.ListN.{length};
-ghost use Rattle.model.specs.Base.{all};
+ghost use Rattle.model.specs.Base.{all, recordSize};
 ghost use Rattle.model.specs.Records.{isZero, usesU, usesW, usesFirst, usesSecond, valueByte};
 ghost use Rattle.model.specs.Records.{pointerField, targetBelow, fieldsS, targetsS};
 ghost use Rattle.layout.specs.Checked.{headH};
@@ -71,12 +71,16 @@ pub fn uses_second(op: u8) -> bool
 pub fn pointer_field(used: bool, b: u8) -> bool
     ensures { λ r. ⌜ r ≡ pointerField used b ⌝ }
 {
-    if used { b < 6 } else { b == 0 }
+    if used {
+        (b as usize) < model::POINTERS
+    } else {
+        b == 0
+    }
 }
 
 // Each field as its op uses it: both pointers, both targets, and zeros after them.
 pub fn fields_ok(rec: &[u8]) -> bool
-    requires { ⌜ length (now rec) ≡ 32 ⌝ }
+    requires { ⌜ length (now rec) ≡ recordSize ⌝ }
     ensures { λ r. ⌜ r ≡ fieldsS (now (rec .entry)) ⌝ }
 {
     let op = rec[1];
@@ -96,7 +100,7 @@ pub fn target_below(n: usize, used: bool, b: u8) -> bool
 
 // Each used target is one of n statements.
 pub fn targets_ok(n: usize, rec: &[u8]) -> bool
-    requires { ⌜ length (now rec) ≡ 32 ⌝ }
+    requires { ⌜ length (now rec) ≡ recordSize ⌝ }
     ensures { λ r. ⌜ r ≡ targetsS n (now (rec .entry)) ⌝ }
 {
     let op = rec[1];
@@ -109,5 +113,5 @@ pub fn targets_ok(n: usize, rec: &[u8]) -> bool
 pub fn head_ok(tag: u8, statement: u8, fault: u8, k: u8) -> bool
     ensures { λ r. ⌜ r ≡ headH tag statement fault k ⌝ }
 {
-    (tag == 0x48) & (statement == 0) & (fault == 0) & (k <= 12)
+    (tag == 0x48) & (statement == 0) & (fault == 0) & ((k as usize) <= model::MOST_NODES)
 }

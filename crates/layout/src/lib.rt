@@ -9,12 +9,13 @@ use fields::targets_ok;
 ghost use mathlib.Core.Path.{_≡_};
 ghost use mathlib.Core.Bool.{true};
 ghost use lib.ListN.{length};
+ghost use Rattle.model.specs.Base.{recordSize};
 ghost use Rattle.model.specs.Records.{refusalS, layoutH, shapeOf};
 ghost use Rattle.model.specs.Shape.{canonical};
 
 // The refusal of an S record among n statements, 0 for none.
 pub fn statement_refusal(rec: &[u8], n: usize) -> u8
-    requires { ⌜ length (now rec) ≡ 32 ⌝ }
+    requires { ⌜ length (now rec) ≡ recordSize ⌝ }
     ensures { λ r. ⌜ r ≡ refusalS n (now (rec .entry)) ⌝ }
 {
     if model::OPS <= rec[1] {
@@ -31,7 +32,7 @@ pub fn statement_refusal(rec: &[u8], n: usize) -> u8
 
 // Whether an H record keeps the layout.
 pub fn layout_ok(rec: &[u8]) -> bool
-    requires { ⌜ length (now rec) ≡ 32 ⌝ }
+    requires { ⌜ length (now rec) ≡ recordSize ⌝ }
     ensures { λ r. ⌜ r ≡ layoutH (now (rec .entry)) ⌝ }
 {
     let k = rec[3];
@@ -44,9 +45,9 @@ pub fn layout_ok(rec: &[u8]) -> bool
 
 // Whether the shape of an H record, which keeps the layout, is canonical.
 pub fn canonical_shape(rec: &[u8]) -> bool
-    requires { ⌜ (length (now rec) ≡ 32) × (layoutH (now rec) ≡ true) ⌝ }
+    requires { ⌜ (length (now rec) ≡ recordSize) × (layoutH (now rec) ≡ true) ⌝ }
     ensures { λ r. ⌜ r ≡ canonical (shapeOf (now (rec .entry))) ⌝ }
 {
     let end = 10 + rec[3] as usize;
-    visit::is_canonical(&rec[4..10], &rec[10..end])
+    canonical::is_canonical(&rec[4..10], &rec[10..end])
 }

@@ -24,7 +24,8 @@ use Rattle.model.specs.Structs.{IsEdge}
 use Rattle.model.specs.declared.Counts.{Counts}
 use Rattle.model.specs.declared.EdgeFields.{EdgeFields}
 use Rattle.model.specs.declared.EdgeMade.{EdgeMade}
-use Rattle.listing.specs.Target.{countKept, fieldsTo, targetKept}
+use Rattle.location_table.specs.Target.{countKept, targetKept}
+use Rattle.listing.specs.Fields.{fieldsTo}
 use Rattle.listing.proofs.Kept.{Kept, kept-next}
 
 -- the location table, and the edge table

@@ -5,7 +5,7 @@ use mathlib.Core.Bool.{true, false}
 use mathlib.Core.List.{List, map}
 use lib.Dec.{ltb}
 use lib.ListN.{length}
-use Rattle.model.specs.Base.{mostEdges, mostLocations, placeOf}
+use Rattle.model.specs.Base.{mostEdges, mostLocations, placeOf, mostNodes, recordSize}
 use Rattle.model.specs.Edges.{Loc, Edge, sameLoc}
 use Rattle.model.specs.Records.{locRecord}
 use Rattle.model.specs.Structs.{IsEdge}
@@ -26,7 +26,7 @@ pub record Holds (t : Listing) (ls es : List ℕ) (c : Counts) : Type 0 where
   pub locsFit : length (t .locs) ≤ places mostLocations (length ls)
   pub edgesFit : length (t .links) ≤ places mostEdges (length es)
   pub goodLocs : (l : Loc) → In l (t .locs) → WritableLoc l
-  pub goodLinks : (k : Link) → In k (t .links) → length (k .edge .updates) ≤ 12
+  pub goodLinks : (k : Link) → In k (t .links) → length (k .edge .updates) ≤ mostNodes
 
 -- some listing is held, and an edge of location i is given as bytes: its target's record r, its updates us, and m
 pub record GrowReady (ls es : List ℕ) (c : Counts) (i : ℕ) (m : EdgeMade) (r us : List ℕ) : Type 0 where
@@ -36,7 +36,7 @@ pub record GrowReady (ls es : List ℕ) (c : Counts) (i : ℕ) (m : EdgeMade) (r
   pub good : WritableLoc (edge .to)
   pub bytes : IsEdge edge r us m
   pub low : i < 65536
-  pub wide : length r ≡ 32
+  pub wide : length r ≡ recordSize
   pub room : m .nodes ≤ length us
 
 -- what comes of adding the edge e of location i to the listing t: one edge more, 11, or 12, in that order of tests

@@ -1,2 +1,2 @@
 pub mod Grow
-pub mod Target
+pub mod Fields

@@ -7,6 +7,7 @@ ghost use Prim.Native.Nat.{_+_, _≤_, _<_};
 ghost use mathlib.Core.Bool.{true};
 ghost use mathlib.Core.Path.{_≡_};
 ghost use lib.ListN.{length};
+ghost use Rattle.model.specs.Base.{mostNodes, recordSize, pointerCount};
 ghost use Rattle.model.specs.Records.{byte};
 ghost use Rattle.loss.specs.Loss.{AloneHolds, Leaks, LossReady, Overwrites, StandsOnce, cutsAt};
 
@@ -20,7 +21,7 @@ fn cuts_next(op: u8) -> bool
 // Whether the byte at pointer u's place stands at no other place of the six pointers and the nodes' successors.
 // All places are looked at: a count has no branch to guess.
 fn stands_once(location: &[u8], u: Pointer) -> bool
-    requires { ⌜ (length (now location) ≡ 32) × (u .0 < 6) × (byte (now location) 3 ≤ 12) ⌝ }
+    requires { ⌜ (length (now location) ≡ recordSize) × (u .0 < pointerCount) × (byte (now location) 3 ≤ mostNodes) ⌝ }
     ensures { λ r. ⌜ (r ≡ true → StandsOnce (now (location .entry)) (u .0 + 4)) ⌝ }
 {
     let at = u.0 as usize + 4;
@@ -40,7 +41,7 @@ fn stands_once(location: &[u8], u: Pointer) -> bool
 // Whether the op puts another value into pointer u: not so where it copies u to itself, or reads through a pointer
 // that holds no node.
 fn overwrites(location: &[u8], op: u8, u: Pointer, w: Pointer) -> bool
-    requires { ⌜ (length (now location) ≡ 32) × (w .0 < 6) ⌝ }
+    requires { ⌜ (length (now location) ≡ recordSize) × (w .0 < pointerCount) ⌝ }
     ensures { λ r. ⌜ (r ≡ true → Overwrites (now (location .entry)) op (u .0) (w .0)) ⌝ }
 {
     if op == 2 {
@@ -55,7 +56,7 @@ fn overwrites(location: &[u8], op: u8, u: Pointer, w: Pointer) -> bool
 
 // Whether pointer u alone holds a node.
 fn alone_holds(location: &[u8], u: Pointer) -> bool
-    requires { ⌜ (length (now location) ≡ 32) × (u .0 < 6) × (byte (now location) 3 ≤ 12) ⌝ }
+    requires { ⌜ (length (now location) ≡ recordSize) × (u .0 < pointerCount) × (byte (now location) 3 ≤ mostNodes) ⌝ }
     ensures { λ r. ⌜ (r ≡ true → AloneHolds (now (location .entry)) (u .0)) ⌝ }
 {
     let at = u.0 as usize + 4;

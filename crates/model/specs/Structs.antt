@@ -3,6 +3,7 @@ use Prim.Native.Nat.{ℕ, zero, suc, _≤_}
 use mathlib.Core.List.{List, [], _∷_, map}
 use mathlib.Core.Path.{_≡_}
 use lib.ListN.{length, take}
+use Rattle.model.specs.Base.{mostNodes}
 use Rattle.model.specs.Edges.{Edge, Guard, isMore, isOne}
 use Rattle.model.specs.Machine.{Op, Stmt}
 use Rattle.model.specs.Records.{byte, guardBytes, locRecord, opOf, updateCode}
@@ -54,5 +55,5 @@ pub record IsEdge (E : Edge) (t us : List ℕ) (r : EdgeMade) : Type 0 where
   pub guards : guardBytes (E .guards) ≡ guardsBytes (r .guards)
   pub target : t ≡ locRecord (E .to)
   pub number : r .nodes ≡ length (E .updates)
-  pub few : r .nodes ≤ 12
+  pub few : r .nodes ≤ mostNodes
   pub updates : take (r .nodes) us ≡ map updateCode (E .updates)

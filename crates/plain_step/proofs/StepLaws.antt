@@ -1,16 +1,15 @@
--- The plain step by its parts: the run, and the answer of each case.
+-- The plain step: the image kept aside, and the answer of each case.
 use Prim.Native.Nat.{ℕ, zero, suc, _<_, _≤_}
 use native.Mathlib.Omega.{arith}
 use mathlib.Core.Path.{_≡_, refl, sym, ap, ap₂, subst, _∙_}
 use mathlib.Core.Bool.{Bool, true, false, cond, not}
 use mathlib.Core.List.{List, [], _∷_, _++_}
 use mathlib.Core.Logic.{inl}
-use lib.Dec.{eqb}
-use lib.ListN.{drop, length, replicate, take, getD-replicate, length-map}
+use lib.ListN.{drop, length, take, length-map}
 use lib.Seq.{take-at, take-length}
-use borrow.Author.Tests.{ne-eqb, not-true, eq-eqb}
+use borrow.Author.Tests.{not-true, eq-eqb}
 use Rattle.model.specs.Heap.{Heap}
-use Rattle.model.specs.Machine.{Answer, done, Stmt, accepts, answerOf, branch, kind, carryOut, target, step, entry, isStop, action, stopped}
+use Rattle.model.specs.Machine.{Answer, Stmt, accepts, answerOf, branch, kind, carryOut, target, step, entry, isStop, action, stopped}
 use Rattle.model.specs.Records.{stmtOf, Row, firstFailed, refusal, unless, opCount}
 use Rattle.model.specs.Image.{Stepping, answered, cellSlot, heapOf, pastEnd, stays, stepImage, checksStatement, checksStep, entryFits, noStep, toFault, toNext, toStop}
 use Rattle.model.specs.declared.Decoded.{Decoded}
@@ -20,15 +19,13 @@ use Rattle.model.proofs.records.Checks.{failed-after, failed-before, given-fail
 use Rattle.model.proofs.records.Ops.{op-goes, op-stops}
 use Rattle.effect.specs.Effect.{effectOf}
 use Rattle.effect.proofs.Laws.{image-bytes}
-use Rattle.machine.specs.Run.{IsRun, RunReady, bytes}
 use Rattle.image_checks.specs.Checked.{EntryChecked}
 use Rattle.image_checks.proofs.StepChecks.{checked-fields, checked-image}
-use Rattle.plain_step.specs.Step.{Finished, RunOn, StepReady}
+use Rattle.image_run.specs.Run.{Finished, StepReady}
 use Rattle.model.specs.Structs.{decoded, opIn, stmtIn}
-use Rattle.machine.specs.declared.Ran.{Ran}
 use Rattle.model.proofs.ways.Picks.{room-accept}
 
--- ---- the run
+-- ---- the image kept aside
 
 -- a list kept aside at the front of another
 pub kept-front : (xs zs : List ℕ) {m : List ℕ} → m ≡ take (length xs) xs ++ drop (length xs) zs
@@ -36,42 +33,6 @@ pub kept-front : (xs zs : List ℕ) {m : List ℕ} → m ≡ take (length xs) xs
 kept-front xs zs e =
     let t = take-length xs in
     ap (take (length xs)) e ∙ take-at (take (length xs) xs) (drop (length xs) zs) (length xs) (ap length t) ∙ t
-
--- a fault says nothing of the heap
-fault-any : (f : ℕ) (g h : Heap) → effectOf (suc f) g ≡ effectOf (suc f) h
-fault-any zero g h = refl
-fault-any (suc zero) g h = refl
-fault-any (suc (suc f)) g h = refl
-
-module _ {d : Decoded} {x : ℕ} {ps cs : List ℕ} where
-  -- the room for the visit, which begins with zeros
-  pub run-ready : StepReady d x ps cs
-      → RunReady d x (bytes ps cs) (replicate 240 0) (replicate 240 0)
-  run-ready s =
-      let f = s .ready .few in
-      record {
-        ready = s .ready;
-        fresh = s .fresh;
-        room = omega arith;
-        marks = omega arith;
-        clear = λ c l. getD-replicate 240 c 0 0 (omega arith);
-      }
-
-  pub ran-on : {qs ds o s : List ℕ} {r : Ran} → IsRun d x (bytes ps cs) (bytes qs ds) o s r
-      → RunOn d x ps cs (r .fault) qs ds
-  ran-on r = record { outcome = r .outcome; low = r .known }
-
-  -- the image vs, ws, kept aside, is put back at a fault
-  pub put-back : {vs ws : List ℕ} → (vs ≡ ps) × (ws ≡ cs) → {qs ds : List ℕ} (f : ℕ) → RunOn d x ps cs f qs ds
-      → {ps′ cs′ : List ℕ} → (ps′ ≡ cond (eqb f 0) qs vs) × (cs′ ≡ cond (eqb f 0) ds ws) → Finished d x ps cs f ps′ cs′
-  put-back e zero r (p, q) = record {
-    ran = record { outcome = ap₂ (λ y z. done (heapOf y z)) p q ∙ r .outcome; low = r .low };
-    stays = λ n. absurd (n refl);
-  }
-  put-back e {qs} {ds} (suc f) r {ps′} {cs′} (p, q) = record {
-    ran = record { outcome = fault-any f (heapOf ps′ cs′) (heapOf qs ds) ∙ r .outcome; low = r .low };
-    stays = λ n. (p ∙ rw (ne-eqb (suc f) 0 n) (e .0), q ∙ rw (ne-eqb (suc f) 0 n) (e .1));
-  }
 
 -- ---- the answer
 

@@ -3,7 +3,7 @@
 use Prim.Native.Nat.{ℕ, _+_, _*_, _<_, _≤_}
 use mathlib.Core.List.{List, [], _∷_, _++_, map}
 use lib.ListN.{length, take, drop, replicate}
-use Rattle.model.specs.Base.{joined}
+use Rattle.model.specs.Base.{joined, mostNodes, recordSize}
 use Rattle.model.specs.Records.{filled, twoBytes}
 use Rattle.model.specs.Structs.{guardsBytes}
 use Rattle.model.specs.declared.EdgeFields.{EdgeFields}
@@ -27,8 +27,8 @@ edgeBytes e us =
 
 -- the fields fit an E record, and there is an update for each new node
 abbrev pub EdgeFits : EdgeFields → List ℕ → Type 0
-EdgeFits e us = (e .from < 65536) × (e .to < 65536) × (e .nodes ≤ 12) × (e .nodes ≤ length us)
+EdgeFits e us = (e .from < 65536) × (e .to < 65536) × (e .nodes ≤ mostNodes) × (e .nodes ≤ length us)
 
 -- the table t with the record r at place n
 abbrev pub placed : List ℕ → ℕ → List ℕ → List ℕ
-placed t n r = take (32 * n) t ++ (r ++ drop (32 * n + 32) t)
+placed t n r = take (recordSize * n) t ++ (r ++ drop (recordSize * n + recordSize) t)

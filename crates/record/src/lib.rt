@@ -5,19 +5,20 @@ ghost use mathlib.Core.Path.{_≡_};
 ghost use mathlib.Core.List.{_∷_, _++_};
 ghost use Prim.Native.Nat.{_+_, _*_, _≤_};
 ghost use lib.ListN.{length, take, drop, replicate};
+ghost use Rattle.model.specs.Base.{mostNodes, recordSize};
 ghost use Rattle.record.specs.Written.{faultBytes, locationBytes, edgeBytes, updateBytes, placed, EdgeFits};
 
 // Makes the first 32 bytes zero.
 pub fn blank(part: &mut [u8])
-    requires { ⌜ 32 ≤ length (now part) ⌝ }
-    ensures { λ _. ⌜ now (part .exit) ≡ replicate 32 0 ++ drop 32 (now (part .entry)) ⌝ }
+    requires { ⌜ recordSize ≤ length (now part) ⌝ }
+    ensures { λ _. ⌜ now (part .exit) ≡ replicate recordSize 0 ++ drop recordSize (now (part .entry)) ⌝ }
 {
-    fill::fill(&mut part[..32], 0);
+    fill::fill(&mut part[..model::RECORD], 0);
 }
 
 // The first four bytes of an L or H record without fault: its tag, the statement, no fault, the number of nodes.
 pub fn write_head(part: &mut [u8], tag: u8, statement: Statement, k: usize)
-    requires { ⌜ (4 ≤ length (now part)) × (k ≤ 12) ⌝ }
+    requires { ⌜ (4 ≤ length (now part)) × (k ≤ mostNodes) ⌝ }
     ensures { λ _. ⌜ now (part .exit) ≡ tag ∷ statement .0 ∷ 0 ∷ k ∷ drop 4 (now (part .entry)) ⌝ }
 {
     part[0] = tag;
@@ -28,8 +29,8 @@ pub fn write_head(part: &mut [u8], tag: u8, statement: Statement, k: usize)
 
 // An L record with a fault: the statement that faulted.
 pub fn write_fault(part: &mut [u8], statement: Statement, fault: u8)
-    requires { ⌜ 32 ≤ length (now part) ⌝ }
-    ensures { λ _. ⌜ now (part .exit) ≡ faultBytes (statement .0) fault ++ drop 32 (now (part .entry)) ⌝ }
+    requires { ⌜ recordSize ≤ length (now part) ⌝ }
+    ensures { λ _. ⌜ now (part .exit) ≡ faultBytes (statement .0) fault ++ drop recordSize (now (part .entry)) ⌝ }
 {
     blank(part);
     part[0] = 0x4c;
@@ -40,9 +41,9 @@ pub fn write_fault(part: &mut [u8], statement: Statement, fault: u8)
 // An L record with the shape that the record rec has: the part is that of the location table from 32 times its number
 // on.
 pub fn write_location(part: &mut [u8], statement: Statement, fault: u8, rec: &[u8])
-    requires { ⌜ (32 ≤ length (now part)) × (length (now rec) ≡ 32) ⌝ }
+    requires { ⌜ (recordSize ≤ length (now part)) × (length (now rec) ≡ recordSize) ⌝ }
     ensures { λ _. ⌜ now (part .exit) ≡ locationBytes (statement .0) fault (now (rec .entry))
-        ++ drop 32 (now (part .entry)) ⌝ }
+        ++ drop recordSize (now (part .entry)) ⌝ }
 {
     bytes::copy(rec, part);
     part[0] = 0x4c;
@@ -67,8 +68,9 @@ fn write_updates(part: &mut [u8], updates: &[u16], k: usize)
 
 // An E record: its fields, and an update for each new node.
 pub fn write_edge(part: &mut [u8], fields: EdgeFields, updates: &[u16])
-    requires { ⌜ (32 ≤ length (now part)) × EdgeFits fields (now updates) ⌝ }
-    ensures { λ _. ⌜ now (part .exit) ≡ edgeBytes fields (now (updates .entry)) ++ drop 32 (now (part .entry)) ⌝ }
+    requires { ⌜ (recordSize ≤ length (now part)) × EdgeFits fields (now updates) ⌝ }
+    ensures { λ _. ⌜ now (part .exit) ≡ edgeBytes fields (now (updates .entry))
+        ++ drop recordSize (now (part .entry)) ⌝ }
 {
     blank(part);
     part[0] = 0x45;
@@ -84,16 +86,9 @@ pub fn write_edge(part: &mut [u8], fields: EdgeFields, updates: &[u16])
 
 // An E record in its place: the part of the table from 32 times the record number on is lent to the writer.
 pub fn put_edge(table: &mut [u8], n: usize, fields: EdgeFields, updates: &[u16])
-    requires { ⌜ (32 * n + 32 ≤ length (now table)) × EdgeFits fields (now updates) ⌝ }
+    requires { ⌜ (recordSize * n + recordSize ≤ length (now table)) × EdgeFits fields (now updates) ⌝ }
     ensures { λ _. ⌜ now (table .exit) ≡ placed (now (table .entry)) n (edgeBytes fields (now (updates .entry))) ⌝ }
 {
-    let at = 32 * n;
+    let at = model::RECORD * n;
     write_edge(&mut table[at..], fields, updates);
-}
-
-// Clears a table.
-pub fn clear(table: &mut [u8])
-    ensures { λ _. ⌜ now (table .exit) ≡ replicate (length (now (table .entry))) 0 ⌝ }
-{
-    fill::fill(table, 0);
 }

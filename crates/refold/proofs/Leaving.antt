@@ -17,10 +17,10 @@ use Rattle.model.proofs.expansion.Start.{where-is}
 use Rattle.model.proofs.shapes.Segments.{each-cell-once}
 use Rattle.model.proofs.visits.Order.{Toured, toured, used-below}
 use Rattle.record.proofs.Bytes.{headed-is}
-use Rattle.segment.specs.Shape.{IsShape}
-use Rattle.update.proofs.Updates.{Segmented, update-codes}
-use Rattle.update.specs.Codes.{CellsReady, codeAt}
-use Rattle.update.specs.declared.Weights.{Weights}
+use Rattle.folding.specs.Shape.{IsShape}
+use Rattle.cell_sum.proofs.Updates.{Segmented, update-codes}
+use Rattle.cell_sum.specs.Codes.{CellsReady, codeAt}
+use Rattle.cell_sum.specs.declared.Weights.{Weights}
 use Rattle.refold.specs.Refold.{IsLeft, LeaveReady}
 
 module _ {ps cs visit held : List ℕ} {w : Weights} {t us : List ℕ} (L : LeaveReady ps cs visit held w t us) where

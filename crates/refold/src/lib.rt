@@ -1,5 +1,5 @@
 // What a run leaves, folded by the marks of the run.
-use update::Weights;
+use cell_sum::Weights;
 ghost use Rattle.refold.specs.Refold.{IsLeft, LeaveReady};
 
 // Folds what a run left, by its visit order and marks: the target's record but for its head, and an update for each
@@ -22,8 +22,8 @@ pub fn leave(
     let mut size = [0u32; 16];
     record::blank(target);
     let m = segment::cut(order, held, &mut node, &mut last, &mut size);
-    segment::fold_shape(pointers, cells, &last[..m], &node, &mut target[4..]);
+    folding::fold_shape(pointers, cells, &last[..m], &node, &mut target[4..]);
     // the updates come last: what was written byte by byte is read in words soon after
-    update::sum_cells(order, &node, weights, updates);
+    cell_sum::sum_cells(order, &node, weights, updates);
     m
 }

@@ -3,7 +3,7 @@ ghost use mathlib.Core.Path.{_≡_};
 ghost use Prim.Native.Nat.{_+_, _*_, _≤_};
 ghost use lib.Dec.{eqb};
 ghost use lib.ListN.{length, take, drop};
-ghost use Rattle.model.specs.Base.{sameList};
+ghost use Rattle.model.specs.Base.{sameList, recordSize};
 ghost use Rattle.model.specs.Records.{word};
 ghost use Rattle.search.specs.Search.{foundAt, fourAt, eightAt, keyAt};
 
@@ -51,8 +51,8 @@ fn same_eight(table: &[u8], at: usize, rec: &[u8], from: usize) -> bool
 
 // Whether the 32 bytes at `at` are those of rec.
 fn same_at(table: &[u8], at: usize, rec: &[u8]) -> bool
-    requires { ⌜ (at + 32 ≤ length (now table)) × (length (now rec) ≡ 32) ⌝ }
-    ensures { λ r. ⌜ r ≡ sameList eqb (take 32 (drop at (now (table .entry)))) (now (rec .entry)) ⌝ }
+    requires { ⌜ (at + recordSize ≤ length (now table)) × (length (now rec) ≡ recordSize) ⌝ }
+    ensures { λ r. ⌜ r ≡ sameList eqb (take recordSize (drop at (now (table .entry)))) (now (rec .entry)) ⌝ }
 {
     (same_eight(table, at, rec, 0) & same_eight(table, at + 8, rec, 8))
         & (same_eight(table, at + 16, rec, 16) & same_eight(table, at + 24, rec, 24))
@@ -60,8 +60,8 @@ fn same_at(table: &[u8], at: usize, rec: &[u8]) -> bool
 
 // The same, with the keys compared first.
 fn same_by_key(table: &[u8], at: usize, rec: &[u8], k: u64) -> bool
-    requires { ⌜ (at + 32 ≤ length (now table)) × (length (now rec) ≡ 32) × (k ≡ keyAt (now rec) 0) ⌝ }
-    ensures { λ r. ⌜ r ≡ sameList eqb (take 32 (drop at (now (table .entry)))) (now (rec .entry)) ⌝ }
+    requires { ⌜ (at + recordSize ≤ length (now table)) × (length (now rec) ≡ recordSize) × (k ≡ keyAt (now rec) 0) ⌝ }
+    ensures { λ r. ⌜ r ≡ sameList eqb (take recordSize (drop at (now (table .entry)))) (now (rec .entry)) ⌝ }
 {
     if key(table, at) != k {
         return false;
@@ -71,13 +71,13 @@ fn same_by_key(table: &[u8], at: usize, rec: &[u8], k: u64) -> bool
 
 // The first of the table's `count` records that equals rec, or `count`.
 pub fn find(table: &[u8], count: usize, rec: &[u8]) -> usize
-    requires { ⌜ (32 * count ≤ length (now table)) × (length (now rec) ≡ 32) ⌝ }
+    requires { ⌜ (recordSize * count ≤ length (now table)) × (length (now rec) ≡ recordSize) ⌝ }
     ensures { λ r. ⌜ r ≡ foundAt (now (table .entry)) (now (rec .entry)) count ⌝ }
 {
     let k = key(rec, 0);
     let mut i = 0;
     while i < count {
-        if same_by_key(table, 32 * i, rec, k) {
+        if same_by_key(table, model::RECORD * i, rec, k) {
             return i;
         }
         i += 1;

@@ -5,7 +5,7 @@ use mathlib.Core.Bool.{Bool, true, false, cond}
 use mathlib.Core.List.{List, map}
 use lib.Dec.{leb}
 use lib.ListN.{length, getD, take, set}
-use Rattle.model.specs.Base.{mem}
+use Rattle.model.specs.Base.{mem, mostCells}
 use Rattle.model.specs.Shape.{Seg, cells, cut, last, size}
 use Rattle.model.specs.Notions.{NoDup, segAt}
 
@@ -28,13 +28,13 @@ cutTables node last size = record { node = node; last = last; size = size }
 
 -- what the cut asks of the order, the holders and the tables
 pub record CutReady (order held : List ℕ) (t : CutTables) : Type 0 where
-  pub short : length order ≤ 240
+  pub short : length order ≤ mostCells
   pub low : (i : ℕ) → i < length order → (getD order i 0 < length held) × (getD order i 0 < length (t .node))
   pub once : NoDup order
   pub begins : 0 < length order → heldCore held (getD order 0 0) ≡ true
   pub lasts : length (segs held order) ≤ length (t .last)
   pub sizes : length (segs held order) ≤ length (t .size)
-  pub few : length (segs held order) ≤ 240
+  pub few : length (segs held order) ≤ mostCells
 
 -- the tables say what the k segments ss are
 pub record IsCut (ss : List Seg) (t : CutTables) (k : ℕ) : Type 0 where
@@ -65,7 +65,7 @@ pub record Put (b : Bool) (c k : ℕ) (t t′ : CutTables) (r : ℕ) : Type 0 wh
 -- what a turn asks: the cell is within the tables, and its segment too; the size of the last segment can grow
 pub record PutReady (c k : ℕ) (held : List ℕ) (t : CutTables) : Type 0 where
   pub low : (c < length held) × (c < length (t .node))
-  pub few : k ≤ 240
+  pub few : k ≤ mostCells
   pub fresh : heldCore held c ≡ true → (k < length (t .last)) × (k < length (t .size))
   pub more : heldCore held c ≡ false
-      → (0 < k) × (k ≤ length (t .last)) × (k ≤ length (t .size)) × (getD (t .size) (k - 1) 0 < 240)
+      → (0 < k) × (k ≤ length (t .last)) × (k ≤ length (t .size)) × (getD (t .size) (k - 1) 0 < mostCells)

@@ -4,12 +4,13 @@ use model::Pointer;
 use model::Statement;
 ghost use mathlib.Core.Path.{_≡_};
 ghost use lib.ListN.{length};
+ghost use Rattle.model.specs.Base.{recordSize};
 ghost use Rattle.model.specs.Machine.{target};
 ghost use Rattle.model.specs.Structs.{decoded, stmtIn};
 
 // The fields of an S record.
 pub fn decode(rec: &[u8]) -> Decoded
-    requires { ⌜ length (now rec) ≡ 32 ⌝ }
+    requires { ⌜ length (now rec) ≡ recordSize ⌝ }
     ensures { λ r. ⌜ r ≡ decoded (now (rec .entry)) ⌝ }
 {
     Decoded {

@@ -1,36 +1,14 @@
 -- The text of an outcome, as the request's P1 fixes it: "prints each L, then each E, as 64 hex digits a line, or
 -- `refused`, number and place in base 10 with one space between". Assumes nothing.
-use Prim.Native.Nat.{ℕ, zero, suc, _+_, _*_, _/_, _%_, _≤_}
+use Prim.Native.Nat.{ℕ, zero, suc, _+_, _/_, _%_}
 use mathlib.Core.Bool.{true, false}
-use mathlib.Core.List.{List, [], _∷_, _++_, map}
+use mathlib.Core.List.{List, [], _∷_, _++_}
 use lib.Dec.{ltb}
-use lib.ListN.{length}
-use Rattle.model.specs.Base.{joined}
 use Rattle.model.specs.Records.{Refusal, isAccepted, isRefused}
 use Rattle.model.specs.Answers.{outcomeOf}
-use Rattle.model.specs.Translate.{Outcome, chunks}
+use Rattle.model.specs.Translate.{Outcome}
 use Rattle.model.specs.declared.Translated.{Translated}
-
--- ---- records
-
--- a digit below 16: 0 to 9, then a to f
-abbrev pub digitOf : ℕ → ℕ
-digitOf n = elim (ltb n 10) [
-  | true ↦ 48 + n
-  | false ↦ 87 + n
-]
-
--- a byte: two digits, the high one first
-abbrev pub byteOf : ℕ → List ℕ
-byteOf b = digitOf (b / 16) ∷ digitOf (b % 16) ∷ []
-
--- a record as a line: the digits of each byte, and a line's end
-abbrev pub lineOf : List ℕ → List ℕ
-lineOf r = joined (map byteOf r) ++ 10 ∷ []
-
--- the first n records of a table, a line each
-abbrev pub linesOf : ℕ → List ℕ → List ℕ
-linesOf n t = joined (map lineOf (chunks n t))
+use Rattle.hex_lines.specs.Lines.{linesOf, Stand}
 
 -- ---- a refusal
 
@@ -64,9 +42,6 @@ textOf o =
       | isRefused x ↦ refusalLine x
     ]
 
--- the records that are counted stand in the tables, and the text has room for them
-abbrev pub Stand : ℕ → List ℕ → ℕ → List ℕ → Type 0
-Stand i ls j es = (i ≤ 1024) × (j ≤ 2048) × (32 * i ≤ length ls) × (32 * j ≤ length es)
-
+-- the records that an outcome counts stand in the tables, and the text has room for them
 abbrev pub Stands : Translated → List ℕ → List ℕ → Type 0
 Stands o ls es = Stand (outcomeOf o ls es .tables .locCount) ls (outcomeOf o ls es .tables .edgeCount) es

@@ -6,7 +6,7 @@ ghost use mathlib.Core.List.{_++_, map};
 ghost use Prim.Native.Nat.{_+_, _<_, _≤_};
 ghost use lib.Dec.{leb};
 ghost use lib.ListN.{length, getD, take};
-ghost use Rattle.model.specs.Base.{all, sum};
+ghost use Rattle.model.specs.Base.{all, sum, mostCells};
 ghost use Rattle.model.specs.Image.{unfoldHeap, cellBytesOf};
 ghost use Rattle.model.specs.Records.{byte, shapeOf, valByte};
 ghost use Rattle.unfolding.specs.Bytes.{FirstCells, imageBytes, placedByte, strandBytes, strandsBytes};
@@ -14,7 +14,7 @@ ghost use Rattle.unfolding.specs.Ready.{UnfoldReady};
 
 // Enters the first cell of each node into the table.
 fn first_cells(counters: &[u32], firsts: &mut [u8])
-    requires { ⌜ (length (now firsts) ≡ length (now counters)) × (sum (λ v. v) (now counters) ≤ 240) ⌝ }
+    requires { ⌜ (length (now firsts) ≡ length (now counters)) × (sum (λ v. v) (now counters) ≤ mostCells) ⌝ }
     ensures { λ _. ⌜ FirstCells (now (counters .entry)) (now (firsts .exit)) ⌝ }
 {
     let mut at: u32 = 0;
@@ -60,7 +60,7 @@ fn place_pointers(firsts: &[u8], values: &[u8], pointers: &mut [u8])
 
 // Writes the strand of count cells from cell at on, whose last cell holds value.
 fn write_strand(cells: &mut [u8], at: usize, count: usize, value: u8)
-    requires { ⌜ (1 ≤ count) × (at + count ≤ length (now cells)) × (length (now cells) ≤ 240) ⌝ }
+    requires { ⌜ (1 ≤ count) × (at + count ≤ length (now cells)) × (length (now cells) ≤ mostCells) ⌝ }
     ensures { λ _. ⌜ take (at + count) (now (cells .exit))
         ≡ take at (now (cells .entry)) ++ strandBytes at count value ⌝ }
 {
@@ -76,7 +76,7 @@ fn write_strand(cells: &mut [u8], at: usize, count: usize, value: u8)
 // Writes the strand of each node from cell 0 on, and answers the number of cells.
 fn write_strands(firsts: &[u8], successors: &[u8], counters: &[u32], cells: &mut [u8]) -> usize
     requires { ⌜ (length (now successors) ≡ length (now counters)) × (all (leb 1) (now counters) ≡ true) ⌝ }
-    requires { ⌜ (sum (λ v. v) (now counters) ≤ length (now cells)) × (length (now cells) ≤ 240) ⌝ }
+    requires { ⌜ (sum (λ v. v) (now counters) ≤ length (now cells)) × (length (now cells) ≤ mostCells) ⌝ }
     ensures count { λ r. ⌜ r ≡ sum (λ v. v) (now (counters .entry)) ⌝ }
     ensures bytes { λ r. ⌜ take r (now (cells .exit))
         ≡ strandsBytes (now (firsts .entry)) 0 (now (successors .entry)) (now (counters .entry)) ⌝ }
@@ -96,7 +96,7 @@ fn write_strands(firsts: &[u8], successors: &[u8], counters: &[u32], cells: &mut
 // Writes every cell: the strands from cell 0 on, the rest not in use.
 fn write_cells(firsts: &[u8], successors: &[u8], counters: &[u32], cells: &mut [u8])
     requires { ⌜ (length (now successors) ≡ length (now counters)) × (all (leb 1) (now counters) ≡ true) ⌝ }
-    requires { ⌜ (sum (λ v. v) (now counters) ≤ length (now cells)) × (length (now cells) ≤ 240) ⌝ }
+    requires { ⌜ (sum (λ v. v) (now counters) ≤ length (now cells)) × (length (now cells) ≤ mostCells) ⌝ }
     ensures { λ _. ⌜ now (cells .exit) ≡ imageBytes (length (now (cells .entry)))
         (strandsBytes (now (firsts .entry)) 0 (now (successors .entry)) (now (counters .entry))) ⌝ }
 {
@@ -116,7 +116,7 @@ pub fn unfold_shape(rec: &[u8], counters: &[u32], pointers: &mut [u8], cells: &m
 {
     let k = rec[3] as usize;
     let end = 10 + k;
-    let mut firsts = [0u8; 12];
+    let mut firsts = [0u8; model::MOST_NODES];
     first_cells(counters, &mut firsts);
     place_pointers(&firsts, &rec[4..10], pointers);
     write_cells(&firsts, &rec[10..end], &counters[..k], cells);

@@ -1,4 +1,1 @@
 pub mod Bits
-pub mod Sums
-pub mod Codes
-pub mod Updates

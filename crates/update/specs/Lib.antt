@@ -1,2 +1,1 @@
 pub mod Counted
-pub mod Codes

@@ -1,13 +1,12 @@
 -- The bytes of a heap image as values and slots.
-use Prim.Native.Nat.{ℕ, zero, suc, _<_, _≤_}
+use Prim.Native.Nat.{ℕ, zero, suc, _<_}
 use native.Mathlib.Omega.{arith}
 use mathlib.Core.Path.{_≡_, sym, ap, _∙_}
-use mathlib.Core.Bool.{false, not}
 use mathlib.Core.List.{List, [], _∷_, map}
 use lib.Dec.{eqb}
-use lib.ListN.{length, getD, length-map, List·getD-eq-default}
+use lib.ListN.{length, getD, length-map}
 use borrow.Author.Tests.{ne-eqb}
-use Rattle.model.specs.Heap.{Val, cell, Slot, unused, holds, inUse, named}
+use Rattle.model.specs.Heap.{Val, cell, Slot, unused, holds}
 use Rattle.model.specs.Image.{cellSlot}
 use Rattle.model.specs.Records.{valByte, valOf}
 use Rattle.model.specs.Shape.{holdsCell, isCell}
@@ -25,10 +24,6 @@ cell-val v c e = sym (byte-back v) ∙ ap valByte e
 pub slot-at : (cs : List ℕ) (c : ℕ) → c < length cs → slotAt cs c ≡ cellSlot (getD cs c 0)
 slot-at cs c h = getD-map cellSlot cs c 0 unused h
 
-pub slot-past : (cs : List ℕ) (c : ℕ) → length cs ≤ c → slotAt cs c ≡ unused
-slot-past cs c h = let l : length (map cellSlot cs) ≤ c = rw (length-map cs cellSlot) h in
-    List·getD-eq-default (map cellSlot cs) unused l
-
 pub used-few : (cs : List ℕ) (c : ℕ) → Used (slotAt cs) c → c < length cs
 used-few cs c u = rw (length-map cs cellSlot) at (used-below (map cellSlot cs) c u)
 
@@ -37,18 +32,6 @@ pub slot-val : (cs : List ℕ) (c : ℕ) (v : Val) → slotAt cs c ≡ holds v �
 slot-val cs c v e =
     let s = slot-at cs c (used-few cs c (v, e)) in
     bool-case (eqb (getD cs c 0) 0xfd) (λ t. slot-clash (s ∙ rw t) e) (λ f. holds-inj (sym e ∙ s ∙ rw f))
-
-pub used-byte : (b : ℕ) → inUse (cellSlot b) ≡ not (eqb b 0xfd)
-used-byte b = bool-case (eqb b 0xfd) (λ t. rw t) (λ f. rw f)
-
--- a value as a test of its byte
-pub named-in : (cs : List ℕ) (v : ℕ) → eqb v 0xfe ≡ false → eqb v 0xff ≡ false → v < length cs
-    → named (slotAt cs) (valOf v) ≡ not (eqb (getD cs v 0) 0xfd)
-named-in cs v n m h = rw (n, m, slot-at cs v h) (used-byte (getD cs v 0))
-
-pub named-past : (cs : List ℕ) (v : ℕ) → eqb v 0xfe ≡ false → eqb v 0xff ≡ false → length cs ≤ v
-    → named (slotAt cs) (valOf v) ≡ false
-named-past cs v n m h = rw (n, m, slot-past cs v h)
 
 pub is-byte : (c v : ℕ) → c < 0xfe → isCell c (valOf v) ≡ eqb c v
 is-byte c v h =

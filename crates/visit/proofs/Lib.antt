@@ -4,4 +4,3 @@ pub mod Laws
 pub mod Counting
 pub mod Walking
 pub mod Losing
-pub mod Numbering

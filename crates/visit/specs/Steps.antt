@@ -1,13 +1,13 @@
--- What the inner functions ask and give: a value that names a cell in use, one walk, one cell of a canonical heap.
--- Assumes nothing.
+-- The cells of an image, and what the inner functions ask and give: one walk, one cell that may be lost. Assumes
+-- nothing.
 use Prim.Native.Nat.{ℕ, _+_, _<_, _≤_}
 use mathlib.Core.Path.{_≡_}
 use mathlib.Core.Logic.{_⊎_}
 use mathlib.Core.Bool.{Bool, not, _&&_, cond}
 use mathlib.Core.List.{List, map}
-use lib.Dec.{eqb, leb}
+use lib.Dec.{eqb}
 use lib.ListN.{length, getD, take}
-use Rattle.model.specs.Base.{count, mem}
+use Rattle.model.specs.Base.{count, mem, mostCells}
 use Rattle.model.specs.Heap.{Val, Slot, unused, holds}
 use Rattle.model.specs.Image.{cellSlot}
 use Rattle.model.specs.Records.{valOf}
@@ -22,7 +22,7 @@ slotAt cs c = getD (map cellSlot cs) c unused
 
 -- n cells are in the order o, each once and in use, and s marks exactly these
 pub record Visiting (cs o s : List ℕ) (n : ℕ) : Type 0 where
-  pub few : length cs ≤ 240
+  pub few : length cs ≤ mostCells
   pub room : length cs ≤ length o
   pub marks : length cs ≤ length s
   pub counted : n ≤ length cs
@@ -54,7 +54,3 @@ pub record Walked (cs l m : List ℕ) (v : ℕ) (o s : List ℕ) (r : ℕ) : Typ
 -- ---- one cell that may be lost: in use and without a mark
 abbrev pub lostAt : ℕ → ℕ → Bool
 lostAt b m = not (eqb b 0xfd) && eqb m 0
-
--- ---- one cell of a canonical heap: core, and visited in its own place
-abbrev pub placed : List ℕ → List ℕ → ℕ → Bool
-placed o h c = leb 2 (getD h c 0) && eqb (getD o c 0) c

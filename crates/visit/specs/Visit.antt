@@ -5,7 +5,7 @@ use mathlib.Core.Bool.{true, not}
 use mathlib.Core.List.{List}
 use lib.Dec.{eqb, leb}
 use lib.ListN.{length, getD, take}
-use Rattle.model.specs.Base.{mem}
+use Rattle.model.specs.Base.{mem, mostCells}
 use Rattle.model.specs.Heap.{closed, kept, order}
 use Rattle.model.specs.Image.{heapOf}
 use Rattle.model.specs.Shape.{core}
@@ -13,7 +13,7 @@ use Rattle.model.specs.Shape.{core}
 -- pointers ps and cells cs; room for the order in o and a clear mark in s for each cell
 pub record VisitReady (ps cs o s : List ℕ) : Type 0 where
   pub isClosed : closed (heapOf ps cs) ≡ true
-  pub few : length cs ≤ 240
+  pub few : length cs ≤ mostCells
   pub room : length cs ≤ length o
   pub marks : length cs ≤ length s
   pub clear : (c : ℕ) → c < length cs → getD s c 0 ≡ 0

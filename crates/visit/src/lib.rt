@@ -2,86 +2,15 @@
 // cells. A heap image is pointer bytes and cell bytes: a cell number, 0xfe null, 0xff undefined, for a cell 0xfd not
 // in use. Each is linear in the number of cells: the mark of a cell says that it was seen, and counts its holders.
 ghost use mathlib.Core.Path.{_≡_};
-ghost use mathlib.Core.Bool.{true, not, _&&_};
+ghost use mathlib.Core.Bool.{not, _&&_};
 ghost use mathlib.Core.List.{map};
-ghost use Prim.Native.Nat.{_≤_, _<_};
+ghost use Prim.Native.Nat.{_≤_};
 ghost use lib.Dec.{eqb};
 ghost use lib.ListN.{length, getD, take};
-ghost use Rattle.model.specs.Base.{all, numbers};
-ghost use Rattle.model.specs.Heap.{closed, eachUsed, named, slotNamed};
-ghost use Rattle.model.specs.Image.{cellSlot, heapOf};
-ghost use Rattle.model.specs.Records.{valOf};
-ghost use Rattle.model.specs.Shape.{canonical};
+ghost use Rattle.model.specs.Heap.{eachUsed};
+ghost use Rattle.model.specs.Image.{cellSlot};
 ghost use Rattle.visit.specs.Visit.{VisitReady, Visited};
-ghost use Rattle.visit.specs.Steps.{slotAt, WalkReady, Walked, lostAt, placed};
-
-// ---- values name cells in use
-
-// Whether a value is null, undefined or a cell in use.
-fn is_named(cells: &[u8], v: u8) -> bool
-    ensures { λ r. ⌜ r ≡ named (slotAt (now (cells .entry))) (valOf v) ⌝ }
-{
-    if v == 0xfe {
-        return true;
-    }
-    if v == 0xff {
-        return true;
-    }
-    let c = v as usize;
-    if c < cells.len() {
-        cells[c] != 0xfd
-    } else {
-        false
-    }
-}
-
-// The same of what a cell byte holds; a cell that is not in use holds nothing.
-fn slot_named(cells: &[u8], b: u8) -> bool
-    ensures { λ r. ⌜ r ≡ slotNamed (slotAt (now (cells .entry))) (cellSlot b) ⌝ }
-{
-    if b == 0xfd {
-        return true;
-    }
-    is_named(cells, b)
-}
-
-fn pointers_named(pointers: &[u8], cells: &[u8]) -> bool
-    ensures { λ r. ⌜ r ≡ all (named (slotAt (now (cells .entry)))) (map valOf (now (pointers .entry))) ⌝ }
-{
-    let mut i = 0;
-    while i < pointers.len() {
-        if !is_named(cells, pointers[i]) {
-            return false;
-        }
-        i += 1;
-    }
-    true
-}
-
-fn cells_named(cells: &[u8]) -> bool
-    ensures { λ r. ⌜ r ≡ all (slotNamed (slotAt (now (cells .entry)))) (map cellSlot (now (cells .entry))) ⌝ }
-{
-    let mut i = 0;
-    while i < cells.len() {
-        if !slot_named(cells, cells[i]) {
-            return false;
-        }
-        i += 1;
-    }
-    true
-}
-
-// Whether every pointer, and every cell in use, names only cells in use.
-pub fn is_closed(pointers: &[u8], cells: &[u8]) -> bool
-    requires { ⌜ length (now cells) ≤ 240 ⌝ }
-    ensures { λ r. ⌜ r ≡ closed (heapOf (now (pointers .entry)) (now (cells .entry))) ⌝ }
-{
-    if pointers_named(pointers, cells) {
-        cells_named(cells)
-    } else {
-        false
-    }
-}
+ghost use Rattle.visit.specs.Steps.{WalkReady, Walked, lostAt};
 
 // ---- the order of first visit
 
@@ -156,41 +85,4 @@ pub fn nothing_lost(cells: &[u8], seen: &[u8]) -> bool
         i += 1;
     }
     kept
-}
-
-// ---- canonical heaps
-
-// Whether each of n cells is core and stands in the order at its own place.
-fn all_placed(order: &[u8], held: &[u8], n: usize) -> bool
-    requires { ⌜ (n ≤ length (now order)) × (n ≤ length (now held)) ⌝ }
-    ensures { λ r. ⌜ r ≡ all (placed (now (order .entry)) (now (held .entry))) (numbers 0 n) ⌝ }
-{
-    let mut i = 0;
-    while i < n {
-        if held[i] < 2 {
-            return false;
-        }
-        if order[i] as usize != i {
-            return false;
-        }
-        i += 1;
-    }
-    true
-}
-
-// Whether every cell is reachable and core, and the cells are numbered as the walks visit them.
-pub fn is_canonical(pointers: &[u8], cells: &[u8]) -> bool
-    requires { ⌜ (closed (heapOf (now pointers) (now cells)) ≡ true) × (length (now cells) ≤ 12) ⌝ }
-    ensures { λ r. ⌜ r ≡ canonical (heapOf (now (pointers .entry)) (now (cells .entry))) ⌝ }
-{
-    let mut order = [0u8; 16];
-    let mut seen = [0u8; 16];
-    let n = visit(pointers, cells, &mut order, &mut seen);
-    if n != cells.len() {
-        return false;
-    }
-    if !nothing_lost(cells, &seen) {
-        return false;
-    }
-    all_placed(&order, &seen, n)
 }

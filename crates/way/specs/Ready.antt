@@ -4,6 +4,7 @@ use mathlib.Core.Path.{_≡_}
 use mathlib.Core.Bool.{true, false}
 use mathlib.Core.List.{List}
 use lib.ListN.{length}
+use Rattle.model.specs.Base.{pointerCount, mostStatements}
 use Rattle.model.specs.Edges.{at, oneNode, view}
 use Rattle.model.specs.Heap.{Heap}
 use Rattle.model.specs.Machine.{action, isStop, kind}
@@ -16,16 +17,16 @@ use Rattle.way.specs.declared.Way.{Way}
 -- the fields of an accepted statement
 pub record DecodedOk (d : Decoded) : Type 0 where
   pub known : d .op < opCount
-  pub isU : d .u .0 < 6
-  pub isW : d .w .0 < 6
+  pub isU : d .u .0 < pointerCount
+  pub isW : d .w .0 < pointerCount
 
 -- the record l is that of statement s with shape h; d is the statement; and the way is one of the location's
 pub record WayReady (l : List ℕ) (d : Decoded) (s : ℕ) (h : Heap) (y : Way) : Type 0 where
   pub isRecord : l ≡ locRecord (at s h)
   pub isShape : Canon h
-  pub six : length (h .ptrs) ≡ 6
+  pub six : length (h .ptrs) ≡ pointerCount
   pub statement : DecodedOk d
-  pub low : s < 64
+  pub low : s < mostStatements
   pub goes : isStop (kind (opIn d)) ≡ false
   pub pick : y .pick ≤ 1
   pub guards : Writes (y .guards)

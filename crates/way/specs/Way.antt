@@ -6,7 +6,7 @@ use mathlib.Core.Option.{some}
 use mathlib.Core.Path.{_≡_}
 use lib.Dec.{eqb}
 use lib.ListN.{length, getD, getElem?, set, take, drop}
-use Rattle.model.specs.Base.{all, mem}
+use Rattle.model.specs.Base.{all, mem, mostNodes, recordSize, pointerCount}
 use Rattle.model.specs.Edges.{View, Way, split, splitHeap, viewVal, waysOf, whole}
 use Rattle.model.specs.Heap.{unused, Heap}
 use Rattle.model.specs.Machine.{Kind, isStop}
@@ -49,10 +49,10 @@ picksAt op = eqb op 10
 
 -- what `open_way` asks of the record r, the pointers p and the cells c; sp says that node n is split
 pub record OpenReady (r p c : List ℕ) (n : ℕ) (sp : Bool) : Type 0 where
-  pub wide : length r ≡ 32
-  pub few : byte r 3 ≤ 12
+  pub wide : length r ≡ recordSize
+  pub few : byte r 3 ≤ mostNodes
   pub values : all (valueByte (byte r 3)) (take (6 + byte r 3) (drop 4 r)) ≡ true
-  pub six : length p ≡ 6
+  pub six : length p ≡ pointerCount
   pub room : 13 ≤ length c
   pub isNode : sp ≡ true → n < byte r 3
 

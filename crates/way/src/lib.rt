@@ -9,6 +9,7 @@ ghost use mathlib.Core.Bool.{true};
 ghost use mathlib.Core.List.{List};
 ghost use mathlib.Core.Path.{_≡_};
 ghost use lib.ListN.{length, take, drop};
+ghost use Rattle.model.specs.Base.{mostNodes, pointerCount};
 ghost use Rattle.model.specs.Edges.{oneNode, view, viewVal};
 ghost use Rattle.model.specs.Heap.{Heap, ptr};
 ghost use Rattle.model.specs.Image.{heapOf};
@@ -36,7 +37,8 @@ fn held_by(u: Pointer, pointers: &[u8]) -> u8
 
 // The value through which a statement reads, writes or frees; null for a statement that does none of these.
 pub fn view(d: Decoded, pointers: &[u8]) -> u8
-    requires { ⌜ (d .op < opCount) × (d .u .0 < 6) × (d .w .0 < 6) × (length (now pointers) ≡ 6) ⌝ }
+    requires { ⌜ (d .op < opCount) × (d .u .0 < pointerCount) × (d .w .0 < pointerCount)
+        × (length (now pointers) ≡ pointerCount) ⌝ }
     ensures { λ r. ⌜ ((cs : List ℕ) → viewVal (valOf r)
         ≡ view (action (opIn d)) (heapOf (now (pointers .entry)) cs)) ⌝ }
 {
@@ -103,7 +105,7 @@ pub fn way_at(v: u8, j: u8) -> Way
 // Opens k cells: for a split the tail, cell k, takes over the node's successor and follows the node; for new, cell k
 // is not in use.
 fn open_cells(cells: &mut [u8], k: usize, op: u8, split: bool, node: Node) -> usize
-    requires { ⌜ (k ≤ 12) × (13 ≤ length (now cells)) × (split ≡ true → node .0 < k) ⌝ }
+    requires { ⌜ (k ≤ mostNodes) × (13 ≤ length (now cells)) × (split ≡ true → node .0 < k) ⌝ }
     ensures count { λ r. ⌜ r ≡ openedCount split op k ⌝ }
     ensures bytes { λ r. ⌜ take r (now (cells .exit)) ≡ openedBytes split op (node .0) (take k (now (cells .entry))) ⌝ }
 {

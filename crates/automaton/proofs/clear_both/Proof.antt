@@ -4,7 +4,7 @@ use Rattle.automaton.proofs.clear_both.Statement.{statement}
 use Rattle.automaton.proofs.clear_both.Tie as tie
 
 returns : tie.Need-returns
-returns c = (c .before .before .before .before .before .before .clear .ensures, c .before .before .clear2 .ensures)
+returns c = (c .before .before .before .before .before .before .fill .ensures, c .before .before .fill2 .ensures)
 
 pub clear-both-spec : {M : Type 1} → statement M
 clear-both-spec =

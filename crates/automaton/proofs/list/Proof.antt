@@ -1,6 +1,5 @@
 -- `list` meets its contract: the starting shapes are entered, and the exploration ends or finds no place.
 use borrow.Author.Needs.{needs}
-use Rattle.explore.specs.declared.Explored.the-variants as explored
 use Rattle.automaton.proofs.Listed.{all-listed, none-left, ready-to-explore}
 use Rattle.automaton.proofs.list.Statement.{statement}
 use Rattle.automaton.proofs.list.Tie as tie

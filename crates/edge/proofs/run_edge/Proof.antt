@@ -6,7 +6,7 @@ use Rattle.edge.proofs.run_edge.Tie as tie
 use native.Mathlib.Omega.{arith}
 use Rattle.edge.proofs.Edges.{fault-leaves, done-leaves, run-faults, leave-ready}
 use mathlib.Core.Path.{refl, subst, sym}
-use Rattle.edge.proofs.Running.{zeros}
+use Rattle.shape_run.proofs.Running.{zeros}
 use Rattle.way.proofs.Ready.{location-wide, nodes-few}
 use lib.Seq.{length-take-le}
 use Rattle.edge.specs.Edge.{LeavesBy}

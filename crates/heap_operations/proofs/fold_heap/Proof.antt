@@ -3,7 +3,7 @@ use mathlib.Core.List.{[]}
 use native.Mathlib.Omega.{arith}
 use lib.ListN.{length-append}
 use borrow.Author.Needs.{needs}
-use Rattle.segment.proofs.ImageLaws.{count-lasts, cut-ready, few-nodes, fold-ready, shape-is}
+use Rattle.folding.proofs.ImageLaws.{count-lasts, cut-ready, few-nodes, fold-ready, shape-is}
 use Rattle.heap_operations.proofs.FoldLaws.{fold-is}
 use Rattle.heap_operations.proofs.fold_heap.Statement.{statement}
 use Rattle.heap_operations.proofs.fold_heap.Tie as tie

@@ -106,6 +106,12 @@ place-or-room : (cl : ℕ) (ls : List Loc) (l : Loc) → placeOf (sameLoc l) ls 
 place-or-room cl ls l h = bool-case (any (sameLoc l) ls) (λ e. inl (any-loc ls l e))
     (λ e. inr (let k = place-none (sameLoc l) ls e in omega arith))
 
+-- the first edge itself has no place
+stuck-first : {cl ce i : ℕ} {e : Edge} (es : List Edge) {t : Listing} {x : Refusal} → Placed cl ce t
+    → Why cl ce i e t x → NoPlace cl ce i (e ∷ es) t x
+stuck-first {e = e} es h w =
+    record { earlier = []; stuck = e; later = es; edges = refl; added = refl; fit = h; why = w }
+
 -- edges that are refused: those before the first without a place have been added
 pub add-full : (cl ce i : ℕ) (es : List Edge) (t : Listing) (x : Refusal) → Placed cl ce t → addEdges cl ce i es t
     ≡ full x → NoPlace cl ce i es t x
@@ -129,27 +135,12 @@ add-full cl ce i (e ∷ es) t x h p =
     })
     (λ b. let p2 = rw (b, addEdges) at p1 in
     let ge = ltb-false (length (t .links)) ce b in
-    record {
-      earlier = [];
-      stuck = e;
-      later = es;
-      edges = refl;
-      added = refl;
-      fit = h;
-      why = no-edge (cc) (place-or-room cl (t .locs) (e .to) lt) (omega arith);
-    }))
+    stuck-first es h (no-edge (cc) (place-or-room cl (t .locs) (e .to) lt) (omega arith))))
     (λ a. let p1 = rw (a, addEdges) at p in
     let ge = ltb-false j cl a in
     let le = place-le (sameLoc (e .to)) (t .locs) in
-    record {
-      earlier = [];
-      stuck = e;
-      later = es;
-      edges = refl;
-      added = refl;
-      fit = h;
-      why = no-location (cc) (λ k. let lt = loc-place (t .locs) (e .to) k .0 in omega arith) (omega arith);
-    })
+    stuck-first es h
+    (no-location (cc) (λ k. let lt = loc-place (t .locs) (e .to) k .0 in omega arith) (omega arith)))
 
 pub why-place : (cl ce i : ℕ) (e : Edge) (u : Listing) (x : Refusal) → Why cl ce i e u x → x .place ≡ i
 why-place cl ce i e u x (no-location q a b) = ap (λ (y : Refusal). y .place) q

@@ -1,7 +1,7 @@
 -- `refold::leave` meets its contract: the order is cut, the image folded into the blank target, and the updates
 -- summed by the nodes.
 use borrow.Author.Needs.{needs}
-use Rattle.segment.proofs.ImageLaws.{count-lasts, cut-ready, few-nodes, fold-ready, shape-is}
+use Rattle.folding.proofs.ImageLaws.{count-lasts, cut-ready, few-nodes, fold-ready, shape-is}
 use Rattle.refold.proofs.leave.Statement.{statement}
 use Rattle.refold.proofs.leave.Tie as tie
 use native.Mathlib.Omega.{arith}

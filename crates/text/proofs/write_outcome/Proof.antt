@@ -2,7 +2,7 @@
 use mathlib.Core.Path.{_≡_, _∙_}
 use borrow.Author.Needs.{needs}
 use Rattle.model.specs.declared.Translated.the-variants as translated
-use Rattle.text.proofs.Lines.{listed-text, refused-text}
+use Rattle.text.proofs.Outcome.{listed-text, refused-text}
 use Rattle.text.proofs.write_outcome.Statement.{statement}
 use Rattle.text.proofs.write_outcome.Tie as tie
 

@@ -1,8 +1,19 @@
 -- `update::flag` meets its contract: the bit does not leave the 16.
+use Prim.Native.Nat.{ℕ, _*_, _%_, _^_, _≤_}
+use mathlib.Core.Path.{_≡_, _∙_}
+use native.Mathlib.Nat.{one-mul}
+use native.Mathlib.Omega.{arith}
+use lib.Pow.{pow-mono, shl-exact}
 use borrow.Author.Needs.{needs}
-use Rattle.update.proofs.Sums.{power-most, shifted}
 use Rattle.update.proofs.flag.Statement.{statement}
 use Rattle.update.proofs.flag.Tie as tie
+
+-- a power of two that fits
+shifted : (c : ℕ) → c ≤ 11 → (1 * 2 ^ c) % 2 ^ 16 ≡ 2 ^ c
+shifted c h = shl-exact 1 c 16 (omega arith) (omega arith) ∙ one-mul (2 ^ c)
+
+power-most : (c : ℕ) → c ≤ 11 → 2 ^ c ≤ 4096
+power-most c h = let h12 : c ≤ 12 = omega arith in pow-mono h12
 
 returns : tie.Need-returns
 returns c =

@@ -1,0 +1,4 @@
+pub mod EdgesByWay
+pub mod Added
+pub mod WayByWay
+pub mod LocationBytes

@@ -1,0 +1,20 @@
+-- The two texts of an outcome.
+use Prim.Native.Nat.{ℕ}
+use mathlib.Core.Path.{_≡_, sym, ap}
+use mathlib.Core.List.{List, _++_}
+use Rattle.model.specs.Answers.{outcomeOf}
+use Rattle.model.specs.Records.{refusal}
+use Rattle.model.specs.declared.Translated.{Translated}
+use Rattle.model.specs.declared.Translated.the-variants as translated
+use Rattle.hex_lines.specs.Lines.{linesOf}
+use Rattle.text.specs.Text.{refusalLine, textOf}
+
+pub listed-text : (ls es : List ℕ) {o : Translated} {i j : ℕ} → o ≡ translated.Listed i j
+    → linesOf i ls ++ linesOf j es ≡ textOf (outcomeOf o ls es)
+unfolding textOf
+listed-text ls es q = ap (λ x. textOf (outcomeOf x ls es)) (sym q)
+
+pub refused-text : (ls es : List ℕ) {o : Translated} {n p : ℕ} → o ≡ translated.Refused n p
+    → refusalLine (refusal n p) ≡ textOf (outcomeOf o ls es)
+unfolding textOf
+refused-text ls es q = ap (λ x. textOf (outcomeOf x ls es)) (sym q)
