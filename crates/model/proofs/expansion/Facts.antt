@@ -96,11 +96,11 @@ used-each p i (holds v ∷ ss) h (suc j) u = subst (λ x. p x ≡ true) (omega a
     (used-each p (suc i) ss (and-r (p i) (eachUsed p (suc i) ss) h) j u)
 
 -- the test `kept`
-pub kept-test : (h : Heap) → Kept h → kept h ≡ true
-kept-test h k = each-used (λ c. mem c (order h)) 0 (h .slots) (λ j u. rw (zero-add j) (k j u))
-
 pub test-kept : (h : Heap) → kept h ≡ true → Kept h
 test-kept h e j u = rw (zero-add j) at (used-each (λ c. mem c (order h)) 0 (h .slots) e j u)
+
+pub kept-test : (h : Heap) → Kept h → kept h ≡ true
+kept-test h k = each-used (λ c. mem c (order h)) 0 (h .slots) (λ j u. rw (zero-add j) (k j u))
 
 pub is-heap : (h : Heap) → ClosedHeap h → Kept h → IsHeap h
 is-heap h cl k = record { isClosed = closed-test h cl; isKept = kept-test h k }
