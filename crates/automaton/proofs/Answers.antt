@@ -14,7 +14,7 @@ use Rattle.model.specs.declared.Translated.the-variants as translated
 use Rattle.input.specs.declared.Checked.{Checked}
 use Rattle.input.specs.declared.Checked.the-variants as checked
 use Rattle.input.specs.Accepted.{Accepted}
-use Rattle.input.specs.Input.{GoodCounts, checkedOf, routineOf}
+use Rattle.input.specs.Input.{GoodCounts, checkedOf, routineIn}
 use Rattle.input.proofs.Facts.{accepted, starts-length}
 use Rattle.automaton.specs.Ready.{ListReady}
 use Rattle.automaton.proofs.Outcomes.{outcome-automaton, outcome-bad, outcome-few}
@@ -44,7 +44,7 @@ module _ {s ls es ks fs : List ℕ} {o : Checked} (L : Looked s ls es ks fs o) w
       (outcome-bad s (length ls) (length es) k x ks fs (rw q at (L .said)) (L .cleared .0) (L .cleared .1))
 
   module _ {n m most : ℕ} (q : o ≡ checked.Good n m) (r : most ≡ places mostLocations (length ks)) where
-    is-good : check s ≡ good (routineOf n s)
+    is-good : check s ≡ good (routineIn n s)
     is-good = sym (rw q at (L .said))
 
     is-accepted : Accepted s n m
@@ -56,7 +56,7 @@ module _ {s ls es ks fs : List ℕ} {o : Checked} (L : Looked s ls es ks fs o) w
         let z : most ≡ places mostLocations (length ls) = r ∙ ap (places mostLocations) (L .wide) in
         answered s (length ls) (length es) (translated.Refused 11 most) ks fs
         (ap (λ x. outcomeOf (translated.Refused 11 x) ks fs) z
-        ∙ outcome-few s (length ls) (length es) (routineOf n s) is-good ks fs (omega arith)
+        ∙ outcome-few s (length ls) (length es) (routineIn n s) is-good ks fs (omega arith)
         (L .cleared .0) (L .cleared .1))
 
     pub ready-to-list : m ≤ most → ListReady s n m ks fs

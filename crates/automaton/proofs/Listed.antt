@@ -9,7 +9,7 @@ use Rattle.model.specs.Records.{locRecord}
 use Rattle.model.specs.Translate.{places, tableOf, translate}
 use Rattle.model.specs.declared.Translated.the-variants as translated
 use Rattle.model.specs.declared.Counts.{Counts}
-use Rattle.input.specs.Input.{routineOf}
+use Rattle.input.specs.Input.{routineIn}
 use Rattle.input.proofs.Facts.{starts-length}
 use Rattle.explore.specs.Explore.{AllExplored, ExploredTo, ExploreReady, exploredIn}
 use Rattle.explore.specs.declared.Explored.{Explored}
@@ -28,7 +28,7 @@ module _ (s : List ℕ) (n m : ℕ) (ls es ks : List ℕ) (R : ListReady s n m l
   room : m ≤ places mostLocations (length ks)
   room = rw same (R .starts .room)
 
-  few : length (routineOf n s .starts) ≤ places mostLocations (length ks)
+  few : length (routineIn n s .starts) ≤ places mostLocations (length ks)
   few = rw (starts-length s n m (R .starts .accepted .whole)) room
 
   pub ready-to-explore : ExploreReady s n ks es (startCounts m)
@@ -36,18 +36,18 @@ module _ (s : List ℕ) (n m : ℕ) (ls es ks : List ℕ) (R : ListReady s n m l
 
   module _ (ls′ es′ : List ℕ) (o : Explored) (X : AllExplored s n ks es (startCounts m) ls′ es′ o)
       (p : length ls′ ≡ length ks) (q : length es′ ≡ length es) where
-    explored-to : ExploredTo n (exploredIn ks es (routineOf n s .stmts) (startListing (routineOf n s))) ls′ es′ o
+    explored-to : ExploredTo n (exploredIn ks es (routineIn n s .stmts) (startListing (routineIn n s))) ls′ es′ o
     explored-to =
         let g = R .starts .isGood in
         let A = R .starts .accepted in
-        X (routineOf n s .stmts) (startListing (routineOf n s)) (statements-ok s n m g A)
+        X (routineIn n s .stmts) (startListing (routineIn n s)) (statements-ok s n m g A)
         (starts-held s n m g A ks es held-in (R .blank) room) (starts-fine s n m g A)
 
     -- all is listed
     pub all-listed : (k : Counts) → o ≡ explored.Listed k
         → outcomeOf (listedBy k) ls′ es′ ≡ translate s (length ls) (length es)
     all-listed k e =
-        outcome-listed s (length ks) (length es) (routineOf n s) (R .starts .isGood) n ls′ es′ few k p q
+        outcome-listed s (length ks) (length es) (routineIn n s) (R .starts .isGood) n ls′ es′ few k p q
         (rw e at explored-to)
         ∙ ap (λ x. translate s x (length es)) same
 
@@ -56,6 +56,6 @@ module _ (s : List ℕ) (n m : ℕ) (ls es ks : List ℕ) (R : ListReady s n m l
         → es″ ≡ replicate (length es′) 0
         → outcomeOf (translated.Refused k x) ls″ es″ ≡ translate s (length ls) (length es)
     none-left ls″ es″ k x e d d′ =
-        outcome-full s (length ks) (length es) (routineOf n s) (R .starts .isGood) n ls′ es′ few k x ls″ es″
+        outcome-full s (length ks) (length es) (routineIn n s) (R .starts .isGood) n ls′ es′ few k x ls″ es″
         (rw p at d) (rw q at d′) (rw e at explored-to)
         ∙ ap (λ y. translate s y (length es)) same

@@ -10,7 +10,7 @@ use Rattle.model.specs.Records.{locRecord}
 use Rattle.model.specs.Translate.{check, good, places, tableOf}
 use Rattle.model.proofs.records.Bytes.{table-empty}
 use Rattle.model.specs.Notions.{In}
-use Rattle.input.specs.Input.{routineOf}
+use Rattle.input.specs.Input.{routineIn}
 use Rattle.input.specs.Accepted.{Accepted}
 use Rattle.input.proofs.Facts.{accepted-wide, stmt-at, stmts-length}
 use Rattle.listing.specs.Grow.{Holds}
@@ -25,7 +25,7 @@ use Rattle.model.specs.declared.Counts.{Counts}
 abbrev pub startCounts : ℕ → Counts
 startCounts m = record { locations = m; edges = 0 }
 
-module _ (s : List ℕ) (n m : ℕ) (g : check s ≡ good (routineOf n s)) (A : Accepted s n m) where
+module _ (s : List ℕ) (n m : ℕ) (g : check s ≡ good (routineIn n s)) (A : Accepted s n m) where
   start-fine : (l : Loc) → In l (startLocs n s) → LocOk n l
   start-fine l i =
       let y = start-shape s n m g A l i in
@@ -34,7 +34,7 @@ module _ (s : List ℕ) (n m : ℕ) (g : check s ≡ good (routineOf n s)) (A : 
   -- the listing of the starting shapes, before the first edge
   pub starts-held : (ls es : List ℕ) → ls ≡ tableOf (length ls) (map locRecord (startLocs n s))
       → es ≡ replicate (length es) 0 → m ≤ places mostLocations (length ls)
-      → Holds (startListing (routineOf n s)) ls es (startCounts m)
+      → Holds (startListing (routineIn n s)) ls es (startCounts m)
   starts-held ls es p q room = record {
     locs = p;
     edges = q ∙ sym (table-empty (length es));
@@ -46,10 +46,10 @@ module _ (s : List ℕ) (n m : ℕ) (g : check s ≡ good (routineOf n s)) (A : 
     goodLinks = λ k i. absurd i;
   }
 
-  pub starts-fine : LocsOk n (startListing (routineOf n s))
+  pub starts-fine : LocsOk n (startListing (routineIn n s))
   starts-fine = start-fine
 
-  pub statements-ok : StatementsOk s n (routineOf n s .stmts)
+  pub statements-ok : StatementsOk s n (routineIn n s .stmts)
   statements-ok = record {
     number = stmts-length s n m (A .whole);
     room = omega (arith, A .whole);
@@ -66,9 +66,9 @@ module _ (s : List ℕ) (n m : ℕ) (g : check s ≡ good (routineOf n s)) (A : 
       → es ≡ replicate (length es) 0 → m ≤ places mostLocations (length ls)
       → ExploreReady s n ls es (startCounts m)
   explore-ready ls es p q room = record {
-    statements = routineOf n s .stmts;
+    statements = routineIn n s .stmts;
     readable = statements-ok;
-    list = startListing (routineOf n s);
+    list = startListing (routineIn n s);
     held = starts-held ls es p q room;
     fine = starts-fine;
   }

@@ -39,7 +39,7 @@ pub fn counters_fit(k: usize, counters: &[u32], n: usize) -> bool
     requires { ⌜ k ≤ mostNodes ⌝ }
     ensures { λ r. ⌜ r ≡ countersFit k (now (counters .entry)) n ⌝ }
 {
-    if counters.len() != 12 {
+    if counters.len() != model::MOST_NODES {
         return false;
     }
     all_positive(&counters[..k]) & (total(&counters[k..]) == 0) & (total(counters) <= n as u64)

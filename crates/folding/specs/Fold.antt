@@ -32,4 +32,4 @@ pub record FoldReady (ps cs last m shape : List ℕ) : Type 0 where
   pub six : length ps ≡ pointerCount
   pub pointers : AllIn m ps
   pub lasts : LastsIn m cs last
-  pub room : 6 + length last ≤ length shape
+  pub room : pointerCount + length last ≤ length shape

@@ -26,6 +26,7 @@ pub record IsShape (ps cs node size before after : List ℕ) (k : ℕ) : Type 0 
   pub number : k ≡ length (segments (heapOf ps cs))
   pub twelve : k ≤ mostNodes
   pub bytes : after
-      ≡ (map valByte (shape (heapOf ps cs) .ptrs) ++ map slotByte (shape (heapOf ps cs) .slots)) ++ drop (6 + k) before
+      ≡ (map valByte (shape (heapOf ps cs) .ptrs) ++ map slotByte (shape (heapOf ps cs) .slots))
+      ++ drop (pointerCount + k) before
   pub sizes : take k size ≡ counters (heapOf ps cs)
   pub nodes : (j c : ℕ) → j < k → mem c (cells (segAt (segments (heapOf ps cs)) j)) ≡ true → getD node c 0 ≡ j

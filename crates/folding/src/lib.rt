@@ -3,6 +3,7 @@ ghost use mathlib.Core.Path.{_≡_};
 ghost use mathlib.Core.List.{_++_, map};
 ghost use Prim.Native.Nat.{_+_, _<_, _≤_};
 ghost use lib.ListN.{length, getD, drop};
+ghost use Rattle.model.specs.Base.{pointerCount};
 ghost use Rattle.folding.specs.Fold.{foldByte, foldedBytes, AllIn, FoldReady, LastsIn};
 
 // A byte in terms of nodes: a cell becomes its node.
@@ -46,7 +47,7 @@ pub fn fold_shape(pointers: &[u8], cells: &[u8], last: &[u8], node: &[u8], shape
     requires { ⌜ FoldReady (now pointers) (now cells) (now last) (now node) (now shape) ⌝ }
     ensures { λ _. ⌜ now (shape .exit)
         ≡ foldedBytes (now (node .entry)) (now (pointers .entry)) (now (cells .entry)) (now (last .entry))
-        ++ drop (6 + length (now (last .entry))) (now (shape .entry)) ⌝ }
+        ++ drop (pointerCount + length (now (last .entry))) (now (shape .entry)) ⌝ }
 {
     fold_values(pointers, node, shape);
     fold_successors(cells, last, node, &mut shape[6..]);

@@ -1,4 +1,5 @@
 -- The fold of a heap, as the call answers it. Assumes nothing.
+use Rattle.model.specs.Base.{mostNodes}
 use Rattle.model.specs.Heap.{Heap}
 use Rattle.model.specs.Shape.{shape, counters}
 use Rattle.model.specs.Records.{filled, isAccepted, shapeRecord}
@@ -6,4 +7,5 @@ use Rattle.model.specs.Image.{Folding}
 
 -- the record and the counters of a heap
 unfoldable pub foldedHeap : Heap → Folding
-foldedHeap h = record { verdict = isAccepted; recordBytes = shapeRecord (shape h); counts = filled 12 (counters h) }
+foldedHeap h =
+    record { verdict = isAccepted; recordBytes = shapeRecord (shape h); counts = filled mostNodes (counters h) }

@@ -21,7 +21,7 @@ use Rattle.model.proofs.lists.Lists.{all-at, getD-map}
 use Rattle.model.proofs.lists.Logic.{and-l, and-r}
 use Rattle.model.proofs.records.ShapeBack.{shape-record-back}
 use Rattle.input.specs.declared.Checked.the-variants.{Good}
-use Rattle.input.specs.Input.{checkedOf, GoodCounts, routineOf}
+use Rattle.input.specs.Input.{checkedOf, GoodCounts, routineIn}
 use Rattle.input.specs.RecordChecks.{earlier, recordRefusal}
 use Rattle.input.specs.Accepted.{Accepted}
 use Rattle.input.proofs.Records.{counts-whole, record-wide, records-at, records-length}
@@ -31,21 +31,21 @@ use Rattle.input.proofs.Opened.{Opened, check-opened, record-passed}
 -- ---- lengths and places of the routine that is read from n statements and m shapes
 
 module _ (s : List ℕ) (n m : ℕ) (w : 32 * (n + m) ≡ length s) where
-  pub stmts-length : length (routineOf n s .stmts) ≡ n
+  pub stmts-length : length (routineIn n s .stmts) ≡ n
   stmts-length = length-map (take n (recordsOf s)) stmtOf
       ∙ length-take-le n (recordsOf s) (omega (arith, records-length s (n + m) w))
 
-  pub starts-length : length (routineOf n s .starts) ≡ m
+  pub starts-length : length (routineIn n s .starts) ≡ m
   starts-length = length-map (drop n (recordsOf s)) shapeOf
       ∙ omega (arith, length-drop n (recordsOf s), records-length s (n + m) w)
 
-  pub stmt-at : (i : ℕ) → i < n → stmtAt (routineOf n s .stmts) i ≡ stmtOf (recordAt s i)
+  pub stmt-at : (i : ℕ) → i < n → stmtAt (routineIn n s .stmts) i ≡ stmtOf (recordAt s i)
   stmt-at i h =
       getD-map stmtOf (take n (recordsOf s)) i [] _
       (omega (arith, length-take-le n (recordsOf s) (omega (arith, records-length s (n + m) w))))
       ∙ ap stmtOf (getD-take n (recordsOf s) i [] h ∙ records-at s (n + m) w i (omega arith))
 
-  pub start-at : (j : ℕ) (d : Heap) → j < m → getD (routineOf n s .starts) j d ≡ shapeOf (recordAt s (n + j))
+  pub start-at : (j : ℕ) (d : Heap) → j < m → getD (routineIn n s .starts) j d ≡ shapeOf (recordAt s (n + j))
   start-at j d h =
       getD-map shapeOf (drop n (recordsOf s)) j [] d
       (omega (arith, length-drop n (recordsOf s), records-length s (n + m) w))
@@ -60,12 +60,12 @@ between-high : (a b n : ℕ) → between a b n ≡ true → n ≤ b
 between-high a b n h = leb-true n b (and-r (leb a n) (leb n b) h)
 
 -- the number of statements that a routine was read with
-statements-are : (s : List ℕ) (n m k l : ℕ) → 32 * (n + m) ≡ length s → k + l ≡ n + m → routineOf n s ≡ routineOf k s
+statements-are : (s : List ℕ) (n m k l : ℕ) → 32 * (n + m) ≡ length s → k + l ≡ n + m → routineIn n s ≡ routineIn k s
     → n ≡ k
 statements-are s n m k l w q e =
     sym (stmts-length s n m w) ∙ ap (λ r. length (r .stmts)) e ∙ stmts-length s k l (rw q w)
 
-module _ (s : List ℕ) (n m : ℕ) (w : 32 * (n + m) ≡ length s) (o : Opened s (routineOf n s)) where
+module _ (s : List ℕ) (n m : ℕ) (w : 32 * (n + m) ≡ length s) (o : Opened s (routineIn n s)) where
   counted : count isS (recordsOf s) + count isH (recordsOf s) ≡ n + m
   counted = counts-whole s (n + m) w (o .kinds)
 
@@ -114,11 +114,11 @@ module _ (s : List ℕ) (n m : ℕ) (w : 32 * (n + m) ≡ length s) (o : Opened 
 
 -- from the answer of the check
 pub accepted : (s : List ℕ) (n m : ℕ) → checkedOf (Good n m) s ≡ check s → GoodCounts (Good n m) s → Accepted s n m
-accepted s n m e g = opened-accepted s n m (g .4) (check-opened s (routineOf n s) (sym e))
+accepted s n m e g = opened-accepted s n m (g .4) (check-opened s (routineIn n s) (sym e))
 
 -- from the definition: the numbers are those of the routine's statements and shapes
 pub good-accepted : (s : List ℕ) (r : Routine) → check s ≡ good r
-    → Accepted s (length (r .stmts)) (length (r .starts)) × (r ≡ routineOf (length (r .stmts)) s)
+    → Accepted s (length (r .stmts)) (length (r .starts)) × (r ≡ routineIn (length (r .stmts)) s)
 good-accepted s r e =
     let o = check-opened s r e in
     let k = count isS (recordsOf s) in

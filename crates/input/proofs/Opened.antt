@@ -14,7 +14,7 @@ use Rattle.model.proofs.records.Checked.{bad-good, good-inj}
 use Rattle.model.specs.Listings.{recordsOf}
 use Rattle.model.proofs.lists.Lists.{some-none}
 use Rattle.model.proofs.lists.Logic.{bool-case}
-use Rattle.input.specs.Input.{routineOf}
+use Rattle.input.specs.Input.{routineIn}
 use Rattle.input.specs.RecordChecks.{earlier, recordRefusal}
 use Rattle.input.proofs.Outcomes.{badLength, length-even}
 use Rattle.input.proofs.Records.{records-fail, records-pass}
@@ -25,7 +25,7 @@ pub record Opened (s : List ℕ) (r : Routine) : Type 0 where
   pub statements : between 1 64 (count isS (recordsOf s)) ≡ true
   pub shapes : between 1 16 (count isH (recordsOf s)) ≡ true
   pub records : badRecord (count isS (recordsOf s)) 0 [] (recordsOf s) ≡ none
-  pub routine : r ≡ routineOf (count isS (recordsOf s)) s
+  pub routine : r ≡ routineIn (count isS (recordsOf s)) s
 
 -- each check by itself
 records-open : (n : ℕ) (rs : List (List ℕ)) (r : Routine) → checkRecords n rs ≡ good r

@@ -2,21 +2,21 @@
 -- nothing.
 use Prim.Native.Nat.{ℕ, _+_, _*_, _≤_}
 use mathlib.Core.Path.{_≡_}
-use mathlib.Core.List.{List, map}
-use lib.ListN.{length, take, drop}
+use mathlib.Core.List.{List}
+use lib.ListN.{length}
 use Rattle.model.specs.Base.{recordSize, mostStatements, mostShapes}
-use Rattle.model.specs.Records.{refusal, shapeOf, stmtOf}
-use Rattle.model.specs.Translate.{Checked as CheckedInput, bad, good, Routine}
+use Rattle.model.specs.Records.{refusal}
+use Rattle.model.specs.Translate.{Checked as CheckedInput, bad, good, Routine, routineOf}
 use Rattle.model.specs.Listings.{recordsOf}
 use Rattle.input.specs.declared.Checked.{Checked}
 use Rattle.input.specs.declared.Checked.the-variants.{Good, Bad}
 
--- the first n records as statements, the others as starting shapes
-abbrev pub routineOf : ℕ → List ℕ → Routine
-routineOf n s = record { stmts = map stmtOf (take n (recordsOf s)); starts = map shapeOf (drop n (recordsOf s)) }
+-- the routine of an input with n statements
+abbrev pub routineIn : ℕ → List ℕ → Routine
+routineIn n s = routineOf n (recordsOf s)
 
 abbrev pub checkedOf : Checked → List ℕ → CheckedInput
-checkedOf (Good n m) s = good (routineOf n s)
+checkedOf (Good n m) s = good (routineIn n s)
 checkedOf (Bad k p) s = bad (refusal k p)
 
 -- n statements and m shapes are the whole input, neither too many; a refusal of the input has one of the numbers 1 to

@@ -1,4 +1,5 @@
-// A statement run on a heap image that is lent. The plain step and the translator both run this.
+// A statement run on a heap image that is lent. The translator runs this; the plain step takes the same steps in
+// `image_run`, by the same laws.
 use model::Decoded;
 ghost use mathlib.Core.Path.{_≡_};
 ghost use mathlib.Core.Bool.{not, _||_};

@@ -6,14 +6,14 @@ use mathlib.Core.Logic.{_⊎_}
 use mathlib.Core.Bool.{Bool, _&&_, _||_, cond, false, not, true}
 use mathlib.Core.List.{List, [], _++_, _∷_, map}
 use lib.Dec.{eqb}
-use lib.ListN.{drop, getD, length, replicate, take}
+use lib.ListN.{getD, length, replicate, take}
 use Rattle.model.specs.Base.{any, count, joined, numbers, placeOf, mostNodes, mostShapes, mostStatements, pointerCount, recordSize}
 use Rattle.model.specs.Edges.{Edge, Loc, at, edgesOf, failed, sameLoc}
 use Rattle.model.specs.Heap.{Heap, Slot, Val, cell, holds, null, order, undef, unused}
 use Rattle.model.specs.Machine.{Op, Stmt, choose, clear, copy, free, isNull, leak, load, new, same, setNull, skip, stop, store}
-use Rattle.model.specs.Records.{Refusal, isH, isS, refusal, refusalH, refusalS, shapeOf, stmtOf, usesFirst, usesSecond}
+use Rattle.model.specs.Records.{Refusal, isH, isS, refusal, refusalH, refusalS, usesFirst, usesSecond}
 use Rattle.model.specs.Runs.{added}
-use Rattle.model.specs.Translate.{Link, Listing, Routine, addEdges, between, chunks, explore, full, grown, listed}
+use Rattle.model.specs.Translate.{Link, Listing, Routine, addEdges, between, chunks, explore, full, grown, listed, routineOf}
 use Rattle.model.specs.Notions.{Distinct, In, Canon}
 
 -- ---- what a listing holds
@@ -162,10 +162,6 @@ pub data BadInput (s : List ℕ) (x : Refusal) : Type 0 where
       → rightS s ≡ true → rightH s ≡ true
       → i < length (recordsOf s) → RightRecords s i → recordRefusal (recordsOf s) i ≡ suc n → BadInput s x
 
--- the routine that is read: the statements and the starting shapes
-abbrev pub routineOf : List (List ℕ) → Routine
-routineOf rs = record { stmts = map stmtOf (take (count isS rs) rs); starts = map shapeOf (drop (count isS rs) rs) }
-
 -- nothing is wrong with an input
 pub record GoodInput (s : List ℕ) (r : Routine) : Type 0 where
   pub wide : noRecords s ≡ false
@@ -173,7 +169,7 @@ pub record GoodInput (s : List ℕ) (r : Routine) : Type 0 where
   pub statements : rightS s ≡ true
   pub shapes : rightH s ≡ true
   pub records : RightRecords s (length (recordsOf s))
-  pub isRead : r ≡ routineOf (recordsOf s)
+  pub isRead : r ≡ routineOf (count isS (recordsOf s)) (recordsOf s)
 
 -- ---- what a record can hold
 

@@ -42,6 +42,10 @@ pub record Routine : Type 0 where
   pub stmts : List Stmt
   pub starts : List Heap
 
+-- the routine of checked records: the first n are the statements, the others the starting shapes
+abbrev pub routineOf : ℕ → List (List ℕ) → Routine
+routineOf n rs = record { stmts = map stmtOf (take n rs); starts = map shapeOf (drop n rs) }
+
 pub data Checked : Type 0 where
   bad : Refusal → Checked
   good : Routine → Checked
@@ -53,7 +57,7 @@ abbrev pub checkRecords : ℕ → List (List ℕ) → Checked
 checkRecords n rs =
     elim (badRecord n 0 [] rs) [
       | some x ↦ bad x
-      | none ↦ good (record { stmts = map stmtOf (take n rs); starts = map shapeOf (drop n rs) })
+      | none ↦ good (routineOf n rs)
     ]
 
 abbrev pub checkCounts : List (List ℕ) → Checked

@@ -18,7 +18,7 @@ use Rattle.model.proofs.records.Checked.{check-good}
 use Rattle.model.proofs.lists.Lists.{getD-map, in-map}
 use Rattle.model.specs.Listings.{WritableLoc}
 use Rattle.model.proofs.records.ReadBack.{canon-writable, record-length}
-use Rattle.input.specs.Input.{routineOf}
+use Rattle.input.specs.Input.{routineIn}
 use Rattle.input.specs.Accepted.{Accepted}
 use Rattle.input.proofs.Facts.{start-at, start-record, starts-length}
 use Rattle.record.specs.Written.{locationBytes, placed}
@@ -31,9 +31,9 @@ in-take x (suc n) [] i = i
 in-take x (suc n) (y ∷ l) (inl e) = inl e
 in-take x (suc n) (y ∷ l) (inr i) = inr (in-take x n l i)
 
-module _ (s : List ℕ) (n m : ℕ) (g : check s ≡ good (routineOf n s)) (A : Accepted s n m) where
+module _ (s : List ℕ) (n m : ℕ) (g : check s ≡ good (routineIn n s)) (A : Accepted s n m) where
   pub count-is : length (startLocs n s) ≡ m
-  count-is = length-map (routineOf n s .starts) (at 0) ∙ starts-length s n m (A .whole)
+  count-is = length-map (routineIn n s .starts) (at 0) ∙ starts-length s n m (A .whole)
 
   pub records-number : length (map locRecord (startLocs n s)) ≡ m
   records-number = length-map (startLocs n s) locRecord ∙ count-is
@@ -41,8 +41,8 @@ module _ (s : List ℕ) (n m : ℕ) (g : check s ≡ good (routineOf n s)) (A : 
   -- each is a shape with six pointers
   pub start-shape : (l : Loc) → In l (startLocs n s) → (h : Heap) × (l ≡ at 0 h) × (Canon h × (length (h .ptrs) ≡ 6))
   start-shape l i =
-      let y = in-map (at 0) l (routineOf n s .starts) i in
-      (y .0, y .2, check-good s (routineOf n s) g .shapes (y .0) (y .1))
+      let y = in-map (at 0) l (routineIn n s .starts) i in
+      (y .0, y .2, check-good s (routineIn n s) g .shapes (y .0) (y .1))
 
   pub start-writable : (l : Loc) → In l (startLocs n s) → WritableLoc l
   start-writable l i =
@@ -58,7 +58,7 @@ module _ (s : List ℕ) (n m : ℕ) (g : check s ≡ good (routineOf n s)) (A : 
       let d : Heap = shapeOf [] in
       getD-map locRecord (startLocs n s) j (at 0 d) [] (omega (arith, count-is))
       ∙ ap locRecord
-      (getD-map (at 0) (routineOf n s .starts) j d (at 0 d) (omega (arith, starts-length s n m (A .whole))))
+      (getD-map (at 0) (routineIn n s .starts) j d (at 0 d) (omega (arith, starts-length s n m (A .whole))))
       ∙ ap (λ x. locRecord (at 0 x)) (start-at s n m (A .whole) j d h) ∙ start-record s n m A j h
 
   -- one more

@@ -31,7 +31,7 @@ pub fn set_code(updates: &mut [u16], n: Node, code: u16)
 
 // The codes of the updates when the heap stays as it is: each of the 12 counters is its own old counter.
 pub fn carry_updates(updates: &mut [u16])
-    requires { ⌜ 12 ≤ length (now updates) ⌝ }
+    requires { ⌜ mostNodes ≤ length (now updates) ⌝ }
     ensures { λ _. ⌜ ((j : ℕ) → j < mostNodes → getD (now (updates .exit)) j 0 ≡ 4096 + 2 ^ j) ⌝ }
 {
     let mut j: u8 = 0;
@@ -54,7 +54,7 @@ pub fn counters_added(update: u16) -> u32
 // The sum of the counters of a set, the lowest first.
 fn sum_of(set: u16, counters: &[u32]) -> u64
     requires { ⌜ (set < 4096) × (length (now counters) ≡ mostNodes) ⌝ }
-    ensures { λ r. ⌜ (r ≡ added set (now (counters .entry))) × (r ≤ 4294967295 * 12) ⌝ }
+    ensures { λ r. ⌜ (r ≡ added set (now (counters .entry))) × (r ≤ 4294967295 * mostNodes) ⌝ }
 {
     let mut left = set;
     let mut sum: u64 = 0;

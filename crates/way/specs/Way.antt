@@ -51,7 +51,7 @@ picksAt op = eqb op 10
 pub record OpenReady (r p c : List ℕ) (n : ℕ) (sp : Bool) : Type 0 where
   pub wide : length r ≡ recordSize
   pub few : byte r 3 ≤ mostNodes
-  pub values : all (valueByte (byte r 3)) (take (6 + byte r 3) (drop 4 r)) ≡ true
+  pub values : all (valueByte (byte r 3)) (take (pointerCount + byte r 3) (drop 4 r)) ≡ true
   pub six : length p ≡ pointerCount
   pub room : 13 ≤ length c
   pub isNode : sp ≡ true → n < byte r 3

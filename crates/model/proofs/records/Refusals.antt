@@ -16,9 +16,9 @@ use Rattle.model.specs.Base.{any, count, sameList}
 use Rattle.model.specs.Heap.{next}
 use Rattle.model.specs.Records.{Refusal, isH, isS, layoutH, refusal, refusalH, refusalS, shapeOf, checksS, checksH, firstFailed, unless}
 use Rattle.model.specs.Shape.{canonical}
-use Rattle.model.specs.Translate.{Routine, bad, badKind, badRecord, between, check, checkCounts, checkKinds, checkRecords, good}
+use Rattle.model.specs.Translate.{Routine, bad, badKind, badRecord, between, check, checkCounts, checkKinds, checkRecords, good, routineOf}
 use Rattle.model.proofs.records.Checked.{bad-good, good-inj}
-use Rattle.model.specs.Listings.{BadInput, GoodInput, bad-kind, bad-length, bad-record, bad-shapes, bad-statements, noRecords, recordRefusal, recordsOf, routineOf, wrongKind}
+use Rattle.model.specs.Listings.{BadInput, GoodInput, bad-kind, bad-length, bad-record, bad-shapes, bad-statements, noRecords, recordRefusal, recordsOf, wrongKind}
 use Rattle.model.proofs.lists.Logic.{and-l, and-r, bool-case, clash, or-r}
 
 -- ---- the first record of a wrong kind
@@ -176,7 +176,7 @@ module _ (s : List ℕ) (a : noRecords s ≡ false) where
           (none-earlier (recordsOf s) i ∙ w),
     )
     by-record b c (inr (p, g)) = inr (
-      routineOf (recordsOf s),
+      routineOf (count isS (recordsOf s)) (recordsOf s),
       counts-records b c ∙ rw (p, checkRecords),
       record {
         wide = a;
