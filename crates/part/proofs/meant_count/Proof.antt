@@ -1,0 +1,13 @@
+-- `meant_count` meets its contract.
+use borrow.Author.Needs.{needs}
+use Rattle.part.proofs.Handed.{meant-edges}
+use Rattle.part.proofs.meant_count.Statement.{statement}
+use Rattle.part.proofs.meant_count.Tie as tie
+
+returns-2 : tie.Need-returns-2
+returns-2 c =
+    let a = c .before .args in
+    meant-edges (a .mark) (a .counts .locations) (a .counts .edges) (c .if1 .left)
+
+pub meant-count-spec : {M : Type 1} → statement M
+meant-count-spec = tie.close (tie.spec (λ c. search needs) returns-2)
