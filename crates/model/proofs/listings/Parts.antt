@@ -86,6 +86,11 @@ module _ (t : Tables) (mark n : ℕ) where
         λ v. r ∙ ap isRefused (sym (v .0)),
       ))
 
+-- a record that is there has a small number
+low : (t : Tables) (mark n : ℕ) → Askable t mark n → n < 2048
+low t zero n a = omega (arith, places-most 1024 (length (t .locBytes)))
+low t (suc m) n a = omega (arith, places-most 2048 (length (t .edgeBytes)))
+
 -- ---- what the part holds
 
 -- the record stands whole in the table that was meant
@@ -122,6 +127,9 @@ module _ (t : Tables) (mark n : ℕ) where
 
   pub part-begins : n * recordPart t mark n .size ≡ recordPart t mark n .begins
   part-begins = part-case t mark n (λ a e. rw e (omega arith)) (λ u e. rw e (omega arith))
+
+  pub part-low : recordPart t mark n .begins ≤ 65536
+  part-low = part-case t mark n (λ a e. let h = low t mark n a in rw e (omega arith)) (λ u e. rw e (omega arith))
 
   pub part-ends : recordPart t mark n .begins + recordPart t mark n .size ≤ length (meantTable t mark)
   part-ends = part-case t mark n (λ a e. rw e (part-inside t mark n a)) (λ u e. rw e (omega arith))
