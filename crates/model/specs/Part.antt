@@ -20,12 +20,12 @@ meantTable t mark = meant mark (t .locBytes) (t .edgeBytes)
 abbrev pub meantCount : Tables → ℕ → ℕ
 meantCount t mark = meant mark (t .locCount) (t .edgeCount)
 
--- not: "a count exceeds its table's places (here and later its length ÷ 32 rounded down, at most 1,024 or 2,048)"
+-- a count does not exceed "its table's places (here and later its length ÷ 32 rounded down, at most 1,024 or 2,048)"
 abbrev pub inPlaces : ℕ → ℕ → ℕ → Bool
 inPlaces most n bytes = leb n (places most bytes)
 
--- none of these: "the mark for the table is above 1, a count exceeds its table's places .. or the number isn't below the
--- meant table's count". Both counts are looked at, whichever table is meant.
+-- 17 "when the mark for the table is above 1, a count exceeds its table's places .. or the number isn't below the meant
+-- table's count": none of these is so. Both counts are looked at, whichever table is meant.
 abbrev pub answerable : Tables → ℕ → ℕ → Bool
 answerable t mark n =
     leb mark 1
