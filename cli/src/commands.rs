@@ -1,7 +1,7 @@
 //! What each command does: a result to be written, or a failure with nothing written.
 
 use crate::arguments::{wrong, Arguments};
-use crate::automaton::{check, tables, Places, Refusal, ALL_PLACES, MOST_EDGES, MOST_LOCATIONS};
+use crate::automaton::{check, tables, Automaton, Places, Refusal, ALL_PLACES, MOST_EDGES, MOST_LOCATIONS};
 use crate::graph;
 use crate::help;
 use crate::listing::Listing;
@@ -154,6 +154,7 @@ fn show(words: &[String], screen: Screen) -> Result<Done, Failure> {
     let refused = |r: Refusal| refusal::failure(r, &source, ALL_PLACES);
     let tables = tables(&source.records, ALL_PLACES).map_err(refused)?;
     let routine = source.routine().map_err(refused)?;
-    let shown = Show { source: &source, routine: &routine, tables: &tables, style: screen.style }.record(kind, number)?;
-    Ok(Done::printed(shown))
+    let automaton = Automaton::read(&tables);
+    let listing = Listing { source: &source, routine: &routine, automaton: &automaton, style: screen.style };
+    Ok(Done::printed(Show { tables: &tables, listing }.record(kind, number)?))
 }

@@ -1,11 +1,9 @@
 //! One record of an automaton, as the proved library hands it back out of the two tables: in hex and in words.
 
-use crate::automaton::{Automaton, Edge, Location, Tables};
+use crate::automaton::{Edge, Location, Tables};
 use crate::listing::{idle_note, Listing};
-use crate::record::Routine;
 use crate::refusal;
-use crate::source::{Failure, Source, REFUSED};
-use crate::style::Style;
+use crate::source::{Failure, REFUSED};
 
 /// Which table is meant.
 #[derive(Clone, Copy, PartialEq, Eq, Debug)]
@@ -38,25 +36,25 @@ impl Kind {
     }
 }
 
+/// The tables, and the listing of what stands in them for the words.
 pub struct Show<'a> {
-    pub source: &'a Source,
-    pub routine: &'a Routine,
     pub tables: &'a Tables,
-    pub style: Style,
+    pub listing: Listing<'a>,
 }
 
 impl Show<'_> {
     /// The record with this number, or why there is none.
     pub fn record(&self, kind: Kind, number: usize) -> Result<String, Failure> {
         let Tables { locations, edges } = self.tables;
+        let source = self.listing.source;
         let (refused, record) = currantplane::record(locations, edges, self.tables.counts(), kind.mark(), number);
         if refused.number != 0 {
-            let message = refusal::explained(refused, self.source, Some(self.in_use(kind)));
+            let message = refusal::explained(refused, source, Some(self.in_use(kind)));
             return Err(Failure { status: REFUSED, message });
         }
-        let head = format!("{}: {} {number}; {}\n", self.source.name, kind.name(), self.in_use(kind));
+        let head = format!("{}: {} {number}; {}\n", source.name, kind.name(), self.in_use(kind));
         let hex = format!("{:<15}{}\n", "record", refusal::hex(record));
-        Ok(head + &idle_note(self.routine) + &hex + &self.words(kind, number, record))
+        Ok(head + &idle_note(self.listing.routine) + &hex + &self.words(kind, number, record))
     }
 
     /// `the locations are 0 to 19`
@@ -70,14 +68,14 @@ impl Show<'_> {
     }
 
     fn words(&self, kind: Kind, number: usize, record: &[u8]) -> String {
-        let automaton = Automaton::read(self.tables);
-        let listing = Listing { source: self.source, routine: self.routine, automaton: &automaton, style: self.style };
+        let Show { listing, .. } = self;
         match kind {
             Kind::Location => listing.location(number, &Location::read(record)) + &listing.edges(number),
             Kind::Edge => {
-                let edge = Edge::read(record, &automaton.locations);
+                let locations = &listing.automaton.locations;
+                let edge = Edge::read(record, locations);
                 let ends = if edge.from == edge.to { vec![edge.from] } else { vec![edge.from, edge.to] };
-                let drawn = ends.iter().map(|&end| listing.location(end, &automaton.locations[end]));
+                let drawn = ends.iter().map(|&end| listing.location(end, &locations[end]));
                 listing.edge(number, &edge) + &drawn.collect::<String>()
             }
         }

@@ -19,8 +19,8 @@ fn every_record_of_the_examples() {
         let source = Source::of_bytes(name, example(name).into_bytes()).unwrap();
         let (tables, routine) = (tables(&source.records, ALL_PLACES).unwrap(), source.routine().unwrap());
         let automaton = Automaton::read(&tables);
-        let whole = Listing { source: &source, routine: &routine, automaton: &automaton, style: Style::PLAIN }.text();
-        let show = Show { source: &source, routine: &routine, tables: &tables, style: Style::PLAIN };
+        let listing = Listing { source: &source, routine: &routine, automaton: &automaton, style: Style::PLAIN };
+        let (whole, show) = (listing.text(), Show { tables: &tables, listing });
         for (number, record) in tables.locations.chunks(SIZE).enumerate() {
             let shown = show.record(Kind::Location, number).unwrap();
             let (head, words) = shown.split_once(&format!("{}\n", hex(record))).expect("the record in hex");

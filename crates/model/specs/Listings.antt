@@ -68,7 +68,7 @@ pub record Exact (r : Routine) (t : Listing) : Type 0 where
 
 -- One record out of the tables T of a listing: each number below a count is answered with the record of that location
 -- or edge, and no other number is answered.
-pub record Answers (t : Listing) (T : Tables) : Type 0 where
+pub record EachRecord (t : Listing) (T : Tables) : Type 0 where
   pub answered : (mark n : ℕ) → (recordPart T mark n .verdict ≡ isAccepted)
       ↔ ((mark ≤ 1) × (n < meant mark (length (t .locs)) (length (t .links))))
   pub records : (mark n : ℕ) → recordPart T mark n .verdict ≡ isAccepted

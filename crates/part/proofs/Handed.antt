@@ -25,7 +25,7 @@ module _ (t : Tables) (mark n : ℕ) where
 
   pub inside : {table : List ℕ} → answerable t mark n ≡ true → table ≡ meantTable t mark → 32 * n + 32 ≤ length table
   inside e q = rw q (part-inside t mark n
-      (part-accepts t mark n .0 (ap (λ (p : Part). p .verdict) (part-true t mark n e))))
+      (part-accepts t mark n .0 (ap (λ (p : Part). p .verdict) (part-true t mark n e))) .0)
 
   pub handed : {table ps : List ℕ} → answerable t mark n ≡ true → table ≡ meantTable t mark → ps ≡ recordAt table n
       → Handed ps 0 0

@@ -4,7 +4,7 @@ use mathlib.Core.Path.{_≡_}
 use mathlib.Core.Logic.{_↔_, _⊎_}
 use mathlib.Core.List.{List, []}
 use lib.ListN.{length}
-use Rattle.model.specs.Listings.{Answers, Exact}
+use Rattle.model.specs.Listings.{EachRecord, Exact}
 use Rattle.model.specs.Part.{meantCount, meantTable, partBytes, recordPart}
 use Rattle.model.specs.Records.{Refusal, isAccepted, isRefused, recordAt, refusal}
 use Rattle.model.specs.Translate.{Listing, Routine, Tables, check, good, places, tablesOf, translate}
@@ -44,7 +44,7 @@ part-is t mark n = (part-ends t mark n, part-holds t mark n, part-empty t mark n
 -- of that location or edge, and no other number
 abbrev pub PartsOfListing : Type 0
 PartsOfListing = (s : List ℕ) (a b : ℕ) (r : Routine) → check s ≡ good r → translate s a b .verdict ≡ isAccepted
-    → (t : Listing) × Exact r t × (translate s a b .tables ≡ tablesOf a b t) × Answers t (translate s a b .tables)
+    → (t : Listing) × Exact r t × (translate s a b .tables ≡ tablesOf a b t) × EachRecord t (translate s a b .tables)
 
 pub parts-of-listing : PartsOfListing
 parts-of-listing = parts-listed
