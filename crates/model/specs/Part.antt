@@ -1,6 +1,6 @@
 -- 02, job 1, "One record out of two tables": the part of whichever table was meant, for all tables, counts, marks and
 -- numbers. Assumes nothing.
-use Prim.Native.Nat.{ℕ, zero, suc, _*_}
+use Prim.Native.Nat.{ℕ, zero, suc, _+_, _*_}
 use mathlib.Core.Bool.{Bool, true, false, _&&_}
 use mathlib.Core.List.{List}
 use lib.Dec.{leb, ltb}
@@ -46,6 +46,11 @@ recordPart t mark n =
       | true ↦ record { verdict = isAccepted; begins = recordSize * n; size = recordSize }
       | false ↦ record { verdict = isRefused (refusal 17 0); begins = 0; size = 0 }
     ]
+
+-- "as a part of whichever table was meant, not as a copy": what lies n bytes on from p, a place in memory, which is a
+-- block and an offset
+abbrev pub onward : ℕ × ℕ → ℕ → ℕ × ℕ
+onward p n = (p .0, n + p .1)
 
 -- the bytes that stand there
 abbrev pub partBytes : Tables → ℕ → ℕ → List ℕ

@@ -1,11 +1,11 @@
 -- What is handed back where the record is there, and where it is not.
-use Prim.Native.Nat.{_*_, _+_, _≤_, suc, zero, ℕ}
+use Prim.Native.Nat.{_*_, _+_, _-_, _<_, _≤_, suc, zero, ℕ}
 use mathlib.Core.Path.{_≡_, _∙_, ap, refl, sym}
 use mathlib.Core.Bool.{true, false}
-use mathlib.Core.List.{List, []}
-use lib.ListN.{length}
-use Rattle.model.specs.Part.{Part, answerable, meant, meantTable, partBytes, recordPart}
-use Rattle.model.specs.Records.{recordAt}
+use mathlib.Core.List.{List}
+use native.Mathlib.Omega.{arith}
+use lib.ListN.{drop, length, take}
+use Rattle.model.specs.Part.{Part, answerable, meant, meantTable, onward, partBytes, recordPart}
 use Rattle.model.specs.Translate.{Tables}
 use Rattle.model.proofs.listings.Parts.{part-accepts, part-false, part-inside, part-true}
 use Rattle.answers.specs.Numbers.{IsTold}
@@ -19,17 +19,24 @@ meant-edges zero l e h = absurd (h refl)
 meant-edges (suc m) l e h = refl
 
 module _ (t : Tables) (mark n : ℕ) where
-  -- what the contract says of the part ps, the number k and the place p
-  abbrev pub Handed : List ℕ → ℕ → ℕ → Type 0
-  Handed ps k p = (ps ≡ partBytes t mark n) × IsTold (recordPart t mark n .verdict) k p
+  -- what the contract says of the part ps at the place r, where the table lies at q, the number k and the place p
+  abbrev pub Handed : List ℕ → ℕ × ℕ → ℕ × ℕ → ℕ → ℕ → Type 0
+  Handed ps r q k p = (ps ≡ partBytes t mark n)
+      × ((r ≡ onward q (recordPart t mark n .begins)) × IsTold (recordPart t mark n .verdict) k p)
 
-  pub inside : {table : List ℕ} → answerable t mark n ≡ true → table ≡ meantTable t mark → 32 * n + 32 ≤ length table
-  inside e q = rw q (part-inside t mark n
-      (part-accepts t mark n .0 (ap (λ (p : Part). p .verdict) (part-true t mark n e))) .0)
+  pub inside : answerable t mark n ≡ true → (32 * n + 32 ≤ length (meantTable t mark)) × (n < 2048)
+  inside e = part-inside t mark n (part-accepts t mark n .0 (ap (λ (p : Part). p .verdict) (part-true t mark n e)))
 
-  pub handed : {table ps : List ℕ} → answerable t mark n ≡ true → table ≡ meantTable t mark → ps ≡ recordAt table n
-      → Handed ps 0 0
-  handed e q h = rw (part-true t mark n e) (h ∙ ap (λ l. recordAt l n) q, record { number = refl; place = refl })
+  pub handed : {ps : List ℕ} {r : ℕ × ℕ} (q : ℕ × ℕ) → answerable t mark n ≡ true
+      → ps ≡ take (32 * n + 32 - 32 * n) (drop (32 * n) (meantTable t mark)) → r ≡ onward q (32 * n)
+      → Handed ps r q 0 0
+  handed q e h w =
+      let s : 32 * n + 32 - 32 * n ≡ 32 = omega arith in
+      rw (part-true t mark n e) (
+        h ∙ ap (λ k. take k (drop (32 * n) (meantTable t mark))) s,
+        (w, record { number = refl; place = refl }),
+      )
 
-  pub none-handed : answerable t mark n ≡ false → Handed [] 17 0
-  none-handed e = rw (part-false t mark n e) (refl, record { number = refl; place = refl })
+  pub none-handed : {ps : List ℕ} {r : ℕ × ℕ} (q : ℕ × ℕ) → answerable t mark n ≡ false
+      → ps ≡ take 0 (meantTable t mark) → r ≡ onward q 0 → Handed ps r q 17 0
+  none-handed q e h w = rw (part-false t mark n e) (h, (w, record { number = refl; place = refl }))

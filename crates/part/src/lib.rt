@@ -1,11 +1,10 @@
 // One record out of two tables, as a part of whichever table was meant.
 use model::Counts;
 ghost use mathlib.Core.Path.{_≡_};
-ghost use Prim.Native.Nat.{_+_, _*_, _≤_};
-ghost use lib.ListN.{length};
-ghost use Rattle.model.specs.Base.{recordSize};
-ghost use Rattle.model.specs.Part.{answerable, inPlaces, meant, partBytes, recordPart};
-ghost use Rattle.model.specs.Records.{recordAt};
+ghost use Prim.Native.Nat.{_-_, _≤_};
+ghost use lib.ListN.{drop, length, take};
+ghost use denote.Ref.{ptr};
+ghost use Rattle.model.specs.Part.{answerable, inPlaces, meant, onward, partBytes, recordPart};
 ghost use Rattle.model.specs.Structs.{tablesIn};
 ghost use Rattle.answers.specs.Numbers.{IsTold};
 
@@ -37,18 +36,28 @@ fn answerable(locations: &[u8], edges: &[u8], counts: Counts, mark: usize, numbe
     (mark <= 1) & fit & (number < meant_count(counts, mark))
 }
 
-// The part of a table that is its record n.
-fn part_at<'a>(table: &'a [u8], n: usize) -> &'a [u8]
-    requires { ⌜ recordSize * n + recordSize ≤ length (now table) ⌝ }
-    ensures { λ r. ⌜ now r ≡ recordAt (now (table .entry)) n ⌝ }
+// The part of the table that the mark means, from begin to end.
+fn part_of<'a>(
+    locations: &'a [u8],
+    edges: &'a [u8],
+    mark: usize,
+    begin: usize,
+    end: usize,
+) -> &'a [u8]
+    requires { ⌜ (begin ≤ end) × (end ≤ length (meant mark (now locations) (now edges))) ⌝ }
+    ensures { λ r. ⌜ now r
+        ≡ take (end - begin) (drop begin (meant mark (now (locations .entry)) (now (edges .entry)))) ⌝ }
+    ensures { λ r. ⌜ ptr r ≡ onward (meant mark (ptr (locations .entry)) (ptr (edges .entry))) begin ⌝ }
 {
-    let begin = model::RECORD * n;
-    let end = begin + model::RECORD;
-    &table[begin..end]
+    if mark == 0 {
+        return &locations[begin..end];
+    }
+    &edges[begin..end]
 }
 
-// The record with a number, as a part of the table that the mark means: 0 for locations, 1 for edges. Where it is
-// refused the part is empty. The refusal's number, 0 for none, and its place are told beside it.
+// The record with a number, as a part of the table that the mark means: 0 for locations, 1 for edges. It is no copy:
+// it lies in that table, where the record begins. Where it is refused the part is empty. The refusal's number, 0 for
+// none, and its place are told beside it.
 pub fn record_part<'a>(
     locations: &'a [u8],
     edges: &'a [u8],
@@ -60,6 +69,8 @@ pub fn record_part<'a>(
 ) -> &'a [u8]
     ensures part { λ r. ⌜ now r
         ≡ partBytes (tablesIn (now (locations .entry)) (now (edges .entry)) counts) mark number ⌝ }
+    ensures stands { λ r. ⌜ ptr r ≡ onward (meant mark (ptr (locations .entry)) (ptr (edges .entry)))
+        (recordPart (tablesIn (now (locations .entry)) (now (edges .entry)) counts) mark number .begins) ⌝ }
     ensures told { λ r. ⌜ IsTold
         (recordPart (tablesIn (now (locations .entry)) (now (edges .entry)) counts) mark number .verdict)
         (now (refusal .exit)) (now (place .exit)) ⌝ }
@@ -67,11 +78,10 @@ pub fn record_part<'a>(
     *place = 0;
     if !answerable(locations, edges, counts, mark, number) {
         *refusal = 17;
-        return &edges[0..0];
+        return part_of(locations, edges, mark, 0, 0);
     }
     *refusal = 0;
-    if mark == 0 {
-        return part_at(locations, number);
-    }
-    part_at(edges, number)
+    let begin = model::RECORD * number;
+    let end = begin + model::RECORD;
+    part_of(locations, edges, mark, begin, end)
 }

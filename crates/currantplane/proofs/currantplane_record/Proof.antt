@@ -19,7 +19,7 @@ returns c =
     let t = tablesIn (a .locations .now) (a .edges .now)
     (record { locations = a .location-count; edges = a .edge-count }) in
     let part = c .before .before .before .before .record-part .ensures in
-    record-told t (a .table) (a .number) (part .0) (part .1) (c .before .before .tell .ensures)
+    record-told t (a .table) (a .number) (part .0) (part .1 .1) (c .before .before .tell .ensures)
 
 pub currantplane-record-spec : {M : Type 1} → statement M
 currantplane-record-spec =
