@@ -52,6 +52,18 @@ mod raw {
             answer: *mut usize,
             answer_len: usize,
         ) -> u8;
+        pub fn currantplane_record(
+            locations: *const u8,
+            locations_len: usize,
+            edges: *const u8,
+            edges_len: usize,
+            location_count: usize,
+            edge_count: usize,
+            table: usize,
+            number: usize,
+            answer: *mut usize,
+            answer_len: usize,
+        ) -> u8;
     }
 }
 
@@ -138,4 +150,31 @@ pub fn translate(input: &[u8], locations: &mut [u8], edges: &mut [u8]) -> (Refus
     };
     let [place, locations, edges] = answer;
     (Refusal { number, place }, [locations, edges])
+}
+
+/// Which of the two tables is meant: 0 for the locations, 1 for the edges.
+pub const LOCATIONS: usize = 0;
+pub const EDGES: usize = 1;
+
+/// Refusal, and the record with this number: 32 bytes of the table that is meant, where they stand; a refused one has no bytes.
+/// `counts` are the numbers of locations and of edges in use.
+pub fn record<'a>(locations: &'a [u8], edges: &'a [u8], counts: [usize; 2], table: usize, number: usize) -> (Refusal, &'a [u8]) {
+    let mut answer = [usize::MAX; 3];
+    let refusal = unsafe {
+        raw::currantplane_record(
+            locations.as_ptr(),
+            locations.len(),
+            edges.as_ptr(),
+            edges.len(),
+            counts[0],
+            counts[1],
+            table,
+            number,
+            answer.as_mut_ptr(),
+            3,
+        )
+    };
+    let [place, begins, length] = answer;
+    let meant = if table == LOCATIONS { locations } else { edges };
+    (Refusal { number: refusal, place }, &meant[begins..begins + length])
 }

@@ -6,11 +6,12 @@ use std::str::FromStr;
 /// A command's options: which take a value.
 pub type Known = &'static [(&'static str, bool)];
 
-/// A command's file and options.
+/// A command's file, the words after it, and options.
 #[derive(Debug)]
 pub struct Arguments {
     command: String,
     pub file: String,
+    pub words: Vec<String>,
     options: Vec<(&'static str, String)>,
 }
 
@@ -20,13 +21,19 @@ pub fn wrong(command: &str, message: impl std::fmt::Display) -> Failure {
 }
 
 impl Arguments {
+    /// One FILE, and options.
     pub fn read(command: &str, words: &[String], known: Known) -> Result<Arguments, Failure> {
-        let mut files: Vec<&String> = Vec::new();
+        Arguments::read_words(command, words, known, &[])
+    }
+
+    /// One FILE, a word for each name, and options.
+    pub fn read_words(command: &str, words: &[String], known: Known, names: &[&str]) -> Result<Arguments, Failure> {
+        let mut plain: Vec<String> = Vec::new();
         let mut options: Vec<(&'static str, String)> = Vec::new();
         let mut rest = words.iter();
         while let Some(word) = rest.next() {
             if !word.starts_with('-') || word == "-" {
-                files.push(word);
+                plain.push(word.clone());
                 continue;
             }
             let (name, mut value) = match word.split_once('=') {
@@ -47,10 +54,15 @@ impl Arguments {
             }
             options.push((name, value.unwrap_or_default()));
         }
-        match files[..] {
-            [file] => Ok(Arguments { command: command.into(), file: file.clone(), options }),
-            _ => Err(wrong(command, format!("one FILE is needed (`-` for standard input), and {} given", files.len()))),
+        if plain.len() == 1 + names.len() {
+            let file = plain.remove(0);
+            return Ok(Arguments { command: command.into(), file, words: plain, options });
         }
+        let needed = match names {
+            [] => "one FILE is needed (`-` for standard input)".into(),
+            _ => format!("FILE {} are needed", names.join(" ")),
+        };
+        Err(wrong(command, format!("{needed}, and {} given", plain.len())))
     }
 
     pub fn has(&self, name: &str) -> bool {

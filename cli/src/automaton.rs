@@ -22,6 +22,13 @@ pub struct Tables {
     pub edges: Vec<u8>,
 }
 
+impl Tables {
+    /// How many locations and how many edges there are.
+    pub fn counts(&self) -> [usize; 2] {
+        [self.locations.len() / SIZE, self.edges.len() / SIZE]
+    }
+}
+
 /// Asks the proved translator.
 pub fn tables(records: &[u8], places: Places) -> Result<Tables, Refusal> {
     let (mut locations, mut edges) = (vec![0; SIZE * places.locations], vec![0; SIZE * places.edges]);
@@ -47,6 +54,12 @@ pub struct Location {
     pub statement: usize,
     pub fault: u8,
     pub shape: Shape,
+}
+
+impl Location {
+    pub fn read(record: &[u8]) -> Location {
+        Location { statement: record[1] as usize, fault: record[2], shape: Shape::read(record) }
+    }
 }
 
 /// On the counter of a node.
@@ -99,6 +112,21 @@ pub struct Edge {
     pub updates: Vec<Update>,
 }
 
+impl Edge {
+    /// How many updates it has, its target tells.
+    pub fn read(record: &[u8], locations: &[Location]) -> Edge {
+        let pair = |at: usize| u16::from_le_bytes([record[at], record[at + 1]]);
+        let (to, node) = (pair(4) as usize, record[7] as usize);
+        let guard = match record[6] {
+            0 => Guard::Always,
+            1 => Guard::IsOne(node),
+            _ => Guard::AtLeastTwo(node),
+        };
+        let updates = (0..locations[to].shape.count).map(|i| Update::read(pair(8 + 2 * i))).collect();
+        Edge { branch: record[1], from: pair(2) as usize, to, guard, updates }
+    }
+}
+
 #[derive(Clone, Debug)]
 pub struct Automaton {
     pub locations: Vec<Location>,
@@ -107,8 +135,8 @@ pub struct Automaton {
 
 impl Automaton {
     pub fn read(tables: &Tables) -> Automaton {
-        let locations: Vec<Location> = tables.locations.chunks_exact(SIZE).map(read_location).collect();
-        let edges = tables.edges.chunks_exact(SIZE).map(|record| read_edge(record, &locations)).collect();
+        let locations: Vec<Location> = tables.locations.chunks_exact(SIZE).map(Location::read).collect();
+        let edges = tables.edges.chunks_exact(SIZE).map(|record| Edge::read(record, &locations)).collect();
         Automaton { locations, edges }
     }
 
@@ -116,20 +144,4 @@ impl Automaton {
     pub fn leaving(&self, location: usize) -> impl Iterator<Item = (usize, &Edge)> {
         self.edges.iter().enumerate().filter(move |(_, edge)| edge.from == location)
     }
-}
-
-fn read_location(record: &[u8]) -> Location {
-    Location { statement: record[1] as usize, fault: record[2], shape: Shape::read(record) }
-}
-
-fn read_edge(record: &[u8], locations: &[Location]) -> Edge {
-    let pair = |at: usize| u16::from_le_bytes([record[at], record[at + 1]]);
-    let (to, node) = (pair(4) as usize, record[7] as usize);
-    let guard = match record[6] {
-        0 => Guard::Always,
-        1 => Guard::IsOne(node),
-        _ => Guard::AtLeastTwo(node),
-    };
-    let updates = (0..locations[to].shape.count).map(|i| Update::read(pair(8 + 2 * i))).collect();
-    Edge { branch: record[1], from: pair(2) as usize, to, guard, updates }
 }

@@ -1,13 +1,14 @@
 //! What each command does: a result to be written, or a failure with nothing written.
 
 use crate::arguments::{wrong, Arguments};
-use crate::automaton::{check, tables, Places, Refusal, ALL_PLACES, MOST_EDGES, MOST_LOCATIONS};
+use crate::automaton::{check, tables, Automaton, Places, Refusal, ALL_PLACES, MOST_EDGES, MOST_LOCATIONS};
 use crate::graph;
 use crate::help;
 use crate::listing::Listing;
 use crate::record::SIZE;
 use crate::refusal;
 use crate::run::{Options, Run};
+use crate::show::{Kind, Show};
 use crate::source::{bytes, is_records, Failure, Source, REFUSED};
 use crate::style::Style;
 use crate::text;
@@ -51,6 +52,7 @@ pub fn perform(words: &[String], screen: Screen) -> Result<Done, Failure> {
         "disassemble" => disassemble(rest),
         "translate" => translate(rest, screen),
         "run" => run(rest, screen),
+        "show" => show(rest, screen),
         _ => Err(Failure::bad_use(format!("there is no command `{command}`\n{}", help::usage().trim_end()))),
     }
 }
@@ -141,4 +143,18 @@ fn run(words: &[String], screen: Screen) -> Result<Done, Failure> {
     let routine = source.routine().map_err(refused)?;
     let ran = Run { source: &source, routine: &routine, automaton: &automaton, style: screen.style }.go(&options)?;
     Ok(Done { output: ran.text.into_bytes(), file: None, status: if ran.matched { 0 } else { REFUSED } })
+}
+
+fn show(words: &[String], screen: Screen) -> Result<Done, Failure> {
+    let given = Arguments::read_words("show", words, &[], &["location|edge", "NUMBER"])?;
+    let [kind, number] = [&given.words[0], &given.words[1]];
+    let kind = Kind::of(kind).ok_or_else(|| wrong("show", format!("`location` or `edge` is needed, not `{kind}`")))?;
+    let number = number.parse().map_err(|_| wrong("show", format!("NUMBER is a number from 0 on, not `{number}`")))?;
+    let source = Source::open(&given.file)?;
+    let refused = |r: Refusal| refusal::failure(r, &source, ALL_PLACES);
+    let tables = tables(&source.records, ALL_PLACES).map_err(refused)?;
+    let routine = source.routine().map_err(refused)?;
+    let automaton = Automaton::read(&tables);
+    let listing = Listing { source: &source, routine: &routine, automaton: &automaton, style: screen.style };
+    Ok(Done::printed(Show { tables: &tables, listing }.record(kind, number)?))
 }

@@ -1,15 +1,17 @@
 //! Help texts.
 
 const PROVED: &str = "\
-What is proved: every translation, and in `run` every unfolded heap, plain step and folded shape,
-comes from the proved library. What is not proved: this tool, which reads text, takes the edges of
-the automaton in `run`, and prints.
+What is proved: every translation, in `show` the record, and in `run` every unfolded heap, plain
+step and folded shape, comes from the proved library. What is not proved: this tool, which reads
+text, takes the edges of the automaton in `run`, and prints.
 ";
 
 const TOP: &str = "\
 currantplane: translates list routines into counter automata, for people
 
   currantplane translate FILE     the automaton as a listing, in hex, as a graph or as a picture
+  currantplane show FILE location 17
+                                  one location or edge, by its number, in hex and in words
   currantplane run FILE           the routine on a heap and the automaton beside it, step by step
   currantplane assemble FILE      a text to records
   currantplane disassemble FILE   records to a text
@@ -38,6 +40,15 @@ its condition and its updates, the faults, and totals.
   --edges N        the places of the edge table; without it, 2048, which is the most
 
 A refusal is explained: its number, the record or the line, what it means, what to change.
+";
+
+const SHOW: &str = "\
+currantplane show FILE location NUMBER
+currantplane show FILE edge NUMBER
+
+Prints one record of the automaton: in hex, as it stands in its table, and in words. A location is
+shown with the edges that leave it, an edge with the locations at its ends. Numbers are those of the
+listing, from 0; one that is not in use is refused (17), with the numbers that are.
 ";
 
 const RUN: &str = "\
@@ -76,6 +87,7 @@ pub fn of(command: Option<&str>) -> Option<String> {
     let page = match command {
         None | Some("help") => TOP,
         Some("translate") => TRANSLATE,
+        Some("show") => SHOW,
         Some("run") => RUN,
         Some("assemble") => ASSEMBLE,
         Some("disassemble") => DISASSEMBLE,
@@ -86,5 +98,5 @@ pub fn of(command: Option<&str>) -> Option<String> {
 
 /// For a wrong use.
 pub fn usage() -> String {
-    "usage: currantplane translate|run|assemble|disassemble FILE [OPTIONS]\nTry `currantplane help`.\n".into()
+    "usage: currantplane translate|show|run|assemble|disassemble FILE [OPTIONS]\nTry `currantplane help`.\n".into()
 }

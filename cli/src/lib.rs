@@ -14,6 +14,7 @@ pub mod names;
 pub mod record;
 pub mod refusal;
 pub mod run;
+pub mod show;
 pub mod source;
 pub mod style;
 pub mod text;

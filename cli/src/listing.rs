@@ -1,6 +1,6 @@
 //! The listing that a person reads.
 
-use crate::automaton::Automaton;
+use crate::automaton::{Automaton, Edge, Location};
 use crate::drawing::{indented, shape_lines};
 use crate::names;
 use crate::record::{Op, Routine};
@@ -22,7 +22,7 @@ impl Listing<'_> {
         let mut out = self.head();
         for number in 0..self.automaton.locations.len() {
             out.push('\n');
-            out.push_str(&self.location(number));
+            out.push_str(&self.location(number, &self.automaton.locations[number]));
             out.push_str(&self.edges(number));
         }
         out.push('\n');
@@ -42,8 +42,7 @@ impl Listing<'_> {
         out + &idle
     }
 
-    fn location(&self, number: usize) -> String {
-        let location = &self.automaton.locations[number];
+    pub fn location(&self, number: usize, location: &Location) -> String {
         let statement = &self.routine.statements[location.statement];
         let lead = format!("{:<INDENT$}", format!("location {number}"));
         let at = format!("{}: {}", self.source.statement_name(location.statement), names::statement(statement));
@@ -57,7 +56,7 @@ impl Listing<'_> {
         format!("{painted}{start}{at}\n{}", indented(&shape_lines(&location.shape, &self.routine.idle_pointers()), INDENT))
     }
 
-    fn edges(&self, number: usize) -> String {
+    pub fn edges(&self, number: usize) -> String {
         let location = &self.automaton.locations[number];
         let statement = &self.routine.statements[location.statement];
         let conditions = || self.automaton.leaving(number).map(|(_, e)| names::condition(e, statement));
@@ -65,18 +64,31 @@ impl Listing<'_> {
         let mut out = String::new();
         for ((at, edge), condition) in self.automaton.leaving(number).zip(conditions()) {
             let gap = if width > 0 { "  " } else { "" };
-            let lead = format!("{:<INDENT$}{condition:<width$}{gap}to location {}", format!("  edge {at}"), edge.to);
-            let target = &self.automaton.locations[edge.to];
-            if target.fault != 0 {
-                let mark = self.style.bad(&format!("FAULT {}", target.fault));
-                out.push_str(&format!("{lead}, {mark}: {}\n", names::fault_kind(target.fault)));
-                continue;
-            }
-            let updates = with_commas(&names::updates(edge, location.shape.count));
-            let colon = if updates.is_empty() { "" } else { ":" };
-            out.push_str(&fill(&format!("{lead}{colon}"), INDENT + 4, &updates));
+            out.push_str(&self.leads(&format!("{:<INDENT$}{condition:<width$}{gap}", format!("  edge {at}")), edge));
         }
         out
+    }
+
+    /// An edge by itself.
+    pub fn edge(&self, number: usize, edge: &Edge) -> String {
+        let statement = &self.routine.statements[self.automaton.locations[edge.from].statement];
+        let lead = format!("{:<INDENT$}", format!("edge {number}"));
+        let condition = names::condition(edge, statement);
+        let gap = if condition.is_empty() { "" } else { "  " };
+        self.leads(&format!("{}from location {}  {condition}{gap}", self.style.strong(&lead), edge.from), edge)
+    }
+
+    /// Where an edge leads, after what stands before it on the line.
+    fn leads(&self, before: &str, edge: &Edge) -> String {
+        let [from, to] = [edge.from, edge.to].map(|end| &self.automaton.locations[end]);
+        let lead = format!("{before}to location {}", edge.to);
+        if to.fault != 0 {
+            let mark = self.style.bad(&format!("FAULT {}", to.fault));
+            return format!("{lead}, {mark}: {}\n", names::fault_kind(to.fault));
+        }
+        let updates = with_commas(&names::updates(edge, from.shape.count));
+        let colon = if updates.is_empty() { "" } else { ":" };
+        fill(&format!("{lead}{colon}"), INDENT + 4, &updates)
     }
 
     fn totals(&self) -> String {

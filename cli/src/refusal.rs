@@ -6,7 +6,7 @@ use crate::source::{Failure, Source, REFUSED};
 use crate::style::paragraph;
 
 /// What each number from 1 on means, and what to change.
-const MEANINGS: [(&str, &str); 16] = [
+const MEANINGS: [(&str, &str); 17] = [
     (
         "the input is empty, or its length is no multiple of 32 bytes",
         "records have 32 bytes each and no header: complete the last one or cut it off",
@@ -50,6 +50,7 @@ const MEANINGS: [(&str, &str); 16] = [
         "a pick is neither 0 nor 1, or no cell is left for new",
         "give only 0 and 1 to --picks, or fewer cells to --heap, which has 240 in all",
     ),
+    ("no record of the table that is meant has this number", "give a number that is in use; `translate` lists them all"),
 ];
 
 /// What a number means and what to change.
@@ -63,11 +64,16 @@ pub fn failure(refusal: Refusal, source: &Source, places: Places) -> Failure {
 
 /// The explanation of a refusal, which tables of so many places may have caused.
 pub fn words(refusal: Refusal, source: &Source, places: Places) -> String {
+    explained(refusal, source, here(refusal, source, places))
+}
+
+/// The explanation of a refusal with what is wrong in this case.
+pub fn explained(refusal: Refusal, source: &Source, here: Option<String>) -> String {
     let (means, change) = meaning(refusal.number);
     let mut out = format!("{}: refused {}{}\n", source.name, refusal.number, place_words(refusal, source));
     out.push_str(&lines_of(refusal, source));
     out.push_str(&paragraph("  meaning: ", 11, means));
-    if let Some(here) = here(refusal, source, places) {
+    if let Some(here) = here {
         out.push_str(&paragraph("  here:    ", 11, &here));
     }
     out + &paragraph("  change:  ", 11, change)

@@ -20,7 +20,7 @@ fn exit_statuses() {
     assert_eq!(status(&["disassemble", "examples/tortoise.records"], b""), 0);
     assert_eq!(status(&["disassemble", "-"], &[0; 32]), 1);
     assert_eq!(status(&["translate", "examples/leak.txt", "--locations", "1024", "--edges=2048"], b""), 0);
-    let wrong: [&[&str]; 16] = [
+    let wrong: [&[&str]; 21] = [
         &[],
         &["translat", "-"],
         &["translate"],
@@ -36,6 +36,11 @@ fn exit_statuses() {
         &["translate", "examples/reverse.txt", "--edges", "-1"],
         &["assemble", "examples/reverse.records"],
         &["disassemble", "examples/reverse.txt"],
+        &["show", "examples/reverse.txt"],
+        &["show", "examples/reverse.txt", "edge", "1", "2"],
+        &["show", "examples/reverse.txt", "statement", "1"],
+        &["show", "examples/reverse.txt", "edge", "one"],
+        &["show", "examples/reverse.txt", "edge", "-1"],
         &["help", "me"],
     ];
     for words in wrong {
@@ -56,6 +61,7 @@ fn help_says_what_is_proved() {
         vec!["run", "--help"],
         vec!["help", "assemble"],
         vec!["disassemble", "-h"],
+        vec!["help", "show"],
     ] {
         let done = tool(&words, b"");
         let said = text(&done.stdout);

@@ -6,6 +6,7 @@ use crate::calls::{fold, step, unfold, Stepped};
 use crate::heap::POINTERS;
 use crate::help;
 use crate::input::Refusal;
+use crate::part::record_part;
 use crate::records::{hex, NULL, RECORD, UNUSED};
 use crate::selftest;
 use crate::text::{write_counters, write_record, write_values, Lines};
@@ -63,8 +64,9 @@ fn dispatch(words: &[String], input: &mut dyn Read) -> Result<Answer, String> {
         ["fold"] => run_fold(&read_all(input)?),
         ["unfold"] => run_unfold(&read_all(input)?),
         ["step"] => run_step(&read_all(input)?),
+        ["record"] => run_record(&read_all(input)?),
         ["selftest", ..] => run_selftest(&words[1..]),
-        ["translate" | "fold" | "unfold" | "step", word, ..] => {
+        ["translate" | "fold" | "unfold" | "step" | "record", word, ..] => {
             Err(format!("'{word}' is not expected; see 'reference {} --help'", words[0]))
         }
         [command, ..] => Err(format!("no command '{command}'; see 'reference --help'")),
@@ -77,6 +79,7 @@ fn help_of(command: &str) -> Result<Answer, String> {
         "fold" => help::FOLD.to_string() + help::TEXT,
         "unfold" => help::UNFOLD.to_string() + help::TEXT,
         "step" => help::STEP.to_string() + help::TEXT,
+        "record" => help::RECORD.to_string(),
         "selftest" => help::SELFTEST.to_string(),
         _ => return Err(format!("no command '{command}'; see 'reference --help'")),
     };
@@ -153,6 +156,29 @@ fn run_step(input: &[u8]) -> Result<Answer, String> {
         Stepped::Moved { branch, next } => format!("moved {branch} {next}\n"),
     };
     result(first + &write_heap(&pointers, &cells))
+}
+
+fn run_record(input: &[u8]) -> Result<Answer, String> {
+    let names = ["locations", "edges", "counts", "table", "number"];
+    let lines = Lines::read(input, &names)?;
+    let locations = lines.table("locations")?;
+    let edges = lines.table("edges")?;
+    let [location_count, edge_count] = lines.two_numbers("counts")?.map(as_size);
+    let table = as_size(lines.number("table")?);
+    let number = as_size(lines.number("number")?);
+    let part = match record_part(&locations, &edges, location_count, edge_count, table, number) {
+        Ok(part) => part,
+        Err(refusal) => return refused(refusal),
+    };
+    let meant = if table == 0 { &locations } else { &edges };
+    // From the addresses, so that it tells where the part does stand.
+    let begin = part.as_ptr() as usize - meant.as_ptr() as usize;
+    result(format!("part {begin} {}\n", part.len()) + &write_record("record", part))
+}
+
+/// A number that no size can hold is refused like the largest size.
+fn as_size(number: u64) -> usize {
+    usize::try_from(number).unwrap_or(usize::MAX)
 }
 
 fn write_heap(pointers: &[u8], cells: &[u8]) -> String {

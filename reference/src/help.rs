@@ -10,11 +10,12 @@ commands:
   fold        a heap to its shape and counters
   unfold      a shape and counters to a heap
   step        one statement of the plain machine on a heap
+  record      one record out of the tables of locations and edges
   selftest    random tests of all of the above
 
 reference COMMAND --help tells more of a command.
 
-The first four read standard input. Exit status: 0 for a result, 1 for a
+The first five read standard input. Exit status: 0 for a result, 1 for a
 refusal (or a selftest that fails), 2 for wrong usage or bad text.
 ";
 
@@ -73,7 +74,26 @@ and then the heap afterwards:
 or one line 'refused NUMBER PLACE'.
 ";
 
-/// What the text commands have in common.
+pub const RECORD: &str = "\
+usage: reference record < FILE
+
+Reads both tables, the counts in use, which table is meant, and a number:
+  locations HEX         the bytes of the locations, or nothing
+  edges HEX             the bytes of the edges, or nothing
+  counts NUMBER NUMBER  the locations and the edges in use
+  table NUMBER          0 for the locations, 1 for the edges
+  number NUMBER         the number of the record, from 0
+The numbers are below 2^64. Prints where the record stands in its table, and
+the record:
+  part BEGIN LENGTH
+  record HEX
+or one line 'refused NUMBER PLACE'.
+
+Text: one line for each name, in any order. Blank lines, and what follows a
+'#', are skipped.
+";
+
+/// What the text commands on heaps have in common.
 pub const TEXT: &str = "
 Text: one line for each name, in any order. A VALUE is a number from 0 to 252,
 'null', 'undef' or 'unused'. Blank lines, and what follows a '#', are skipped.
@@ -84,6 +104,6 @@ usage: reference selftest [--seed NUMBER] [--routines NUMBER]
 
 Tests random routines, heaps and runs, from a fixed seed unless another one is
 given. Prints what was counted. Fails, with exit status 1, if anything differs
-or if some refusal from 1 to 16 or fault from 1 to 3 was never met; a few
+or if some refusal from 1 to 17 or fault from 1 to 3 was never met; a few
 hundred routines are enough to meet them all. The default is 12,000 routines.
 ";

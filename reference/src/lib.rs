@@ -5,9 +5,9 @@
 //! with small counters into a heap, runs the plain machine on that heap,
 //! folds the result, and infers the edges from several such probes.
 //!
-//! The calls are [`translate`], [`fold`], [`unfold`] and [`step`]. None of
-//! them panics, whatever the bytes and lengths are; each refuses by number and
-//! place.
+//! The calls are [`translate`], [`fold`], [`unfold`], [`step`] and
+//! [`record_part`]. None of them panics, whatever the bytes, lengths and
+//! numbers are; each refuses by number and place.
 
 mod automaton;
 mod calls;
@@ -18,6 +18,7 @@ mod help;
 mod image;
 mod input;
 mod machine;
+mod part;
 mod probe;
 mod random;
 mod records;
@@ -30,4 +31,5 @@ mod unfold;
 
 pub use calls::{fold, step, unfold, Folded, Stepped};
 pub use input::Refusal;
+pub use part::record_part;
 pub use translate::{translate, Translated};

@@ -1,4 +1,4 @@
-//! The line-based text form of heaps, records and counters.
+//! The line-based text form of heaps, records, tables and counters.
 
 use std::str::FromStr;
 
@@ -64,6 +64,16 @@ impl<'a> Lines<'a> {
         line.check(from_hex(line.only_word()?))
     }
 
+    /// The bytes of a line of hex digits, of which there may be none.
+    pub fn table(&self, name: &str) -> Result<Vec<u8>, String> {
+        let line = self.line(name)?;
+        match line.words[..] {
+            [] => Ok(Vec::new()),
+            [word] => line.check(from_hex(word)),
+            _ => line.check(Err(format!("'{name}' is followed by at most one word"))),
+        }
+    }
+
     /// The only number of a line.
     pub fn number(&self, name: &str) -> Result<u64, String> {
         let line = self.line(name)?;
@@ -76,6 +86,15 @@ impl<'a> Lines<'a> {
             self.number(name)
         } else {
             Ok(0)
+        }
+    }
+
+    /// The only two numbers of a line.
+    pub fn two_numbers(&self, name: &str) -> Result<[u64; 2], String> {
+        let line = self.line(name)?;
+        match line.words[..] {
+            [first, second] => Ok([line.check(number(first))?, line.check(number(second))?]),
+            _ => line.check(Err(format!("'{name}' is followed by exactly two words"))),
         }
     }
 
@@ -200,5 +219,18 @@ mod tests {
         assert!(error(b"counters\nrecord 123").starts_with("line 2: '123' is not made of pairs"));
         assert!(error(b"counters\nrecord 00 00").starts_with("line 2: 'record' is followed by"));
         assert_eq!(error(b"counters 1"), "no line 'record'");
+    }
+
+    #[test]
+    fn tables_and_pairs_of_numbers() {
+        let names = ["locations", "edges", "counts"];
+        let lines = Lines::read(b"counts 0 18446744073709551615\nedges\nlocations 00fF7a", &names).unwrap();
+        assert_eq!(lines.table("locations"), Ok(vec![0, 0xff, 0x7a]));
+        assert_eq!(lines.table("edges"), Ok(vec![]));
+        assert_eq!(lines.two_numbers("counts"), Ok([0, u64::MAX]));
+        let lines = Lines::read(b"locations 0\nedges 00 00\ncounts 1", &names).unwrap();
+        assert_eq!(lines.table("locations"), Err("line 1: '0' is not made of pairs of hex digits".to_string()));
+        assert_eq!(lines.table("edges"), Err("line 2: 'edges' is followed by at most one word".to_string()));
+        assert_eq!(lines.two_numbers("counts"), Err("line 3: 'counts' is followed by exactly two words".to_string()));
     }
 }

@@ -26,8 +26,8 @@ pub struct Translated {
 /// Translates a routine into the two lent tables. Every byte of them is
 /// written: the records, then zeros; on a refusal zeros alone.
 pub fn translate(input: &[u8], locations: &mut [u8], edges: &mut [u8]) -> Translated {
-    let location_places = LOCATIONS.min(locations.len() / RECORD);
-    let edge_places = EDGES.min(edges.len() / RECORD);
+    let location_places = places(locations, LOCATIONS);
+    let edge_places = places(edges, EDGES);
     locations.fill(0);
     edges.fill(0);
     let listing = read_routine(input).and_then(|routine| explore(&routine, location_places, edge_places));
@@ -39,6 +39,11 @@ pub fn translate(input: &[u8], locations: &mut [u8], edges: &mut [u8]) -> Transl
         }
         Err(Refusal { number, place }) => Translated { refusal: number, place, locations: 0, edges: 0 },
     }
+}
+
+/// The places of a table that has at most so many.
+pub fn places(table: &[u8], most: usize) -> usize {
+    most.min(table.len() / RECORD)
 }
 
 fn copy_records(records: &[Record], table: &mut [u8]) {

@@ -2,63 +2,8 @@
 
 mod common;
 
+use common::program::*;
 use common::*;
-use std::io::Write;
-use std::process::{Command, Stdio};
-use std::thread::sleep;
-use std::time::Duration;
-
-struct Ran {
-    status: i32,
-    output: String,
-    errors: String,
-}
-
-/// Runs the program, writing the input in pieces of this size.
-fn run_in_pieces(words: &[&str], input: &[u8], piece: usize) -> Ran {
-    let mut child = Command::new(env!("CARGO_BIN_EXE_reference"))
-        .args(words)
-        .stdin(Stdio::piped())
-        .stdout(Stdio::piped())
-        .stderr(Stdio::piped())
-        .spawn()
-        .expect("the program runs");
-    let mut pipe = child.stdin.take().expect("a pipe");
-    for bytes in input.chunks(piece.max(1)) {
-        // The program may have read all that it wants.
-        if pipe.write_all(bytes).and_then(|_| pipe.flush()).is_err() {
-            break;
-        }
-        if piece == 1 {
-            sleep(Duration::from_micros(200));
-        }
-    }
-    drop(pipe);
-    let output = child.wait_with_output().expect("the program ends");
-    Ran {
-        status: output.status.code().expect("an exit status"),
-        output: String::from_utf8(output.stdout).expect("plain text"),
-        errors: String::from_utf8(output.stderr).expect("plain text"),
-    }
-}
-
-fn run(words: &[&str], input: &[u8]) -> Ran {
-    run_in_pieces(words, input, 1 << 16)
-}
-
-#[track_caller]
-fn check(words: &[&str], input: &[u8], status: i32, output: &str) {
-    let ran = run(words, input);
-    assert_eq!(ran.output, output);
-    assert_eq!((ran.status, &ran.errors[..]), (status, ""));
-}
-
-#[track_caller]
-fn check_wrong(words: &[&str], input: &[u8], message: &str) {
-    let ran = run(words, input);
-    assert_eq!((ran.status, &ran.output[..]), (2, ""));
-    assert!(ran.errors.contains(message), "{}", ran.errors);
-}
 
 fn p1() -> Vec<u8> {
     input(&[s(7, 0, 0, 1, 0), stop(), h(pointers(&[0]), &[NULL])])
@@ -237,6 +182,7 @@ fn wrong_usage() {
     check_wrong(&["help", "fly"], b"", "no command 'fly'");
     check_wrong(&["translate", "x"], b"", "'x' is not expected");
     check_wrong(&["fold", "x"], b"", "reference fold --help");
+    check_wrong(&["record", "x"], b"", "reference record --help");
     check_wrong(&["selftest", "--seed"], b"", "--seed asks for a number");
     check_wrong(&["selftest", "--seed", "x"], b"", "--seed asks for a number");
     check_wrong(&["selftest", "--speed", "1"], b"", "no option '--speed'");
@@ -246,7 +192,7 @@ fn wrong_usage() {
 fn help_tells_of_every_command() {
     let general = run(&["--help"], b"");
     assert_eq!(general.status, 0);
-    for command in ["translate", "fold", "unfold", "step", "selftest"] {
+    for command in ["translate", "fold", "unfold", "step", "record", "selftest"] {
         assert!(general.output.contains(&format!("  {command} ")));
         let own = run(&[command, "--help"], b"");
         assert_eq!(own.status, 0);

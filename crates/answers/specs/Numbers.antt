@@ -12,7 +12,7 @@ over xs l = take (length l) xs ++ drop (length xs) l
 
 -- three numbers at the first three places of a list; `set` past its end changes nothing
 abbrev pub told : List ℕ → ℕ → ℕ → ℕ → List ℕ
-told xs place locations edges = set (set (set xs 0 place) 1 locations) 2 edges
+told xs place first second = set (set (set xs 0 place) 1 first) 2 second
 
 -- how a call ended, as the number n of a refusal and its place p
 pub record IsTold (v : Verdict) (n p : ℕ) : Type 0 where

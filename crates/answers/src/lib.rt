@@ -1,4 +1,4 @@
-// The answers of the four calls in numbers, written over the start of what the caller lends, as far as it reaches.
+// The answers of the calls in numbers, written over the start of what the caller lends, as far as it reaches.
 use model::Ended;
 use model::Stepped;
 ghost use mathlib.Core.Path.{_≡_};
@@ -44,13 +44,13 @@ fn tell_one(answer: &mut [usize], i: usize, n: usize)
     }
 }
 
-// Puts a refusal's place and the two counts at the first three places of the answer.
-pub fn tell(answer: &mut [usize], place: usize, locations: usize, edges: usize)
-    ensures { λ _. ⌜ now (answer .exit) ≡ told (now (answer .entry)) place locations edges ⌝ }
+// Puts a refusal's place and two numbers more at the first three places of the answer.
+pub fn tell(answer: &mut [usize], place: usize, first: usize, second: usize)
+    ensures { λ _. ⌜ now (answer .exit) ≡ told (now (answer .entry)) place first second ⌝ }
 {
     tell_one(answer, 0, place);
-    tell_one(answer, 1, locations);
-    tell_one(answer, 2, edges);
+    tell_one(answer, 1, first);
+    tell_one(answer, 2, second);
 }
 
 // Answers a refusal's number, 0 for none, and writes its place.

@@ -1,16 +1,19 @@
 -- The contract of each call from the answer of the function that it calls.
-use Prim.Native.Nat.{ℕ}
+use Prim.Native.Nat.{ℕ, _*_, _≤_}
 use mathlib.Core.Path.{_≡_, ap, refl, subst, sym, _∙_}
 use mathlib.Core.List.{List}
+use lib.ListN.{length}
 use Rattle.model.specs.Answers.{refusalOf, stepNumbers}
 use Rattle.model.specs.Image.{Folding, Stepping, Unfolding, stepVerdict}
+use Rattle.model.specs.Part.{partBytes, recordPart}
 use Rattle.model.specs.Records.{Verdict}
 use Rattle.model.specs.Runs.{Demand3}
-use Rattle.model.specs.Translate.{Outcome, translate}
+use Rattle.model.specs.Translate.{Outcome, Tables, translate}
 use Rattle.model.proofs.runs.Demand.{demand-three}
 use Rattle.model.proofs.listings.Outcomes.{zero-accepted}
+use Rattle.model.proofs.listings.Parts.{part-begins, part-length, part-low}
 use Rattle.answers.specs.Numbers.{IsTold, over, told}
-use Rattle.currantplane.specs.Calls.{IsFolded, IsStepped, IsTranslated, IsUnfolded}
+use Rattle.currantplane.specs.Calls.{IsFolded, IsRecord, IsStepped, IsTranslated, IsUnfolded}
 
 pub outcome-told : {s : List ℕ} {a b : ℕ} {xs ys : List ℕ} {u : Outcome} → u ≡ translate s a b
     → ys ≡ told xs (refusalOf (u .verdict) .place) (u .tables .locCount) (u .tables .edgeCount)
@@ -23,6 +26,27 @@ outcome-told {s} {a} {b} {xs} {ys} {u} e p = record {
   edges = ap (λ x. x .tables .edgeBytes) e;
   automaton = λ z. demand-three s a b (zero-accepted s a b (sym (ap (λ x. refusalOf (x .verdict) .number) e) ∙ z));
 }
+
+-- a part that is handed back, told by where it begins and its length
+pub record-told : (t : Tables) (mark n : ℕ) {k p : ℕ} {ps xs ys : List ℕ} → ps ≡ partBytes t mark n
+    → IsTold (recordPart t mark n .verdict) k p → ys ≡ told xs p (n * length ps) (length ps)
+    → IsRecord (recordPart t mark n) xs k ys
+record-told t mark n {k} {p} {ps} {xs} e v y =
+    let l = ap length e ∙ part-length t mark n in
+    record {
+      number = v .number;
+      answer = y ∙ ap (λ p. told xs p (n * length ps) (length ps)) (v .place)
+          ∙ ap (λ s. told xs (refusalOf (recordPart t mark n .verdict) .place) (n * s) s) l
+          ∙ ap (λ b. told xs (refusalOf (recordPart t mark n .verdict) .place) b (recordPart t mark n .size))
+          (part-begins t mark n);
+    }
+
+-- the product that is told is small
+pub record-small : (t : Tables) (mark n : ℕ) {ps : List ℕ} → ps ≡ partBytes t mark n → n * length ps ≤ 65536
+record-small t mark n {ps} e =
+    let h : n * length ps ≡ recordPart t mark n .begins =
+    ap (λ l. n * length l) e ∙ ap (λ s. n * s) (part-length t mark n) ∙ part-begins t mark n in
+    rw h (part-low t mark n)
 
 pub folded-as : {f g : Folding} {n p : ℕ} {r r₀ vs vs₀ : List ℕ} → f ≡ g
     → IsFolded f n p r r₀ vs vs₀ → IsFolded g n p r r₀ vs vs₀

@@ -4,6 +4,7 @@ use mathlib.Core.Path.{_≡_}
 use mathlib.Core.List.{List}
 use Rattle.model.specs.Answers.{refusalOf, stepNumbers}
 use Rattle.model.specs.Image.{Folding, Stepping, Unfolding, stepVerdict}
+use Rattle.model.specs.Part.{Part}
 use Rattle.model.specs.Runs.{IsRoutineOf}
 use Rattle.model.specs.Translate.{translate}
 use Rattle.answers.specs.Numbers.{IsTold, over, told}
@@ -18,6 +19,12 @@ pub record IsTranslated (s : List ℕ) (a b : ℕ) (xs : List ℕ) (r : ℕ) (ys
   pub locations : ls ≡ translate s a b .tables .locBytes
   pub edges : es ≡ translate s a b .tables .edgeBytes
   pub automaton : r ≡ 0 → IsRoutineOf s (translate s a b .tables)
+
+-- a record looked up, with the refusal r and the answer before (xs) and after (ys): the place, and where the part
+-- begins in the table that was meant, and its length
+pub record IsRecord (p : Part) (xs : List ℕ) (r : ℕ) (ys : List ℕ) : Type 0 where
+  pub number : r ≡ refusalOf (p .verdict) .number
+  pub answer : ys ≡ told xs (refusalOf (p .verdict) .place) (p .begins) (p .size)
 
 -- a fold with the refusal n at place p, the record r where r₀ stood, and the counters vs where vs₀ stood
 pub record IsFolded (f : Folding) (n p : ℕ) (r r₀ vs vs₀ : List ℕ) : Type 0 where

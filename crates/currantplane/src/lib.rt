@@ -7,10 +7,13 @@ use answers::step_ended;
 use answers::step_numbers;
 use answers::tell;
 use answers::tell_ended;
+use model::Counts;
 use model::Translated;
 ghost use lib.ListN.{length};
 ghost use Rattle.model.specs.Image.{foldImage, stepImage, unfoldImage};
-ghost use Rattle.currantplane.specs.Calls.{IsFolded, IsStepped, IsTranslated, IsUnfolded};
+ghost use Rattle.model.specs.Part.{recordPart};
+ghost use Rattle.model.specs.Structs.{tablesIn};
+ghost use Rattle.currantplane.specs.Calls.{IsFolded, IsRecord, IsStepped, IsTranslated, IsUnfolded};
 
 // Writes the refusal's place, the number of locations and the number of edges over `answer`.
 #[no_mangle]
@@ -36,6 +39,44 @@ pub extern "C" fn currantplane_translate(
             number
         }
     }
+}
+
+// The record with a number out of two tables: `table` is 0 for locations and 1 for edges. Writes the refusal's place,
+// where the record begins in its table, and its length over `answer`, so that it is read where it stands.
+#[no_mangle]
+pub extern "C" fn currantplane_record<'a>(
+    locations: &'a [u8],
+    edges: &'a [u8],
+    location_count: usize,
+    edge_count: usize,
+    table: usize,
+    number: usize,
+    answer: &mut [usize],
+) -> u8
+    ensures { λ r. ⌜ IsRecord
+        (recordPart (tablesIn (now (locations .entry)) (now (edges .entry))
+        (record { locations = «location_count»; edges = «edge_count» })) table number)
+        (now (answer .entry)) r (now (answer .exit)) ⌝ }
+{
+    let counts = Counts {
+        locations: location_count,
+        edges: edge_count,
+    };
+    let mut refusal = 0;
+    let mut place = 0;
+    let part = part::record_part(
+        locations,
+        edges,
+        counts,
+        table,
+        number,
+        &mut refusal,
+        &mut place,
+    );
+    // an empty part begins at 0
+    let size = part.len();
+    tell(answer, place, number * size, size);
+    refusal
 }
 
 #[no_mangle]

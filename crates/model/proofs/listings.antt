@@ -7,3 +7,4 @@ pub mod Once
 pub mod Moves
 pub mod FullListing
 pub mod Outcomes
+pub mod Parts

@@ -3,4 +3,5 @@ pub mod Promises
 pub mod PromisesShapes
 pub mod PromisesListings
 pub mod PromisesRuns
+pub mod PromisesTables
 pub mod Shelf

@@ -6,6 +6,7 @@ pub mod Edges
 pub mod Records
 pub mod Translate
 pub mod Image
+pub mod Part
 pub mod Answers
 pub mod Runs
 pub mod Structs

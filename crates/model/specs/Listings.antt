@@ -2,7 +2,7 @@
 -- a listing holds, where one has no place, what is wrong with an input, and what a record can hold.
 use Prim.Native.Nat.{_%_, _/_, _<_, _≤_, suc, zero, ℕ}
 use mathlib.Core.Path.{_≡_}
-use mathlib.Core.Logic.{_⊎_}
+use mathlib.Core.Logic.{_↔_, _⊎_}
 use mathlib.Core.Bool.{Bool, _&&_, _||_, cond, false, not, true}
 use mathlib.Core.List.{List, [], _++_, _∷_, map}
 use lib.Dec.{eqb}
@@ -11,9 +11,10 @@ use Rattle.model.specs.Base.{any, count, joined, numbers, placeOf, mostN
 use Rattle.model.specs.Edges.{Edge, Loc, at, edgesOf, failed, sameLoc}
 use Rattle.model.specs.Heap.{Heap, Slot, Val, cell, holds, null, order, undef, unused}
 use Rattle.model.specs.Machine.{Op, Stmt, choose, clear, copy, free, isNull, leak, load, new, same, setNull, skip, stop, store}
-use Rattle.model.specs.Records.{Refusal, isH, isS, refusal, refusalH, refusalS, usesFirst, usesSecond}
+use Rattle.model.specs.Records.{Refusal, isAccepted, isH, isS, locRecord, refusal, refusalH, refusalS, usesFirst, usesSecond}
+use Rattle.model.specs.Part.{meant, partBytes, recordPart}
 use Rattle.model.specs.Runs.{added}
-use Rattle.model.specs.Translate.{Link, Listing, Routine, addEdges, between, chunks, explore, full, grown, listed, routineOf}
+use Rattle.model.specs.Translate.{Link, Listing, Routine, Tables, addEdges, between, chunks, explore, full, grown, linkRecord, listed, routineOf}
 use Rattle.model.specs.Notions.{Distinct, In, Canon}
 
 -- ---- what a listing holds
@@ -64,6 +65,14 @@ pub record Exact (r : Routine) (t : Listing) : Type 0 where
   pub complete : (l : Loc) → Reached (r .stmts) (r .starts) l → In l (t .locs)
   pub links : t .links ≡ joined (map (linksFrom (r .stmts) (t .locs)) (numbers 0 (length (t .locs))))
   pub order : t .locs ≡ firsts (map (at 0) (r .starts) ++ map linkTarget (t .links))
+
+-- One record out of the tables T of a listing: each number below a count is answered with the record of that location
+-- or edge, and no other number is answered.
+pub record EachRecord (t : Listing) (T : Tables) : Type 0 where
+  pub answered : (mark n : ℕ) → (recordPart T mark n .verdict ≡ isAccepted)
+      ↔ ((mark ≤ 1) × (n < meant mark (length (t .locs)) (length (t .links))))
+  pub records : (mark n : ℕ) → recordPart T mark n .verdict ≡ isAccepted
+      → partBytes T mark n ≡ meant mark (locRecord (locAt (t .locs) n)) (linkRecord (linkAt t n))
 
 -- ---- places
 

@@ -7,6 +7,8 @@ use Rattle.model.specs.Base.{mostNodes}
 use Rattle.model.specs.Edges.{Edge, Guard, isMore, isOne}
 use Rattle.model.specs.Machine.{Op, Stmt}
 use Rattle.model.specs.Records.{byte, guardBytes, locRecord, opOf, updateCode}
+use Rattle.model.specs.Translate.{Tables}
+use Rattle.model.specs.declared.Counts.{Counts}
 use Rattle.model.specs.declared.Decoded.{Decoded}
 use Rattle.model.specs.declared.EdgeMade.{EdgeMade}
 use Rattle.model.specs.declared.Guards.{Guards}
@@ -28,6 +30,12 @@ opIn d = opOf (d .op) (d .u .0) (d .w .0)
 
 abbrev pub stmtIn : Decoded → Stmt
 stmtIn d = record { op = opIn d; firstTarget = d .first .0; secondTarget = d .second .0 }
+
+-- ---- the counts of the two tables
+
+-- the two tables as a reader has them, with their counts in use
+abbrev pub tablesIn : List ℕ → List ℕ → Counts → Tables
+tablesIn ls es c = record { locBytes = ls; edgeBytes = es; locCount = c .locations; edgeCount = c .edges }
 
 -- ---- guards
 

@@ -21,7 +21,7 @@ pub struct Counts {
     /// The most nodes of one heap.
     pub nodes: u64,
     pub faults: [u64; 4],
-    pub refusals: [u64; 17],
+    pub refusals: [u64; 18],
 }
 
 impl Counts {

@@ -7,6 +7,7 @@ mod draws;
 mod exact;
 mod images;
 mod mutate;
+mod parts;
 mod refusals;
 mod runs;
 mod tables;
@@ -27,6 +28,8 @@ pub const ROUTINES: u64 = 12_000;
 /// which refusal or fault was never met.
 pub fn run(seed: u64, routines: u64) -> Result<Counts, String> {
     let mut random = Random::new(seed);
+    // What a seed draws elsewhere does not hang on the parts.
+    let mut part_random = Random::new(!seed);
     let mut counts = Counts::default();
     for number in 0..routines {
         let drawn = random_routine(&mut random);
@@ -35,7 +38,7 @@ pub fn run(seed: u64, routines: u64) -> Result<Counts, String> {
             let input = hex(&input);
             format!("seed {seed}, routine {number}: {difference}\nits records: {input}")
         };
-        test_routine(&mut random, &mut counts, &input).map_err(told)?;
+        test_routine(&mut random, &mut part_random, &mut counts, &input).map_err(told)?;
         mutate::test(&mut random, &mut counts, &drawn, number).map_err(told)?;
         images::test(&mut random, &mut counts, number)
             .map_err(|difference| format!("seed {seed}, heap {number}: {difference}"))?;
@@ -47,7 +50,7 @@ pub fn run(seed: u64, routines: u64) -> Result<Counts, String> {
 }
 
 /// Everything about one input that passes the checks.
-fn test_routine(random: &mut Random, counts: &mut Counts, input: &[u8]) -> Result<(), String> {
+fn test_routine(random: &mut Random, part_random: &mut Random, counts: &mut Counts, input: &[u8]) -> Result<(), String> {
     counts.routines += 1;
     let routine = read_routine(input).map_err(|refusal| format!("a sound routine is refused: {refusal:?}"))?;
     let Some(full) = tables::translate_full(random, counts, input)? else {
@@ -61,6 +64,7 @@ fn test_routine(random: &mut Random, counts: &mut Counts, input: &[u8]) -> Resul
     counts.largest = counts.largest.max(automaton.locations.len() as u64);
     exact::test(&automaton, &routine)?;
     tables::test_short_tables(random, counts, input, &full, routine.shapes.len(), &automaton)?;
+    parts::test(part_random, counts, &full)?;
     for _ in 0..3 {
         runs::follow_the_routine(random, counts, &routine, &automaton)?;
         runs::follow_the_edges(random, counts, &routine, &automaton)?;

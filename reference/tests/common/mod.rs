@@ -2,6 +2,8 @@
 
 #![allow(dead_code)]
 
+pub mod program;
+
 use reference::{translate, Refusal, Translated};
 
 pub type Record = [u8; 32];

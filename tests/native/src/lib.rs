@@ -2,4 +2,4 @@
 
 pub mod draw;
 
-pub use currantplane::{fold, step, translate, unfold, Refusal};
+pub use currantplane::{fold, record, step, translate, unfold, Refusal};

@@ -12,7 +12,7 @@ returns c =
     let one = two .before .before .before .before in
     let a = one .before .before .before .args in
     three .tell-one3 .ensures
-    ∙ ap (λ l. set l 2 (a .edges)) (two .tell-one2 .ensures ∙ ap (λ l. set l 1 (a .locations)) (one .tell-one .ensures))
+    ∙ ap (λ l. set l 2 (a .second)) (two .tell-one2 .ensures ∙ ap (λ l. set l 1 (a .first)) (one .tell-one .ensures))
 
 pub tell-spec : {M : Type 1} → statement M
 tell-spec =

@@ -1,0 +1,83 @@
+//! One record of an automaton, as the proved library hands it back out of the two tables: in hex and in words.
+
+use crate::automaton::{Edge, Location, Tables};
+use crate::listing::{idle_note, Listing};
+use crate::refusal;
+use crate::source::{Failure, REFUSED};
+
+/// Which table is meant.
+#[derive(Clone, Copy, PartialEq, Eq, Debug)]
+pub enum Kind {
+    Location,
+    Edge,
+}
+
+impl Kind {
+    pub fn of(word: &str) -> Option<Kind> {
+        match word {
+            "location" => Some(Kind::Location),
+            "edge" => Some(Kind::Edge),
+            _ => None,
+        }
+    }
+
+    fn name(self) -> &'static str {
+        match self {
+            Kind::Location => "location",
+            Kind::Edge => "edge",
+        }
+    }
+
+    fn mark(self) -> usize {
+        match self {
+            Kind::Location => currantplane::LOCATIONS,
+            Kind::Edge => currantplane::EDGES,
+        }
+    }
+}
+
+/// The tables, and the listing of what stands in them for the words.
+pub struct Show<'a> {
+    pub tables: &'a Tables,
+    pub listing: Listing<'a>,
+}
+
+impl Show<'_> {
+    /// The record with this number, or why there is none.
+    pub fn record(&self, kind: Kind, number: usize) -> Result<String, Failure> {
+        let Tables { locations, edges } = self.tables;
+        let source = self.listing.source;
+        let (refused, record) = currantplane::record(locations, edges, self.tables.counts(), kind.mark(), number);
+        if refused.number != 0 {
+            let message = refusal::explained(refused, source, Some(self.in_use(kind)));
+            return Err(Failure { status: REFUSED, message });
+        }
+        let head = format!("{}: {} {number}; {}\n", source.name, kind.name(), self.in_use(kind));
+        let hex = format!("{:<15}{}\n", "record", refusal::hex(record));
+        Ok(head + &idle_note(self.listing.routine) + &hex + &self.words(kind, number, record))
+    }
+
+    /// `the locations are 0 to 19`
+    fn in_use(&self, kind: Kind) -> String {
+        let name = kind.name();
+        match self.tables.counts()[kind.mark()] {
+            0 => format!("there is no {name}"),
+            1 => format!("the only {name} is 0"),
+            n => format!("the {name}s are 0 to {}", n - 1),
+        }
+    }
+
+    fn words(&self, kind: Kind, number: usize, record: &[u8]) -> String {
+        let Show { listing, .. } = self;
+        match kind {
+            Kind::Location => listing.location(number, &Location::read(record)) + &listing.edges(number),
+            Kind::Edge => {
+                let locations = &listing.automaton.locations;
+                let edge = Edge::read(record, locations);
+                let ends = if edge.from == edge.to { vec![edge.from] } else { vec![edge.from, edge.to] };
+                let drawn = ends.iter().map(|&end| listing.location(end, &locations[end]));
+                listing.edge(number, &edge) + &drawn.collect::<String>()
+            }
+        }
+    }
+}

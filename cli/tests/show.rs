@@ -1,0 +1,81 @@
+//! One record of an automaton in hex and in words.
+
+mod common;
+
+use common::{example, printed, text, tool, EXAMPLES};
+use tool::automaton::{tables, Automaton, ALL_PLACES};
+use tool::listing::Listing;
+use tool::record::SIZE;
+use tool::refusal::hex;
+use tool::show::{Kind, Show};
+use tool::source::Source;
+use tool::style::Style;
+
+/// Every location and every edge of the examples: the record is that of the table, and its words are the listing's.
+#[test]
+fn every_record_of_the_examples() {
+    let mut edges = 0;
+    for name in EXAMPLES {
+        let source = Source::of_bytes(name, example(name).into_bytes()).unwrap();
+        let (tables, routine) = (tables(&source.records, ALL_PLACES).unwrap(), source.routine().unwrap());
+        let automaton = Automaton::read(&tables);
+        let listing = Listing { source: &source, routine: &routine, automaton: &automaton, style: Style::PLAIN };
+        let (whole, show) = (listing.text(), Show { tables: &tables, listing });
+        for (number, record) in tables.locations.chunks(SIZE).enumerate() {
+            let shown = show.record(Kind::Location, number).unwrap();
+            let (head, words) = shown.split_once(&format!("{}\n", hex(record))).expect("the record in hex");
+            assert!(head.starts_with(&format!("{name}: location {number}; the locations are 0 to ")), "{head}");
+            assert!(whole.contains(&format!("\n\n{words}\n")), "{words} is not in\n{whole}");
+        }
+        for (number, record) in tables.edges.chunks(SIZE).enumerate() {
+            let shown = show.record(Kind::Edge, number).unwrap();
+            let (head, words) = shown.split_once(&format!("{}\n", hex(record))).expect("the record in hex");
+            assert!(head.starts_with(&format!("{name}: edge {number}; the edges are 0 to ")), "{head}");
+            let from = automaton.edges[number].from;
+            let start = format!("{:<15}from location {from}  ", format!("edge {number}"));
+            let (line, ends) = words.split_once("\nlocation ").expect("the locations at its ends");
+            let leads = line.strip_prefix(&start).expect(line);
+            // the listing has spaces where conditions of several edges stand in a row
+            let squeezed = |t: &str| t.split_whitespace().collect::<Vec<_>>().join(" ");
+            assert!(squeezed(&whole).contains(&squeezed(&format!("edge {number} {leads}"))), "{leads} is not in\n{whole}");
+            assert!(ends.starts_with(&format!("{from} ")), "{ends}");
+            assert!(shown.lines().all(|l| l.chars().count() <= 100), "{shown}");
+            edges += 1;
+        }
+    }
+    assert!(edges > 100, "only {edges} edges");
+}
+
+#[test]
+fn by_the_command() {
+    let said = text(&printed(&["show", "examples/reverse.txt", "edge", "5"], b""));
+    let expected = "\
+edge 5         from location 4  if c0 >= 2  to location 6: c0' = c0 - 1, c1' = 1
+location 4     statement 4: p0 := p0.next
+";
+    assert!(said.contains(expected), "{said}");
+    let from_records = printed(&["show", "examples/reverse.records", "location", "17"], b"");
+    assert!(text(&from_records).contains("record         4c"), "{}", text(&from_records));
+}
+
+/// A number that is not in use is refused by the library, and explained with those that are.
+#[test]
+fn numbers_that_are_not_in_use() {
+    let most = usize::MAX.to_string();
+    let cases = [
+        ("examples/reverse.txt", "location", "20", "here:    the locations are 0 to 19\n"),
+        ("examples/reverse.txt", "edge", "24", "here:    the edges are 0 to 23\n"),
+        ("examples/reverse.txt", "edge", most.as_str(), "here:    the edges are 0 to 23\n"),
+        ("-", "location", "1", "here:    the only location is 0\n"),
+        ("-", "edge", "0", "here:    there is no edge\n"),
+    ];
+    for (file, kind, number, expected) in cases {
+        let done = tool(&["show", file, kind, number], b"stop\nshape\n");
+        let said = text(&done.stderr);
+        assert_eq!((done.status.code(), done.stdout.len()), (Some(1), 0), "{said}");
+        assert!(said.contains(": refused 17\n  meaning: ") && said.contains(expected), "{said}");
+    }
+    // a routine that is refused has no records
+    let done = tool(&["show", "-", "location", "0"], b"stop\nshape\np0 -> a -> b\n");
+    assert!(text(&done.stderr).contains("refused 9 at record 1"), "{}", text(&done.stderr));
+}
