@@ -9,7 +9,7 @@ use lib.ListN.{getD, getElem?, length, length-map}
 use borrow.Author.Tests.{lt-leb, ne-eqb, eqb-false}
 use Rattle.model.specs.Edges.{noNode, oneNode, picksOf, view, viewVal, waysOf, whole}
 use Rattle.model.specs.Heap.{Heap, undef, next, unused}
-use Rattle.model.specs.Machine.{Action, Kind, action, acts, follow, halts, ifNull, ifSame, kind, link, make, picks, point, release, stay}
+use Rattle.model.specs.Machine.{Action, Kind, action, acts, follow, halts, tests, kind, link, make, picks, point, release, stay}
 use Rattle.model.specs.Records.{opCount, opOf, valOf, isZero}
 use Rattle.model.proofs.lists.Lists.{getD-map}
 use Rattle.model.proofs.lists.Logic.{clash, eq-case}
@@ -135,10 +135,8 @@ pick-at halts h zero lt = refl
 pick-at halts h (suc j) lt = absurd (omega arith)
 pick-at (acts a) h zero lt = refl
 pick-at (acts a) h (suc j) lt = absurd (omega arith)
-pick-at (ifNull u) h zero lt = refl
-pick-at (ifNull u) h (suc j) lt = absurd (omega arith)
-pick-at (ifSame u w) h zero lt = refl
-pick-at (ifSame u w) h (suc j) lt = absurd (omega arith)
+pick-at (tests u s) h zero lt = refl
+pick-at (tests u s) h (suc j) lt = absurd (omega arith)
 pick-at picks h zero lt = refl
 pick-at picks h (suc zero) lt = refl
 pick-at picks h (suc (suc j)) lt = absurd (omega arith)
