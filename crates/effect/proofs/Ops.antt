@@ -1,16 +1,56 @@
--- The ops that leave the heap, by their numbers.
-use Prim.Native.Nat.{ℕ, _<_}
-use mathlib.Core.Path.{_∙_, _≡_, ap, refl}
-use Rattle.model.specs.Heap.{Heap}
-use Rattle.model.specs.Machine.{done, effect, Effect}
-use Rattle.model.specs.Records.{opOf, opCount}
+-- The ops that leave the heap, by their numbers; and what comparing bytes comes to.
+use Prim.Native.Nat.{ℕ, _<_, _≤_}
+use mathlib.Core.Path.{_∙_, _≡_, ap, refl, sym}
+use mathlib.Core.Bool.{_||_, cond, true}
+use mathlib.Core.Logic.{_⊎_, inl, inr}
+use native.Mathlib.Omega.{arith}
+use lib.Dec.{eqb, leb}
+use borrow.Author.Tests.{eq-eqb, eqb-false, eqb-true, le-leb, ne-eqb}
+use Rattle.model.specs.Heap.{Heap, undef}
+use Rattle.model.specs.Machine.{Effect, atUndef, done, effect, fault, look}
+use Rattle.model.specs.Records.{opCount, opOf, valByte, valOf}
+use Rattle.model.proofs.lists.Logic.{bool-case}
+use Rattle.model.proofs.records.Bytes.{byte-back}
 use Rattle.model.proofs.records.Ops.{each-op}
-use Rattle.branch.proofs.Ops.{Missed, among, not-among}
-use mathlib.Core.Bool.{cond}
+use Rattle.model.proofs.ways.Tests.{look-past, look-undef}
+use Rattle.branch.proofs.Ops.{Missed, missed}
+use Rattle.effect.specs.Effect.{Compares}
 
--- all but ops 1 to 7 leave the heap
-pub idle : (op u w n : ℕ) (h : Heap) → op < opCount → Missed 1 7 op → effect (opOf op u w) n h ≡ done h
-idle op u w n h l m =
+-- an op that is none of 1 to 7 is a stop, or one from 8 on
+pub stays-rest : (op : ℕ) → Missed 1 7 op → (op ≡ 0) ⊎ (8 ≤ op)
+stays-rest op m =
+    bool-case (eqb op 0) (λ e. inl (eqb-true op 0 e))
+    (λ e. let z = eqb-false op 0 e in
+    let no : op < 8 → ⊥ = λ l. missed 1 7 op m (omega arith) l in
+    inr (omega arith))
+
+-- of these, all but the tests, 8 and 9, do nothing
+idle-ops : (op : ℕ) → (op ≡ 0) ⊎ (8 ≤ op) → Missed 8 2 op → (eqb op 0 || leb 10 op) ≡ true
+idle-ops op (inl e) m = rw (eq-eqb op 0 e)
+idle-ops op (inr l) m =
+    let p = m .0 .1 in
+    let q = m .1 in
+    rw (ne-eqb op 0 (λ e. omega arith), le-leb 10 op (omega arith))
+
+pub idle : (op u w n : ℕ) (h : Heap) → op < opCount → (op ≡ 0) ⊎ (8 ≤ op) → Missed 8 2 op
+    → effect (opOf op u w) n h ≡ done h
+idle op u w n h l s m =
     let does : ℕ → Effect = λ k. effect (opOf k u w) n h in
-    each-op (λ o. effect o n h) (λ k. cond (among 1 7 k) (does k) (done h)) u w refl op l
-    ∙ ap (λ t. cond t (does op) (done h)) (not-among 1 7 op m)
+    each-op (λ o. effect o n h) (λ k. cond (eqb k 0 || leb 10 k) (done h) (does k)) u w refl op l
+    ∙ ap (λ t. cond t (done h) (does op)) (idle-ops op s m)
+
+-- ---- comparing
+
+defined-byte : (b : ℕ) → (b ≡ 0xff → ⊥) → valOf b ≡ undef → ⊥
+defined-byte b n e = n (sym (byte-back b) ∙ ap valByte e)
+
+pub compares-first : (a b : ℕ) → a ≡ 0xff → Compares (valOf a) (valOf b) 2
+compares-first a b e h = rw e
+
+pub compares-second : (a b : ℕ) → b ≡ 0xff → Compares (valOf a) (valOf b) 2
+compares-second a b e h = rw e (sym (look-undef (valOf a)))
+
+pub compares-none : (a b : ℕ) → (a ≡ 0xff → ⊥) → (b ≡ 0xff → ⊥) → Compares (valOf a) (valOf b) 0
+compares-none a b n m h =
+    sym (look-past (valOf a) (look (valOf b) (done h)) (defined-byte a n)
+    ∙ look-past (valOf b) (done h) (defined-byte b m))
