@@ -62,19 +62,20 @@ fn ring_walk(random: &mut Random) -> Drawn {
     Drawn { statements, shapes: vec![fold_heap(&heap).0] }
 }
 
-/// Few pointers, most of them at one cell that is freed first, and then many
-/// comparisons: they often look at undefined pointers.
+/// Few pointers, most of them at one node, which is freed and then compared:
+/// many tests look at undefined pointers.
 fn free_and_compare(random: &mut Random) -> Drawn {
     const FREE: [usize; 12] = [0, 0, 0, 0, 0, 0, 0, 1, 0, 0, 0, 0];
-    const OTHERS: [usize; 12] = [1, 1, 5, 0, 0, 0, 3, 3, 3, 9, 5, 1];
-    const HELD: [Value; 6] = [Value::Cell(0), Value::Cell(0), Value::Cell(0), Value::Cell(1), Value::Null, Value::Undefined];
+    const TEST: [usize; 12] = [0, 0, 0, 0, 0, 0, 0, 0, 1, 4, 0, 0];
+    const ANY: [usize; 12] = [1, 1, 5, 0, 0, 0, 3, 3, 3, 9, 5, 1];
     let count = random.between(3, 12);
-    let pointers = random.between(2, 3);
-    let mut statements = vec![random_statement(random, 0, count, pointers, &FREE)];
-    statements.extend((1..count).map(|number| random_statement(random, number, count, pointers, &OTHERS)));
+    let pointers = random.between(2, 4);
+    let weights = |number| [&FREE, &TEST, &ANY][usize::min(number, 2)];
+    let statements = (0..count).map(|number| random_statement(random, number, count, pointers, weights(number))).collect();
     let mut heap = Heap::empty();
     heap.cells = vec![Some(Value::Null), Some(Value::Undefined)];
-    heap.pointers = heap.pointers.map(|_| HELD[random.below(6)]);
+    let others = [Value::Cell(1), Value::Null, Value::Undefined];
+    heap.pointers = heap.pointers.map(|_| if random.chance(75) { Value::Cell(0) } else { others[random.below(3)] });
     drop_lost_cells(&mut heap);
     Drawn { statements, shapes: vec![fold_heap(&heap).0] }
 }

@@ -1,4 +1,4 @@
--- `edge::one_edge` meets its contract: ops from 8 on keep the heap, a leak that is seen at once is written, and the
+-- `edge::one_edge` meets its contract: ops from 8 on are not run, a leak that is seen at once is written, and the
 -- others are run.
 use mathlib.Core.Path.{refl}
 use borrow.Author.Needs.{needs}
@@ -10,8 +10,8 @@ use Rattle.edge.proofs.Edges.{fault-leaves}
 use Rattle.way.proofs.Ready.{location-wide}
 use Rattle.model.specs.Machine.{leak}
 
-keep-edge-requires : tie.Need-keep-edge-requires
-keep-edge-requires c κs = (
+still-edge-requires : tie.Need-still-edge-requires
+still-edge-requires c κs = (
   le-leb 8 _ (c .before .before .if1 .taken),
   c .before .before .before .before .before .before .before .pre,
 )
@@ -42,7 +42,7 @@ pub one-edge-spec : {M : Type 1} → statement M
 one-edge-spec =
     tie.close
     (tie.spec
-    keep-edge-requires
+    still-edge-requires
     surely-lost-requires
     fault-edge-requires
     (λ c κs. search needs)
