@@ -113,7 +113,7 @@ fn p10_write_through_undefined() {
 
 #[test]
 fn p11_a_test_of_two_undefined_pointers() {
-    // A fault since request 2; before, the two were equal.
+    // "Case P11 becomes a fault."
     let both = pointers(&[UNDEF, UNDEF]);
     check_listing(&[s(9, 0, 1, 1, 2), stop(), stop(), h(both, &[])], &[l(0, both, &[]), faulted(0, 2)], &[e(0, 1, 0, 0, &[])]);
 }

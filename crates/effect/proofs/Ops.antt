@@ -1,7 +1,7 @@
 -- The ops that leave the heap, by their numbers; and what comparing bytes comes to.
 use Prim.Native.Nat.{ℕ, _<_, _≤_}
 use mathlib.Core.Path.{_∙_, _≡_, ap, refl, sym}
-use mathlib.Core.Bool.{_||_, cond, true}
+use mathlib.Core.Bool.{Bool, _||_, cond, false, true}
 use mathlib.Core.Logic.{_⊎_, inl, inr}
 use native.Mathlib.Omega.{arith}
 use lib.Dec.{eqb, leb}
@@ -9,7 +9,7 @@ use borrow.Author.Tests.{eq-eqb, eqb-false, eqb-true, le-leb, ne-eqb}
 use Rattle.model.specs.Heap.{Heap, undef}
 use Rattle.model.specs.Machine.{Effect, atUndef, done, effect, fault, look}
 use Rattle.model.specs.Records.{opCount, opOf, valByte, valOf}
-use Rattle.model.proofs.lists.Logic.{bool-case}
+use Rattle.model.proofs.lists.Logic.{bool-case, or-cases, or-false-l, or-false-r}
 use Rattle.model.proofs.records.Bytes.{byte-back}
 use Rattle.model.proofs.records.Ops.{each-op}
 use Rattle.model.proofs.ways.Tests.{look-past, look-undef}
@@ -44,13 +44,17 @@ idle op u w n h l s m =
 defined-byte : (b : ℕ) → (b ≡ 0xff → ⊥) → valOf b ≡ undef → ⊥
 defined-byte b n e = n (sym (byte-back b) ∙ ap valByte e)
 
-pub compares-first : (a b : ℕ) → a ≡ 0xff → Compares (valOf a) (valOf b) 2
-compares-first a b e h = rw e
+-- either byte is that of undefined
+abbrev Undefined : ℕ → ℕ → Bool
+Undefined a b = eqb a 0xff || eqb b 0xff
 
-pub compares-second : (a b : ℕ) → b ≡ 0xff → Compares (valOf a) (valOf b) 2
-compares-second a b e h = rw e (sym (look-undef (valOf a)))
+pub compares-some : (a b : ℕ) → Undefined a b ≡ true → Compares (valOf a) (valOf b) 2
+compares-some a b e h =
+    or-cases (eqb a 0xff) (eqb b 0xff) e (λ p. rw (eqb-true a 0xff p))
+    (λ p. rw (eqb-true b 0xff p) (sym (look-undef (valOf a))))
 
-pub compares-none : (a b : ℕ) → (a ≡ 0xff → ⊥) → (b ≡ 0xff → ⊥) → Compares (valOf a) (valOf b) 0
-compares-none a b n m h =
-    sym (look-past (valOf a) (look (valOf b) (done h)) (defined-byte a n)
-    ∙ look-past (valOf b) (done h) (defined-byte b m))
+pub compares-none : (a b : ℕ) → Undefined a b ≡ false → Compares (valOf a) (valOf b) 0
+compares-none a b e h =
+    sym (look-past (valOf a) (look (valOf b) (done h)) (defined-byte a (eqb-false a 0xff (or-false-l (eqb a 0xff)
+    (eqb b 0xff) e)))
+    ∙ look-past (valOf b) (done h) (defined-byte b (eqb-false b 0xff (or-false-r (eqb a 0xff) (eqb b 0xff) e))))

@@ -118,13 +118,7 @@ fn free_at(at: u8, pointers: &mut [u8], cells: &mut [u8]) -> u8
 fn compared(a: u8, b: u8) -> u8
     ensures { λ r. ⌜ Compares (valOf a) (valOf b) r ⌝ }
 {
-    if a == 0xff {
-        return 2;
-    }
-    if b == 0xff {
-        return 2;
-    }
-    0
+    if (a == 0xff) | (b == 0xff) { 2 } else { 0 }
 }
 
 // The fault of a statement that leaves the heap: 2 where it is a test that looks at an undefined pointer, else 0.

@@ -106,7 +106,7 @@ fn edge_of_a_test(counts: &mut Counts, automaton: &Automaton, statement: &Statem
     let target = &automaton.locations[edge.to];
     if let Some(way) = undefined::way(statement, |pointer| held(pointer) == UNDEFINED) {
         counts.undefined_listed[way] += 1;
-        return edge.branch == 0 && *target == fault_location(record[1], 2);
+        return edge.branch == 0 && *target == fault_location(record[1], undefined::FAULT);
     }
     let other = if statement.op == Op::TestNull { NULL } else { held(statement.w) };
     let (branch, next) = if held(statement.u) == other { (0, statement.first) } else { (1, statement.second) };

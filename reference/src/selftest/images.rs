@@ -85,15 +85,15 @@ fn round_trip(random: &mut Random, counts: &mut Counts, heap: &Heap, length: usi
     Ok(folded)
 }
 
-/// A test, and the heap with one or both of its pointers made undefined.
+/// A test, and the heap with one or both of its pointers made undefined. Op 8
+/// does not look at the second, which is pointer 0 there.
 fn undefined_comparison(random: &mut Random, heap: &Heap) -> (Heap, Record) {
     let record = random_statement(random, 0, STATEMENTS, 6, &[0, 0, 0, 0, 0, 0, 0, 0, 1, 2, 0, 0]);
+    let both = [usize::from(record[2]), usize::from(record[3])];
+    let made_undefined = [&both[..1], &both[1..], &both[..]][random.below(3)];
     let mut changed = heap.clone();
-    let which = random.below(3);
-    for (field, other) in [(2, 0), (3, 1)] {
-        if which != other {
-            changed.pointers[usize::from(record[field])] = Value::Undefined;
-        }
+    for &pointer in made_undefined {
+        changed.pointers[pointer] = Value::Undefined;
     }
     drop_lost_cells(&mut changed);
     (changed, record)

@@ -1,7 +1,9 @@
 //! Tests that look at an undefined pointer, told apart by what they find.
 
-use crate::machine::THROUGH_UNDEFINED;
 use crate::statement::{Op, Statement};
+
+/// The fault of such a test, as the request numbers it.
+pub const FAULT: u8 = 2;
 
 /// The ways in which a test meets an undefined pointer.
 pub const WAYS: [&str; 5] =
@@ -27,7 +29,7 @@ pub fn way(statement: &Statement, is_undefined: impl Fn(usize) -> bool) -> Optio
 /// every other test.
 pub fn check(statement: &Statement, way: Option<usize>, fault: u8) -> Result<(), String> {
     let due = match (statement.op, way) {
-        (Op::TestNull | Op::TestEqual, Some(_)) => THROUGH_UNDEFINED,
+        (Op::TestNull | Op::TestEqual, Some(_)) => FAULT,
         (Op::TestNull | Op::TestEqual, None) => 0,
         _ => return Ok(()),
     };
