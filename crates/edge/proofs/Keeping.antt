@@ -5,10 +5,10 @@ use mathlib.Core.Path.{_≡_, refl, subst, sym, ap, ap₂, _∙_}
 use mathlib.Core.Bool.{true, false, cond}
 use mathlib.Core.List.{List, [], _∷_, map, map-map}
 use native.Mathlib.Omega.{arith}
-use lib.Dec.{eqb}
+use lib.Dec.{eqb, leb}
 use lib.ListN.{drop, getD, length, length-map, set, take}
 use lib.Seq.{getD-take, length-take-le}
-use borrow.Author.Tests.{eq-eqb, leb-true, lt-leb, ne-eqb}
+use borrow.Author.Tests.{eq-eqb, eqb-true, leb-true, lt-leb, ne-eqb}
 use Rattle.model.specs.Base.{numbers}
 use Rattle.model.specs.Edges.{Edge, at, stepBy, updateOf}
 use Rattle.model.specs.Heap.{Heap}
@@ -17,18 +17,17 @@ use Rattle.model.specs.Machine.{action, answerOf, branch, carryOut, done, effec
 use Rattle.model.specs.Notions.{Canon}
 use Rattle.model.specs.Records.{byte, guardBytes, locRecord, shapeOf, updateCode}
 use Rattle.model.specs.Shape.{Seg, segments}
-use Rattle.model.specs.Structs.{opIn, stmtIn}
+use Rattle.model.specs.Structs.{keepsAt, opIn, stmtIn}
 use Rattle.model.specs.declared.Decoded.{Decoded}
 use Rattle.model.proofs.expansion.Facts.{closed-test, kept-test}
 use Rattle.model.proofs.lists.Lists.{in-single, map-same, mem-in}
-use Rattle.model.proofs.lists.Logic.{bool-case, clash}
+use Rattle.model.proofs.lists.Logic.{bool-case, clash, or-cases}
 use Rattle.model.proofs.lists.Numbers.{in-numbers, length-numbers, read-all}
 use Rattle.model.proofs.records.Ops.{op-stops}
 use Rattle.model.proofs.shapes.Canon.{canon-fold, canon-segments, single}
 use Rattle.model.proofs.ways.Ways.{no-view}
 use Rattle.effect.proofs.Laws.{answer-fault}
 use Rattle.effect.specs.Effect.{TestFault, effectOf}
-use Rattle.loss.specs.Loss.{keepsAt}
 use Rattle.cell_sum.proofs.Codes.{segment-update}
 use Rattle.cell_sum.specs.Codes.{plusBy, weightBy}
 use Rattle.way.proofs.Ready.{nodes-few, nodes-is, shape-is}
@@ -36,7 +35,7 @@ use Rattle.way.specs.Ready.{WayReady}
 use Rattle.way.proofs.Through.{view-none}
 use Rattle.way.specs.Way.{looksAt, wayIn}
 use Rattle.way.specs.declared.Way.{Way}
-use Rattle.edge.specs.Edge.{KeepsShape, LeavesBy, staysAt}
+use Rattle.edge.specs.Edge.{KeepsShape, LeavesBy}
 use Rattle.edge.proofs.Edges.{Faults, guards-is, step-way, went-edge}
 use Rattle.shape_run.proofs.Running.{branch-pointers}
 
@@ -44,16 +43,17 @@ use Rattle.shape_run.proofs.Running.{branch-pointers}
 
 -- no node is looked at, so no split is ready: the statement is run on the shape itself
 module _ {l : List ℕ} {d : Decoded} {s : ℕ} {h : Heap} {y : Way} (R : WayReady l d s h y)
-    (stays : staysAt (d .op) ≡ true) where
+    (stays : keepsAt (d .op) ≡ true) where
   still-op : looksAt (d .op) ≡ false
   still-op =
-      let le = leb-true 8 (d .op) stays in
+      or-cases (eqb (d .op) 0) (leb 8 (d .op)) stays (λ e. ap looksAt (eqb-true (d .op) 0 e))
+      (λ e. let le = leb-true 8 (d .op) e in
       rw (
-        ne-eqb (d .op) 3 (λ e. omega arith),
-        ne-eqb (d .op) 4 (λ e. omega arith),
-        ne-eqb (d .op) 5 (λ e. omega arith),
-        ne-eqb (d .op) 7 (λ e. omega arith),
-      )
+        ne-eqb (d .op) 3 (λ z. omega arith),
+        ne-eqb (d .op) 4 (λ z. omega arith),
+        ne-eqb (d .op) 5 (λ z. omega arith),
+        ne-eqb (d .op) 7 (λ z. omega arith),
+      ))
 
   still-whole : y .split ≡ false
   still-whole =
@@ -64,13 +64,12 @@ module _ {l : List ℕ} {d : Decoded} {s : ℕ} {h : Heap} {y : Way} (R : WayRea
   still-heap : wayIn y h .heap ≡ h
   still-heap = rw still-whole
 
--- what the statement does to the shape in the record l is what it does to the heap of the way; nothing of a shape is
--- lost
+-- nothing of a shape is lost
 kept-run : (d : Decoded) (k : ℕ) (h : Heap) → Canon h → effect (opIn d) k h ≡ done h → carryOut (opIn d) k h ≡ done h
 kept-run d k h C e = ap keep e ∙ ap (λ b. cond b (done h) (fault leak)) (kept-test h (C .kept))
 
 -- the fault that a test was answered is that of its run
-pub still-faults : {l : List ℕ} {d : Decoded} {y : Way} (f : ℕ) → staysAt (d .op) ≡ true
+pub still-faults : {l : List ℕ} {d : Decoded} {y : Way} (f : ℕ) → keepsAt (d .op) ≡ true
     → TestFault d (take 6 (drop 4 l)) f → (f ≡ 0 → ⊥) → Faults l d y f
 still-faults {l = l} {d = d} {y = y} f stays t bad s h R =
     let k = length (h .slots) in
@@ -108,7 +107,7 @@ codes-carried k us few room codes =
 
 -- ---- the edge
 
-pub keep-leaves : {l : List ℕ} {d : Decoded} {y : Way} (t us : List ℕ) (a b : ℕ) → staysAt (d .op) ≡ true
+pub keep-leaves : {l : List ℕ} {d : Decoded} {y : Way} (t us : List ℕ) (a b : ℕ) → keepsAt (d .op) ≡ true
     → KeepsShape l d → 12 ≤ length us
     → b ≡ branch (opIn d) (y .pick) (heapOf (take 6 (drop 4 l)) []) → a ≡ target (stmtIn d) b → t ≡ set l 1 a
     → ((j : ℕ) → j < 12 → getD us j 0 ≡ 4096 + 2 ^ j)

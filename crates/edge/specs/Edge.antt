@@ -2,9 +2,7 @@
 -- nothing.
 use Prim.Native.Nat.{ℕ, _≤_}
 use mathlib.Core.Path.{_≡_}
-use mathlib.Core.Bool.{Bool}
 use mathlib.Core.List.{List, [], _∷_}
-use lib.Dec.{leb}
 use lib.ListN.{length, drop}
 use Rattle.model.specs.Base.{recordSize}
 use Rattle.model.specs.Edges.{Edge, edgeBy, stepBy}
@@ -34,10 +32,6 @@ pub record EdgeReady (l : List ℕ) (d : Decoded) (y : Way) (t us : List ℕ) : 
   pub ready : WayReady l d number shape y
   pub wide : length t ≡ recordSize
   pub room : 13 ≤ length us
-
--- the ops from the tests on: they leave the heap, unless a test looks at an undefined pointer
-abbrev pub staysAt : ℕ → Bool
-staysAt op = leb 8 op
 
 -- the statement is done on the location's shape and leaves it, so that it looks at no undefined pointer
 abbrev pub KeepsShape : List ℕ → Decoded → Type 0

@@ -12,7 +12,8 @@ ghost use Prim.Native.Nat.{_≤_};
 ghost use lib.ListN.{length, set};
 ghost use Rattle.model.specs.Base.{mostNodes, recordSize};
 ghost use Rattle.model.specs.Records.{byte};
-ghost use Rattle.edge.specs.Edge.{EdgeOn, EdgeReady, FaultMade, KeepsShape, LeavesBy, staysAt};
+ghost use Rattle.model.specs.Structs.{keepsAt};
+ghost use Rattle.edge.specs.Edge.{EdgeOn, EdgeReady, FaultMade, KeepsShape, LeavesBy};
 
 // The edge to a fault.
 fn fault_edge(location: &[u8], fault: u8, guards: Guards, target: &mut [u8]) -> EdgeMade
@@ -113,7 +114,7 @@ fn keep_edge(
     target: &mut [u8],
     updates: &mut [u16],
 ) -> EdgeMade
-    requires { ⌜ (staysAt (d .op) ≡ true) × KeepsShape (now location) d
+    requires { ⌜ (keepsAt (d .op) ≡ true) × KeepsShape (now location) d
         × EdgeReady (now location) d way (now target) (now updates) ⌝ }
     ensures { λ r. ⌜ LeavesBy (now (location .entry)) d way (now (target .exit)) (now (updates .exit)) r ⌝ }
 {
@@ -137,7 +138,7 @@ fn still_edge(
     target: &mut [u8],
     updates: &mut [u16],
 ) -> EdgeMade
-    requires { ⌜ (staysAt (d .op) ≡ true) × EdgeReady (now location) d way (now target) (now updates) ⌝ }
+    requires { ⌜ (keepsAt (d .op) ≡ true) × EdgeReady (now location) d way (now target) (now updates) ⌝ }
     ensures { λ r. ⌜ LeavesBy (now (location .entry)) d way (now (target .exit)) (now (updates .exit)) r ⌝ }
 {
     let fault = effect::test_fault(d, &location[4..10]);

@@ -1,15 +1,15 @@
 -- The ops that leave the heap, by their numbers; and what comparing bytes comes to.
-use Prim.Native.Nat.{ℕ, _<_, _≤_}
+use Prim.Native.Nat.{ℕ, _<_}
 use mathlib.Core.Path.{_∙_, _≡_, ap, refl, sym}
 use mathlib.Core.Bool.{Bool, _||_, cond, false, true}
-use mathlib.Core.Logic.{_⊎_, inl, inr}
 use native.Mathlib.Omega.{arith}
 use lib.Dec.{eqb, leb}
-use borrow.Author.Tests.{eq-eqb, eqb-false, eqb-true, le-leb, ne-eqb}
+use borrow.Author.Tests.{eqb-false, eqb-true, le-leb, leb-true}
 use Rattle.model.specs.Heap.{Heap, undef}
 use Rattle.model.specs.Machine.{Effect, atUndef, done, effect, fault, look}
 use Rattle.model.specs.Records.{opCount, opOf, valByte, valOf}
-use Rattle.model.proofs.lists.Logic.{bool-case, or-cases, or-false-l, or-false-r}
+use Rattle.model.specs.Structs.{keepsAt}
+use Rattle.model.proofs.lists.Logic.{bool-case, or-cases, or-false-l, or-false-r, or-l, or-r}
 use Rattle.model.proofs.records.Bytes.{byte-back}
 use Rattle.model.proofs.records.Ops.{each-op}
 use Rattle.model.proofs.ways.Tests.{look-past, look-undef}
@@ -17,22 +17,23 @@ use Rattle.branch.proofs.Ops.{Missed, missed}
 use Rattle.effect.specs.Effect.{Compares}
 
 -- an op that is none of 1 to 7 is a stop, or one from 8 on
-pub stays-rest : (op : ℕ) → Missed 1 7 op → (op ≡ 0) ⊎ (8 ≤ op)
-stays-rest op m =
-    bool-case (eqb op 0) (λ e. inl (eqb-true op 0 e))
+pub keeps-rest : (op : ℕ) → Missed 1 7 op → keepsAt op ≡ true
+keeps-rest op m =
+    bool-case (eqb op 0) (or-l (eqb op 0) (leb 8 op))
     (λ e. let z = eqb-false op 0 e in
     let no : op < 8 → ⊥ = λ l. missed 1 7 op m (omega arith) l in
-    inr (omega arith))
+    or-r (eqb op 0) (leb 8 op) (le-leb 8 op (omega arith)))
 
 -- of these, all but the tests, 8 and 9, do nothing
-idle-ops : (op : ℕ) → (op ≡ 0) ⊎ (8 ≤ op) → Missed 8 2 op → (eqb op 0 || leb 10 op) ≡ true
-idle-ops op (inl e) m = rw (eq-eqb op 0 e)
-idle-ops op (inr l) m =
+idle-ops : (op : ℕ) → keepsAt op ≡ true → Missed 8 2 op → eqb op 0 || leb 10 op ≡ true
+idle-ops op k m =
+    or-cases (eqb op 0) (leb 8 op) k (or-l (eqb op 0) (leb 10 op))
+    (λ e. let l = leb-true 8 op e in
     let p = m .0 .1 in
     let q = m .1 in
-    rw (ne-eqb op 0 (λ e. omega arith), le-leb 10 op (omega arith))
+    or-r (eqb op 0) (leb 10 op) (le-leb 10 op (omega arith)))
 
-pub idle : (op u w n : ℕ) (h : Heap) → op < opCount → (op ≡ 0) ⊎ (8 ≤ op) → Missed 8 2 op
+pub idle : (op u w n : ℕ) (h : Heap) → op < opCount → keepsAt op ≡ true → Missed 8 2 op
     → effect (opOf op u w) n h ≡ done h
 idle op u w n h l s m =
     let does : ℕ → Effect = λ k. effect (opOf k u w) n h in

@@ -7,7 +7,8 @@ use lib.Dec.{eqb}
 use Rattle.model.specs.Machine.{Action, Source, action, follow, from, link, make, nil, point, release, compare, stay}
 use Rattle.model.specs.Records.{opCount, opOf}
 use Rattle.model.proofs.records.Ops.{each-op}
-use Rattle.loss.specs.Loss.{cutsAt, keepsAt}
+use Rattle.model.specs.Structs.{keepsAt}
+use Rattle.loss.specs.Loss.{cutsAt}
 
 -- the action takes the next of a cell away
 abbrev pub cuts : Action → Bool

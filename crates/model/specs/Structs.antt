@@ -1,7 +1,9 @@
 -- What the structs that the code passes by value stand for. Assumes nothing.
 use Prim.Native.Nat.{ℕ, zero, suc, _≤_}
+use mathlib.Core.Bool.{Bool, _||_}
 use mathlib.Core.List.{List, [], _∷_, map}
 use mathlib.Core.Path.{_≡_}
+use lib.Dec.{eqb, leb}
 use lib.ListN.{length, take}
 use Rattle.model.specs.Base.{mostNodes}
 use Rattle.model.specs.Edges.{Edge, Guard, isMore, isOne}
@@ -27,6 +29,10 @@ decoded r = record {
 
 abbrev pub opIn : Decoded → Op
 opIn d = opOf (d .op) (d .u .0) (d .w .0)
+
+-- the ops, by number, that leave the heap, or are a fault: stop, the tests, choose and skip
+abbrev pub keepsAt : ℕ → Bool
+keepsAt op = eqb op 0 || leb 8 op
 
 abbrev pub stmtIn : Decoded → Stmt
 stmtIn d = record { op = opIn d; firstTarget = d .first .0; secondTarget = d .second .0 }

@@ -1,11 +1,9 @@
 -- `edge::still_edge` meets its contract: the pointers in the record are looked at first; where that is no fault, the
 -- shape is kept.
-use mathlib.Core.Logic.{inr}
 use native.Mathlib.Omega.{arith}
 use lib.ListN.{drop, length-drop}
 use lib.Seq.{length-take-le}
 use borrow.Author.Needs.{needs}
-use borrow.Author.Tests.{leb-true}
 use Rattle.way.proofs.Ready.{location-wide}
 use Rattle.edge.proofs.Edges.{fault-leaves}
 use Rattle.edge.proofs.Keeping.{still-faults, still-keeps}
@@ -23,7 +21,7 @@ test-fault-requires c κs =
     let l = c .before .before .before .before .args .location .now in
     record {
       known = f .known;
-      stays = inr (leb-true 8 _ (p .0));
+      stays = p .0;
       isU = f .isU;
       isW = f .isW;
       six = length-take-le 6 (drop 4 l) (omega (arith, location-wide R, length-drop 4 l));

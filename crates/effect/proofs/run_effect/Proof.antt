@@ -3,7 +3,7 @@ use mathlib.Core.Path.{_≡_, refl}
 use native.Mathlib.Omega.{arith}
 use Rattle.model.specs.Image.{heapOf}
 use Rattle.effect.proofs.Bytes.{as-effect, ready-u, ready-w, named-u, named-w, room-x, value-w}
-use Rattle.effect.proofs.Ops.{stays-rest}
+use Rattle.effect.proofs.Ops.{keeps-rest}
 use borrow.Author.Needs.{needs}
 use Rattle.effect.proofs.run_effect.Statement.{statement}
 use Rattle.effect.proofs.run_effect.Tie as tie
@@ -32,7 +32,7 @@ free-at-requires c κs = let p = start (c .before .before .before) .pre in (name
 test-fault-requires : tie.Need-test-fault-requires
 test-fault-requires c κs =
     let p = start (c .before .before) .pre in
-    record { known = p .known; stays = stays-rest _ (c .before .match .rest); isU = p .isU; isW = p .isW; six = p .six }
+    record { known = p .known; stays = keeps-rest _ (c .before .match .rest); isU = p .isU; isW = p .isW; six = p .six }
 
 returns : tie.Need-returns
 returns c =
