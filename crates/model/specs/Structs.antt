@@ -30,7 +30,7 @@ decoded r = record {
 abbrev pub opIn : Decoded → Op
 opIn d = opOf (d .op) (d .u .0) (d .w .0)
 
--- the ops, by number, that leave the heap, or are a fault: stop, the tests, choose and skip
+-- the ops, by number, that change no heap: stop, the tests, choose and skip
 abbrev pub keepsAt : ℕ → Bool
 keepsAt op = eqb op 0 || leb 8 op
 
