@@ -1,5 +1,5 @@
--- The edge of a test, choose or skip, which is not run: the fault of a test that looks at an undefined pointer; else the
--- run would be done with the heap as it is, which is its own shape, and each counter is carried.
+-- The edge of a test, choose or skip, which is not run: the fault of a test that looks at an undefined pointer; else
+-- the run would be done with the heap as it is, which is its own shape, and each counter is carried.
 use Prim.Native.Nat.{ℕ, _+_, _^_, _≤_, _<_}
 use mathlib.Core.Path.{_≡_, refl, subst, sym, ap, ap₂, _∙_}
 use mathlib.Core.Bool.{true, false, cond}
