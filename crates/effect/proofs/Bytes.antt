@@ -7,7 +7,7 @@ use mathlib.Core.List.{List, [], _∷_, map}
 use lib.Dec.{eqb}
 use lib.ListN.{getD, length, length-map, set}
 use borrow.Author.Tests.{leb-false, eqb-true, ne-eqb}
-use Rattle.model.specs.Heap.{Val, undef, Slot, unused, holds, Heap, ptr, next, closed}
+use Rattle.model.specs.Heap.{Val, Slot, unused, holds, Heap, ptr, next, closed}
 use Rattle.model.specs.Machine.{Effect, done, put, putSlot, setPtr, held, wipe, wipeSlot, freeVal, make, perform}
 use Rattle.model.specs.Machine.{action}
 use Rattle.model.specs.Records.{valOf, opOf}
@@ -25,9 +25,6 @@ use Rattle.model.specs.declared.Decoded.{Decoded}
 use Rattle.effect.specs.Effect.{Access, EffectReady, Named, HasEffect, assigned, loaded, stored, wipeByte}
 
 -- ---- reading
-
-pub ptr-of : (ps : List ℕ) (u : ℕ) (h : Heap) → h .ptrs ≡ map valOf ps → u < length ps → ptr h u ≡ valOf (getD ps u 0)
-ptr-of ps u h e lt = ap (λ l. getD l u undef) e ∙ getD-map valOf ps u 0 undef lt
 
 next-byte : (ps cs : List ℕ) (c : ℕ) → c < length cs → next (heapOf ps cs) c ≡ cellSlot (getD cs c 0)
 next-byte ps cs c h = getD-map cellSlot cs c 0 unused h

@@ -1,9 +1,8 @@
 -- `test_fault` meets its contract: the tests compare their bytes, and the other ops that leave the heap do nothing.
 use Prim.Native.Nat.{_<_}
 use mathlib.Core.Path.{_≡_, sym}
-use native.Mathlib.Omega.{arith}
 use lib.ListN.{length}
-use Rattle.effect.proofs.Bytes.{ptr-of}
+use Rattle.branch.proofs.Bytes.{ptr-of}
 use Rattle.effect.proofs.Ops.{idle}
 use borrow.Author.Needs.{needs}
 use Rattle.effect.proofs.test_fault.Statement.{statement}
