@@ -6,7 +6,7 @@ use native.Mathlib.Omega.{arith}
 use lib.Dec.{eqb, leb}
 use borrow.Author.Tests.{eqb-false, eqb-true, le-leb, leb-true}
 use Rattle.model.specs.Heap.{Heap, undef}
-use Rattle.model.specs.Machine.{Effect, atUndef, done, effect, fault, look}
+use Rattle.model.specs.Machine.{Effect, done, effect, look}
 use Rattle.model.specs.Records.{opCount, opOf, valByte, valOf}
 use Rattle.model.specs.Structs.{keepsAt}
 use Rattle.model.proofs.lists.Logic.{bool-case, or-cases, or-false-l, or-false-r, or-l, or-r}

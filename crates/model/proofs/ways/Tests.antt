@@ -1,7 +1,7 @@
 -- Tests: a fault where a value that is looked at is undefined, else the heap as it is.
 use Prim.Native.Nat.{ℕ}
 use mathlib.Core.Path.{_≡_, _∙_, ap, refl, sym}
-use mathlib.Core.Bool.{_&&_, cond, false, true}
+use mathlib.Core.Bool.{_&&_, cond, true}
 use mathlib.Core.List.{[], _∷_, map}
 use mathlib.Core.Logic.{_⊎_, inl, inr}
 use native.Mathlib.Omega.{arith}
