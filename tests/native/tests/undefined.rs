@@ -81,7 +81,8 @@ fn listings_agree_where_a_test_looks_at_an_undefined_pointer() {
         let (mut m, mut f) = (l.clone(), e.clone());
         let (refusal, [locations, edges]) = native::translate(&input, &mut l, &mut e);
         let theirs = reference::translate(&input, &mut m, &mut f);
-        assert_eq!((refusal.number, locations, edges), (theirs.refusal, theirs.locations, theirs.edges), "{input:x?}");
+        let ours = (refusal.number, refusal.place, locations, edges);
+        assert_eq!(ours, (theirs.refusal, theirs.place, theirs.locations, theirs.edges), "{input:x?}");
         assert!(l == m && e == f, "tables of {input:x?}");
         let mut met = [false; 5];
         tests += judge(&input, &l[..32 * locations], &e[..32 * edges], &mut met);
