@@ -5,10 +5,9 @@ use mathlib.Core.Path.{_≡_, refl, subst, sym, ap, ap₂, _∙_}
 use mathlib.Core.Bool.{true, false, cond}
 use mathlib.Core.List.{List, [], _∷_, map, map-map}
 use native.Mathlib.Omega.{arith}
-use lib.Dec.{eqb, leb}
 use lib.ListN.{drop, getD, length, length-map, set, take}
 use lib.Seq.{getD-take, length-take-le}
-use borrow.Author.Tests.{eq-eqb, eqb-true, leb-true, lt-leb, ne-eqb}
+use borrow.Author.Tests.{eq-eqb, lt-leb, ne-eqb}
 use Rattle.model.specs.Base.{numbers}
 use Rattle.model.specs.Edges.{Edge, at, stepBy, updateOf}
 use Rattle.model.specs.Heap.{Heap}
@@ -21,7 +20,7 @@ use Rattle.model.specs.Structs.{keepsAt, opIn, stmtIn}
 use Rattle.model.specs.declared.Decoded.{Decoded}
 use Rattle.model.proofs.expansion.Facts.{closed-test, kept-test}
 use Rattle.model.proofs.lists.Lists.{in-single, map-same, mem-in}
-use Rattle.model.proofs.lists.Logic.{bool-case, clash, or-cases}
+use Rattle.model.proofs.lists.Logic.{bool-case, clash}
 use Rattle.model.proofs.lists.Numbers.{in-numbers, length-numbers, read-all}
 use Rattle.model.proofs.records.Ops.{op-stops}
 use Rattle.model.proofs.shapes.Canon.{canon-fold, canon-segments, single}
@@ -32,8 +31,8 @@ use Rattle.cell_sum.proofs.Codes.{segment-update}
 use Rattle.cell_sum.specs.Codes.{plusBy, weightBy}
 use Rattle.way.proofs.Ready.{nodes-few, nodes-is, shape-is}
 use Rattle.way.specs.Ready.{WayReady}
-use Rattle.way.proofs.Through.{view-none}
-use Rattle.way.specs.Way.{looksAt, wayIn}
+use Rattle.way.proofs.Through.{view-keeps}
+use Rattle.way.specs.Way.{wayIn}
 use Rattle.way.specs.declared.Way.{Way}
 use Rattle.edge.specs.Edge.{KeepsShape, LeavesBy}
 use Rattle.edge.proofs.Edges.{Faults, guards-is, step-way, went-edge}
@@ -44,21 +43,10 @@ use Rattle.shape_run.proofs.Running.{branch-pointers}
 -- no node is looked at, so no split is ready: the statement is run on the shape itself
 module _ {l : List ℕ} {d : Decoded} {s : ℕ} {h : Heap} {y : Way} (R : WayReady l d s h y)
     (stays : keepsAt (d .op) ≡ true) where
-  still-op : looksAt (d .op) ≡ false
-  still-op =
-      or-cases (eqb (d .op) 0) (leb 8 (d .op)) stays (λ e. ap looksAt (eqb-true (d .op) 0 e))
-      (λ e. let le = leb-true 8 (d .op) e in
-      rw (
-        ne-eqb (d .op) 3 (λ z. omega arith),
-        ne-eqb (d .op) 4 (λ z. omega arith),
-        ne-eqb (d .op) 5 (λ z. omega arith),
-        ne-eqb (d .op) 7 (λ z. omega arith),
-      ))
-
   still-whole : y .split ≡ false
   still-whole =
       bool-case (y .split)
-      (λ q. no-view (view-none (d .op) (d .u .0) (d .w .0) h (R .statement .known) still-op ∙ R .isNode q))
+      (λ q. no-view (view-keeps (d .op) (d .u .0) (d .w .0) h (R .statement .known) stays ∙ R .isNode q))
       (λ q. q)
 
   still-heap : wayIn y h .heap ≡ h

@@ -1,7 +1,7 @@
 -- The ops that leave the heap, by their numbers; and what comparing bytes comes to.
 use Prim.Native.Nat.{ℕ, _<_}
 use mathlib.Core.Path.{_∙_, _≡_, ap, refl, sym}
-use mathlib.Core.Bool.{Bool, _||_, cond, false, true}
+use mathlib.Core.Bool.{_||_, cond, false, true}
 use native.Mathlib.Omega.{arith}
 use lib.Dec.{eqb, leb}
 use borrow.Author.Tests.{eqb-false, eqb-true, le-leb, leb-true}
@@ -9,12 +9,12 @@ use Rattle.model.specs.Heap.{Heap, undef}
 use Rattle.model.specs.Machine.{Effect, done, effect, look}
 use Rattle.model.specs.Records.{opCount, opOf, valByte, valOf}
 use Rattle.model.specs.Structs.{keepsAt}
-use Rattle.model.proofs.lists.Logic.{bool-case, or-cases, or-false-l, or-false-r, or-l, or-r}
+use Rattle.model.proofs.lists.Logic.{bool-case, or-cases, or-l, or-r}
 use Rattle.model.proofs.records.Bytes.{byte-back}
 use Rattle.model.proofs.records.Ops.{each-op}
 use Rattle.model.proofs.ways.Tests.{look-past, look-undef}
 use Rattle.branch.proofs.Ops.{Missed, missed}
-use Rattle.effect.specs.Effect.{Compares}
+use Rattle.effect.specs.Effect.{Compares, effectOf}
 
 -- an op that is none of 1 to 7 is a stop, or one from 8 on
 pub keeps-rest : (op : ℕ) → Missed 1 7 op → keepsAt op ≡ true
@@ -45,17 +45,13 @@ idle op u w n h l s m =
 defined-byte : (b : ℕ) → (b ≡ 0xff → ⊥) → valOf b ≡ undef → ⊥
 defined-byte b n e = n (sym (byte-back b) ∙ ap valByte e)
 
--- either byte is that of undefined
-abbrev Undefined : ℕ → ℕ → Bool
-Undefined a b = eqb a 0xff || eqb b 0xff
-
-pub compares-some : (a b : ℕ) → Undefined a b ≡ true → Compares (valOf a) (valOf b) 2
-compares-some a b e h =
-    or-cases (eqb a 0xff) (eqb b 0xff) e (λ p. rw (eqb-true a 0xff p))
-    (λ p. rw (eqb-true b 0xff p) (sym (look-undef (valOf a))))
-
-pub compares-none : (a b : ℕ) → Undefined a b ≡ false → Compares (valOf a) (valOf b) 0
-compares-none a b e h =
-    sym (look-past (valOf a) (look (valOf b) (done h)) (defined-byte a (eqb-false a 0xff (or-false-l (eqb a 0xff)
-    (eqb b 0xff) e)))
-    ∙ look-past (valOf b) (done h) (defined-byte b (eqb-false b 0xff (or-false-r (eqb a 0xff) (eqb b 0xff) e))))
+-- the fault r, by whether each byte is that of undefined
+pub compares : (a b r : ℕ) → (eqb a 0xff ≡ true → r ≡ 2) → (eqb a 0xff ≡ false → eqb b 0xff ≡ true → r ≡ 2)
+    → (eqb a 0xff ≡ false → eqb b 0xff ≡ false → r ≡ 0) → Compares (valOf a) (valOf b) r
+compares a b r f g k h =
+    bool-case (eqb a 0xff) (λ p. ap (λ n. effectOf n h) (f p) ∙ rw (eqb-true a 0xff p))
+    (λ p. bool-case (eqb b 0xff)
+    (λ q. ap (λ n. effectOf n h) (g p q) ∙ rw (eqb-true b 0xff q) (sym (look-undef (valOf a))))
+    (λ q. ap (λ n. effectOf n h) (k p q)
+    ∙ sym (look-past (valOf a) (look (valOf b) (done h)) (defined-byte a (eqb-false a 0xff p))
+    ∙ look-past (valOf b) (done h) (defined-byte b (eqb-false b 0xff q)))))

@@ -10,7 +10,7 @@ use Rattle.model.specs.Heap.{Val, Heap, holds, next, closed}
 use Rattle.model.specs.Machine.{Effect, action, done, effect, fault, atNull, atUndef, leak, look, through, setPtr, putSlot, held}
 use Rattle.model.specs.Records.{opCount, valOf}
 use Rattle.model.specs.Image.{heapOf, pastEnd}
-use Rattle.model.specs.Structs.{keepsAt, opIn}
+use Rattle.model.specs.Structs.{DecodedOk, keepsAt, opIn}
 use Rattle.model.specs.declared.Decoded.{Decoded}
 
 -- a known op on two of six pointers of a closed image; at new, the cell x is one of the image
@@ -51,10 +51,8 @@ Compares a b r = (h : Heap) → effectOf r h ≡ look a (look b (done h))
 
 -- a statement that leaves the heap: a stop, a test, a choice or a skip, on two of six pointers
 pub record TestReady (d : Decoded) (ps : List ℕ) : Type 0 where
-  pub known : d .op < opCount
+  pub fields : DecodedOk d
   pub stays : keepsAt (d .op) ≡ true
-  pub isU : d .u .0 < pointerCount
-  pub isW : d .w .0 < pointerCount
   pub six : length ps ≡ pointerCount
 
 -- r is the fault of such a statement on each heap with these pointers, 0 where there is none

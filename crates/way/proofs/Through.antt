@@ -20,7 +20,7 @@ use lib.Dec.{eqb}
 use Rattle.model.proofs.ways.Ways.{no-view}
 use Rattle.model.specs.Image.{pastEnd}
 use Rattle.model.specs.Notions.{Room}
-use Rattle.model.specs.Structs.{Writes}
+use Rattle.model.specs.Structs.{Writes, keepsAt}
 
 pub pointer-value : (ps : List ℕ) (u : ℕ) → u < length ps → valOf (getD ps u 0) ≡ getD (map valOf ps) u undef
 pointer-value ps u h = sym (getD-map valOf ps u 0 undef h)
@@ -49,6 +49,13 @@ looks-not (release u) h e = clash refl e
 pub view-none : (op u w : ℕ) (h : Heap) → op < opCount → looksAt op ≡ false → noNode ≡ view (action (opOf op u w)) h
 view-none op u w h lt e = looks-not (action (opOf op u w)) h (each-op (λ o. looks (action o)) looksAt u w refl op lt
     ∙ e)
+
+-- an op that changes no heap looks at none
+pub view-keeps : (op u w : ℕ) (h : Heap) → op < opCount → keepsAt op ≡ true → noNode ≡ view (action (opOf op u w)) h
+view-keeps op u w h lt e =
+    looks-not (action (opOf op u w)) h
+    (each-op (λ o. looks (action o)) (λ n. cond (keepsAt n) false (looksAt n)) u w refl op lt
+    ∙ ap (λ t. cond t false (looksAt op)) e)
 
 abbrev pub makes : Action → Bool
 makes stay = false

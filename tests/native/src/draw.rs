@@ -121,7 +121,7 @@ pub fn damage_record(d: &mut Draw, r: &mut Vec<u8>) {
     }
 }
 
-/// Each op about as often as another.
+/// Every op, those that walk and choose more often.
 const ANY: [u8; 18] = [1, 2, 2, 3, 3, 3, 4, 5, 5, 6, 6, 7, 8, 9, 10, 10, 11, 0];
 /// Cells freed, pointers copied, and many tests.
 const TESTING: [u8; 15] = [1, 2, 2, 3, 6, 7, 7, 8, 8, 9, 9, 9, 10, 10, 0];

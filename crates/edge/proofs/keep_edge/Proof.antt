@@ -6,9 +6,7 @@ use Rattle.edge.proofs.keep_edge.Tie as tie
 use native.Mathlib.Omega.{arith}
 use Rattle.edge.proofs.Keeping.{keep-leaves}
 use mathlib.Core.List.{[]}
-use Rattle.way.proofs.Ready.{location-wide, nodes-few}
-use lib.Seq.{length-take-le}
-use lib.ListN.{drop, length-drop}
+use Rattle.way.proofs.Ready.{location-wide, nodes-few, pointers-six}
 
 part-branch-of-end : tie.Need-part-branch-of-end
 part-branch-of-end c = omega (arith, location-wide (c .before .before .before .pre .2 .ready))
@@ -17,8 +15,7 @@ branch-of-requires : tie.Need-branch-of-requires
 branch-of-requires c κs =
     let R = c .before .before .before .before .pre .2 .ready in
     let f = R .statement in
-    let l = c .before .before .before .before .args .location .now in
-    (f .known, f .isU, f .isW, length-take-le 6 (drop 4 l) (omega (arith, location-wide R, length-drop 4 l)))
+    (f .known, f .isU, f .isW, pointers-six R)
 
 move-to-requires : tie.Need-move-to-requires
 move-to-requires c κs =

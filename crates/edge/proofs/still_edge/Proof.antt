@@ -1,10 +1,8 @@
 -- `edge::still_edge` meets its contract: the pointers in the record are looked at first; where that is no fault, the
 -- shape is kept.
 use native.Mathlib.Omega.{arith}
-use lib.ListN.{drop, length-drop}
-use lib.Seq.{length-take-le}
 use borrow.Author.Needs.{needs}
-use Rattle.way.proofs.Ready.{location-wide}
+use Rattle.way.proofs.Ready.{location-wide, pointers-six}
 use Rattle.edge.proofs.Edges.{fault-leaves}
 use Rattle.edge.proofs.Keeping.{still-faults, still-keeps}
 use Rattle.edge.proofs.still_edge.Statement.{statement}
@@ -17,15 +15,7 @@ test-fault-requires : tie.Need-test-fault-requires
 test-fault-requires c κs =
     let p = c .before .before .before .before .pre in
     let R = p .1 .ready in
-    let f = R .statement in
-    let l = c .before .before .before .before .args .location .now in
-    record {
-      known = f .known;
-      stays = p .0;
-      isU = f .isU;
-      isW = f .isW;
-      six = length-take-le 6 (drop 4 l) (omega (arith, location-wide R, length-drop 4 l));
-    }
+    record { fields = R .statement; stays = p .0; six = pointers-six R }
 
 fault-edge-requires : tie.Need-fault-edge-requires
 fault-edge-requires c κs =

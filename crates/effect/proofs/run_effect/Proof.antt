@@ -32,7 +32,11 @@ free-at-requires c κs = let p = start (c .before .before .before) .pre in (name
 test-fault-requires : tie.Need-test-fault-requires
 test-fault-requires c κs =
     let p = start (c .before .before) .pre in
-    record { known = p .known; stays = keeps-rest _ (c .before .match .rest); isU = p .isU; isW = p .isW; six = p .six }
+    record {
+      fields = record { known = p .known; isU = p .isU; isW = p .isW };
+      stays = keeps-rest _ (c .before .match .rest);
+      six = p .six;
+    }
 
 returns : tie.Need-returns
 returns c =

@@ -28,7 +28,7 @@ returns-3 : tie.Need-returns-3
 returns-3 c x h p =
     let s = c .before .before .before .before in
     let d = s .args .d in
-    sym (idle (d .op) (d .u .0) (d .w .0) x h (s .pre .known) (s .pre .stays) (c .match .rest))
+    sym (idle (d .op) (d .u .0) (d .w .0) x h (s .pre .fields .known) (s .pre .stays) (c .match .rest))
 
 pub test-fault-spec : {M : Type 1} → statement M
 test-fault-spec =

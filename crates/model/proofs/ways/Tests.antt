@@ -1,7 +1,7 @@
 -- Tests: a fault where a value that is looked at is undefined, else the heap as it is.
 use Prim.Native.Nat.{ℕ}
 use mathlib.Core.Path.{_≡_, _∙_, ap, refl, sym}
-use mathlib.Core.Bool.{_&&_, cond, true}
+use mathlib.Core.Bool.{Bool, _&&_, cond, false, true}
 use mathlib.Core.List.{[], _∷_, map}
 use mathlib.Core.Logic.{_⊎_, inl, inr}
 use native.Mathlib.Omega.{arith}
@@ -36,9 +36,11 @@ undef-case undef f g = f refl
 
 module _ (st : Stmt) (u : ℕ) (s : Source) (k : kind (st .op) ≡ tests u s) where
   module _ (e : Entry) (h : Heap) where
+    abbrev turn : ℕ
+    turn = test (sameVal (ptr h u) (valueOf s h))
+
     -- every entry is accepted, and the step is the comparison
-    step-is : step st e h ≡ answerOf st (test (sameVal (ptr h u) (valueOf s h)))
-        (keep (look (ptr h u) (look (valueOf s h) (done h))))
+    step-is : step st e h ≡ answerOf st turn (keep (look (ptr h u) (look (valueOf s h) (done h))))
     step-is =
         ap (λ (c : Kind). cond (acceptsPick c (e .pick) && acceptsCell (actionOf c) (next h (e .cellNo)))
         (cond (isStop c) stopped (answerOf st (branchBy c (e .pick) h) (keep (perform (actionOf c) (e .cellNo) h))))
@@ -46,14 +48,13 @@ module _ (st : Stmt) (u : ℕ) (s : Source) (k : kind (st .op) ≡ tests u s) wh
 
     pub test-faults : (ptr h u ≡ undef) ⊎ (valueOf s h ≡ undef) → step st e h ≡ faulted atUndef
     test-faults q =
-        step-is ∙ ap (λ x. answerOf st (test (sameVal (ptr h u) (valueOf s h))) (keep x))
-        (look-either (ptr h u) (valueOf s h) (done h) q)
+        step-is ∙ ap (λ x. answerOf st turn (keep x)) (look-either (ptr h u) (valueOf s h) (done h) q)
 
     -- without an undefined value the heap stays
     step-on : (ptr h u ≡ undef → ⊥) → (valueOf s h ≡ undef → ⊥)
-        → step st e h ≡ answerOf st (test (sameVal (ptr h u) (valueOf s h))) (cond (kept h) (done h) (fault leak))
+        → step st e h ≡ answerOf st turn (cond (kept h) (done h) (fault leak))
     step-on n m =
-        step-is ∙ ap (λ x. answerOf st (test (sameVal (ptr h u) (valueOf s h))) (keep x))
+        step-is ∙ ap (λ x. answerOf st turn (keep x))
         (look-past (ptr h u) (look (valueOf s h) (done h)) n ∙ look-past (valueOf s h) (done h) m)
 
     pub faults-test : step st e h ≡ faulted atUndef → (ptr h u ≡ undef) ⊎ (valueOf s h ≡ undef)
@@ -62,27 +63,22 @@ module _ (st : Stmt) (u : ℕ) (s : Source) (k : kind (st .op) ≡ tests u s) wh
         (λ n. undef-case (valueOf s h) inr
         (λ m. absurd (other (sym (step-on n m) ∙ q))))
       where
-        b : ℕ
-        b = test (sameVal (ptr h u) (valueOf s h))
-
-        other : answerOf st b (cond (kept h) (done h) (fault leak)) ≡ faulted atUndef → ⊥
+        other : answerOf st turn (cond (kept h) (done h) (fault leak)) ≡ faulted atUndef → ⊥
         other = bool-case (kept h) (λ p. rw p (λ z. let y : _≡_ {A = ℕ} 0 1 = cc in omega arith))
             (λ p. rw p (λ z. let y : _≡_ {A = ℕ} 0 1 = cc in omega arith))
 
     module _ (n : ptr h u ≡ undef → ⊥) (m : valueOf s h ≡ undef → ⊥) (all : kept h ≡ true) where
+      goes : (b : Bool) → sameVal (ptr h u) (valueOf s h) ≡ b → step st e h ≡ answerOf st (test b) (done h)
+      goes b q =
+          step-on n m ∙ ap (λ t. answerOf st turn (cond t (done h) (fault leak))) all
+          ∙ ap (λ t. answerOf st (test t) (done h)) q
+
       pub test-true : ptr h u ≡ valueOf s h → step st e h ≡ went 0 (st .firstTarget) h
-      test-true q =
-          step-on n m
-          ∙ ap (λ t. answerOf st (test (sameVal (ptr h u) (valueOf s h))) (cond t (done h) (fault leak))) all
-          ∙ ap (λ t. answerOf st (test t) (done h))
-          (ap (λ v. sameVal v (valueOf s h)) q ∙ same-val-refl (valueOf s h))
+      test-true q = goes true (ap (λ v. sameVal v (valueOf s h)) q ∙ same-val-refl (valueOf s h))
 
       pub test-false : (ptr h u ≡ valueOf s h → ⊥) → step st e h ≡ went 1 (st .secondTarget) h
       test-false q =
-          step-on n m
-          ∙ ap (λ t. answerOf st (test (sameVal (ptr h u) (valueOf s h))) (cond t (done h) (fault leak))) all
-          ∙ ap (λ t. answerOf st (test t) (done h))
-          (not-true (sameVal (ptr h u) (valueOf s h)) (λ t. q (val-same (ptr h u) (valueOf s h) t)))
+          goes false (not-true (sameVal (ptr h u) (valueOf s h)) (λ t. q (val-same (ptr h u) (valueOf s h) t)))
 
   -- one edge, to the fault
   pub test-edge : (i : ℕ) (h : Heap) → (ptr h u ≡ undef) ⊎ (valueOf s h ≡ undef)
