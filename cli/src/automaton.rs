@@ -1,6 +1,6 @@
 //! The automaton: what the proved translator wrote into its tables, read into named parts.
 
-use crate::record::{Shape, NODES, SIZE};
+use crate::record::{Shape, NODES, POINTERS, SIZE};
 
 pub const MOST_LOCATIONS: usize = 1024;
 pub const MOST_EDGES: usize = 2048;
@@ -143,5 +143,11 @@ impl Automaton {
     /// The edges that leave a location, with their numbers.
     pub fn leaving(&self, location: usize) -> impl Iterator<Item = (usize, &Edge)> {
         self.edges.iter().enumerate().filter(move |(_, edge)| edge.from == location)
+    }
+
+    /// What the pointers hold in each location from which an edge leads there.
+    pub fn reached_with(&self, location: usize) -> Vec<[u8; POINTERS]> {
+        let entering = self.edges.iter().filter(|edge| edge.to == location);
+        entering.map(|edge| self.locations[edge.from].shape.pointers).collect()
     }
 }

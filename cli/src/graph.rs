@@ -79,7 +79,7 @@ fn location(source: &Source, routine: &Routine, automaton: &Automaton, number: u
     };
     let mut lines = vec![format!("location {number}{kind}"), format!("{name}: {}", names::statement(statement))];
     if location.fault != 0 {
-        lines.extend(names::fault(location.fault, statement));
+        lines.extend(names::fault(location.fault, statement, &automaton.reached_with(number)));
         return (lines, ", style=filled, fillcolor=\"#ffdcdc\"");
     }
     for pieces in shape_lines(&location.shape, &routine.idle_pointers()) {
@@ -97,7 +97,7 @@ fn location(source: &Source, routine: &Routine, automaton: &Automaton, number: u
 fn edge_lines(routine: &Routine, automaton: &Automaton, edge: &Edge) -> Vec<String> {
     let from = &automaton.locations[edge.from];
     let mut lines = Vec::new();
-    let condition = names::condition(edge, &routine.statements[from.statement]);
+    let condition = names::condition(edge, &routine.statements[from.statement], &automaton.locations[edge.to]);
     if !condition.is_empty() {
         lines.push(condition);
     }

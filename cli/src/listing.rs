@@ -49,17 +49,15 @@ impl Listing<'_> {
         let painted = self.style.strong(&lead);
         if location.fault != 0 {
             let mark = self.style.bad(&format!("FAULT {}", location.fault));
-            let what = names::fault(location.fault, statement).join(" ");
-            return format!("{painted}{mark} at {at}\n{}", paragraph(&" ".repeat(INDENT), INDENT, &what));
+            let what = names::fault(location.fault, statement, &self.automaton.reached_with(number));
+            return format!("{painted}{mark} at {at}\n{}", fill(&" ".repeat(INDENT), INDENT, &what));
         }
         let start = if number < self.routine.shapes.len() { "start, " } else { "" };
         format!("{painted}{start}{at}\n{}", indented(&shape_lines(&location.shape, &self.routine.idle_pointers()), INDENT))
     }
 
     pub fn edges(&self, number: usize) -> String {
-        let location = &self.automaton.locations[number];
-        let statement = &self.routine.statements[location.statement];
-        let conditions = || self.automaton.leaving(number).map(|(_, e)| names::condition(e, statement));
+        let conditions = || self.automaton.leaving(number).map(|(_, e)| self.condition(e));
         let width = conditions().map(|c| c.len()).max().unwrap_or(0);
         let mut out = String::new();
         for ((at, edge), condition) in self.automaton.leaving(number).zip(conditions()) {
@@ -71,20 +69,30 @@ impl Listing<'_> {
 
     /// An edge by itself.
     pub fn edge(&self, number: usize, edge: &Edge) -> String {
-        let statement = &self.routine.statements[self.automaton.locations[edge.from].statement];
         let lead = format!("{:<INDENT$}", format!("edge {number}"));
-        let condition = names::condition(edge, statement);
+        let condition = self.condition(edge);
         let gap = if condition.is_empty() { "" } else { "  " };
         self.leads(&format!("{}from location {}  {condition}{gap}", self.style.strong(&lead), edge.from), edge)
     }
 
+    fn condition(&self, edge: &Edge) -> String {
+        let [from, to] = self.ends(edge);
+        names::condition(edge, &self.routine.statements[from.statement], to)
+    }
+
+    /// The locations that an edge leaves and enters.
+    fn ends(&self, edge: &Edge) -> [&Location; 2] {
+        [edge.from, edge.to].map(|end| &self.automaton.locations[end])
+    }
+
     /// Where an edge leads, after what stands before it on the line.
     fn leads(&self, before: &str, edge: &Edge) -> String {
-        let [from, to] = [edge.from, edge.to].map(|end| &self.automaton.locations[end]);
+        let [from, to] = self.ends(edge);
         let lead = format!("{before}to location {}", edge.to);
         if to.fault != 0 {
             let mark = self.style.bad(&format!("FAULT {}", to.fault));
-            return format!("{lead}, {mark}: {}\n", names::fault_kind(to.fault));
+            let statement = &self.routine.statements[from.statement];
+            return format!("{lead}, {mark}: {}\n", names::cause(to.fault, statement, &from.shape.pointers));
         }
         let updates = with_commas(&names::updates(edge, from.shape.count));
         let colon = if updates.is_empty() { "" } else { ":" };

@@ -1,7 +1,7 @@
 //! Statements, faults, guards and updates in words.
 
-use crate::automaton::{Edge, Guard, Update};
-use crate::record::{Op, Statement};
+use crate::automaton::{Edge, Guard, Location, Update};
+use crate::record::{Op, Statement, NULL, POINTERS, UNDEFINED};
 
 /// A statement without its targets, as in the text form.
 pub fn statement(s: &Statement) -> String {
@@ -22,23 +22,75 @@ pub fn statement(s: &Statement) -> String {
     }
 }
 
-/// What went wrong at a statement, in parts that a line may be broken between.
-pub fn fault(fault: u8, s: &Statement) -> Vec<String> {
+/// The pointers that a statement goes through or looks at, each once.
+fn looked_at(s: &Statement) -> Vec<u8> {
+    match s.op {
+        Op::ReadNext => vec![s.w],
+        Op::WriteNull | Op::WriteNext | Op::Free | Op::TestNull => vec![s.u],
+        Op::TestEqual if s.u == s.w => vec![s.u],
+        Op::TestEqual => vec![s.u, s.w],
+        _ => Vec::new(),
+    }
+}
+
+/// Those of them that hold what the fault is about.
+fn blamed(fault: u8, s: &Statement, pointers: &[u8; POINTERS]) -> Vec<u8> {
+    let bad = if fault == 1 { NULL } else { UNDEFINED };
+    looked_at(s).into_iter().filter(|&p| pointers[p as usize] == bad).collect()
+}
+
+/// The pointers to blame, and whether these are several: those that are to blame however the fault is reached, or else one or
+/// another.
+fn culprits(fault: u8, s: &Statement, reached: &[[u8; POINTERS]]) -> (String, bool) {
+    let each: Vec<Vec<u8>> = reached.iter().map(|pointers| blamed(fault, s, pointers)).collect();
+    let named = |by: &dyn Fn(&u8) -> bool| looked_at(s).into_iter().filter(by).map(|p| format!("p{p}")).collect::<Vec<_>>();
+    let always = named(&|p| each.iter().all(|blamed| blamed.contains(p)));
+    let ever = named(&|p| each.iter().any(|blamed| blamed.contains(p)));
+    match (always.len(), ever.len()) {
+        // only where a heap does not match its location
+        (_, 0) => ("a pointer".into(), false),
+        (0, _) => (ever.join(" or "), false),
+        (n, _) => (always.join(" and "), n > 1),
+    }
+}
+
+/// What went wrong at a statement that was reached with these pointers, in parts that a line may be broken between.
+pub fn fault(fault: u8, s: &Statement, reached: &[[u8; POINTERS]]) -> Vec<String> {
     let done = match s.op {
-        Op::ReadNext => format!("reads through p{}", s.w),
-        Op::Free => format!("frees p{}", s.u),
-        _ => format!("writes through p{}", s.u),
+        Op::ReadNext => "reads through",
+        Op::Free => "frees",
+        Op::TestNull | Op::TestEqual => "looks at",
+        _ => "writes through",
     };
-    match fault {
-        1 => vec![format!("{done}, which is null")],
-        2 => vec![format!("{done}, which is undefined:"), "its cell was freed, or it never had one".into()],
+    let (who, several) = culprits(fault, s, reached);
+    match (fault, several) {
+        (1, _) => vec![format!("{done} {who}, which is null")],
+        (2, false) => vec![format!("{done} {who}, which is undefined:"), "its cell was freed, or it never had one".into()],
+        (2, true) => {
+            vec![format!("{done} {who}, which are undefined:"), "their cells were freed, or they never had one".into()]
+        }
         _ => vec!["a cell is lost (leak):".into(), "no pointer reaches it any more".into()],
+    }
+}
+
+/// The same in short, for one edge or one step: `p0 is null`
+pub fn cause(fault: u8, s: &Statement, pointers: &[u8; POINTERS]) -> String {
+    match (fault, culprits(fault, s, &[*pointers])) {
+        (1, (who, _)) => format!("{who} is null"),
+        (2, (who, false)) => format!("{who} is undefined"),
+        (2, (who, true)) => format!("{who} are undefined"),
+        _ => fault_kind(fault).into(),
     }
 }
 
 /// A fault's kind, for totals.
 pub fn fault_kind(fault: u8) -> &'static str {
-    ["none", "through null", "through undefined", "leak"][fault.min(3) as usize]
+    ["none", "null pointer", "undefined pointer", "leak"][fault.min(3) as usize]
+}
+
+/// The same in a sentence.
+pub fn a_fault(fault: u8) -> &'static str {
+    ["none", "a null pointer", "an undefined pointer", "a leak"][fault.min(3) as usize]
 }
 
 pub fn guard(guard: Guard) -> Option<String> {
@@ -49,10 +101,12 @@ pub fn guard(guard: Guard) -> Option<String> {
     }
 }
 
-/// When an edge is taken: its guard, or its branch where the statement has two.
-pub fn condition(edge: &Edge, s: &Statement) -> String {
+/// When an edge to that location is taken: its guard, or its branch where the statement has two. A test that faults is neither
+/// true nor false.
+pub fn condition(edge: &Edge, s: &Statement, to: &Location) -> String {
     match s.op {
         Op::Choose => format!("pick {}", edge.branch),
+        Op::TestNull | Op::TestEqual if to.fault != 0 => String::new(),
         Op::TestNull | Op::TestEqual => if edge.branch == 0 { "true" } else { "false" }.into(),
         _ => guard(edge.guard).unwrap_or_default(),
     }

@@ -5,7 +5,7 @@ use crate::drawing::{heap_lines, indented, shape_lines};
 use crate::listing::idle_note;
 use crate::machine::{compare, Configuration, Machine, Stepped};
 use crate::names;
-use crate::record::{Op, Routine};
+use crate::record::{Op, Routine, Statement};
 use crate::refusal;
 use crate::source::{Failure, Source};
 use crate::style::{fill, paragraph, with_commas, Style};
@@ -109,8 +109,9 @@ impl Run<'_> {
 
     /// One step of both, added to the text.
     fn step(&self, pair: &mut Pair, picks: &mut impl Iterator<Item = u8>, number: usize, text: &mut String) -> Result<(), End> {
-        let statement = &self.routine.statements[pair.machine.statement];
-        let name = self.source.statement_name(pair.machine.statement);
+        let before = pair.machine.clone();
+        let statement = &self.routine.statements[before.statement];
+        let name = self.source.statement_name(before.statement);
         let pick = if statement.op == Op::Choose { picks.next().ok_or(End::NoPick)? } else { 0 };
         let branch = match pair.machine.step(&statement.write(), pick) {
             Stepped::Made { branch } => branch,
@@ -120,14 +121,40 @@ impl Run<'_> {
         let lead = format!("{:<INDENT$}", format!("step {number}"));
         text.push_str(&format!("\n{}{name}: {}\n", self.style.strong(&lead), names::statement(statement)));
         let count = pair.at.counters.len();
-        let taken = pair.at.follow(self.automaton, branch).map_err(End::Mismatch)?;
-        let edge = &self.automaton.edges[taken];
-        let condition = names::condition(edge, statement);
+        let taken = pair.at.follow(self.automaton, branch);
+        if let Ok(edge) = taken {
+            text.push_str(&self.taken(edge, statement, count));
+        }
+        if pair.machine.fault != 0 {
+            text.push_str(&self.faulted(&before, &pair.machine, branch));
+        }
+        taken.map_err(End::Mismatch)?;
+        self.judge(pair, text)
+    }
+
+    /// The edge that was taken at a statement, from a location with so many nodes.
+    fn taken(&self, number: usize, statement: &Statement, count: usize) -> String {
+        let edge = &self.automaton.edges[number];
+        let condition = names::condition(edge, statement, &self.automaton.locations[edge.to]);
         let mut pieces = with_commas(&names::updates(edge, count));
         let colon = if pieces.is_empty() || condition.is_empty() { "" } else { ":" };
         pieces.insert(0, format!("{condition}{colon}"));
-        text.push_str(&fill(&format!("{:<INDENT$}", format!("  edge {taken}")), INDENT + 4, &pieces));
-        self.judge(pair, text)
+        fill(&format!("{:<INDENT$}", format!("  edge {number}")), INDENT + 4, &pieces)
+    }
+
+    /// The routine's own side of a fault, as the proved step answers it.
+    fn faulted(&self, before: &Machine, after: &Machine, branch: u8) -> String {
+        let statement = &self.routine.statements[after.statement];
+        let cause = names::cause(after.fault, statement, &before.pointers);
+        let stays = (before.pointers, before.cells) == (after.pointers, after.cells);
+        let pieces = [
+            format!("FAULT {} at {}:", after.fault, self.source.statement_name(after.statement)),
+            format!("{cause};"),
+            format!("branch {branch},"),
+            if stays { "the heap stays" } else { "the heap changes" }.into(),
+        ];
+        let line = fill(&format!("{:<INDENT$}", "  routine"), INDENT + 4, &pieces);
+        line.replacen("FAULT", &self.style.bad("FAULT"), 1)
     }
 
     /// The heap and the location beside it, and whether they match.
@@ -149,7 +176,8 @@ impl Run<'_> {
         let location = &self.automaton.locations[pair.at.location];
         let name = self.source.statement_name(location.statement);
         if location.fault != 0 {
-            let what = names::fault(location.fault, &self.routine.statements[location.statement]);
+            let statement = &self.routine.statements[location.statement];
+            let what = names::fault(location.fault, statement, &[pair.machine.pointers]);
             let mut pieces = vec![format!("location {}: FAULT {} at {name},", pair.at.location, location.fault)];
             pieces.extend(what);
             return pieces;
@@ -164,7 +192,7 @@ impl Run<'_> {
         let how = match end {
             End::Stop => "The routine stands at a stop, and no edge leaves the location.".into(),
             End::Fault(fault) => {
-                format!("The run ends with fault {fault}, {}, and no edge leaves the location.", names::fault_kind(*fault))
+                format!("The run ends with fault {fault}, {}, and no edge leaves the location.", names::a_fault(*fault))
             }
             End::NoPick => "The run waits at choose: --picks has no pick left.".into(),
             End::NoMoreSteps => "The run could go on: --steps sets how far.".into(),

@@ -56,7 +56,7 @@ fn damaged_texts() {
     let mut d = Draw::new(5);
     let (mut wrong, mut right) = (0, 0);
     for round in 0..20_000 {
-        let body = damaged(&mut d, &example(EXAMPLES[round % 8]));
+        let body = damaged(&mut d, &example(EXAMPLES[round % EXAMPLES.len()]));
         match assemble(&body) {
             Err(error) => {
                 let shown = error.show("f", &body);

@@ -49,7 +49,9 @@ fn boxes_and_arrows_say_what_the_listing_says() {
             let mut lines = vec![format!("{}: {}", location.statement, names::statement(statement))];
             let short = |pieces: &Vec<String>| pieces.join(" ").len() <= 52;
             if location.fault != 0 {
-                lines.extend(names::fault(location.fault, statement));
+                let entering = automaton.edges.iter().filter(|e| e.to == number);
+                let reached: Vec<_> = entering.map(|e| automaton.locations[e.from].shape.pointers).collect();
+                lines.extend(names::fault(location.fault, statement, &reached));
                 assert!(line.contains(&format!("FAULT {}</B>", location.fault)), "{line}");
             } else if shape_lines(&location.shape, &routine.idle_pointers()).iter().all(short) {
                 lines.extend(shape_lines(&location.shape, &routine.idle_pointers()).iter().map(|p| p.join(" ")));
@@ -60,13 +62,34 @@ fn boxes_and_arrows_say_what_the_listing_says() {
         }
         for (edge, line) in automaton.edges.iter().zip(shown.lines().filter(|l| l.contains(" -> l"))) {
             let from = &automaton.locations[edge.from];
-            let mut lines = vec![names::condition(edge, &routine.statements[from.statement])];
+            let to = &automaton.locations[edge.to];
+            let mut lines = vec![names::condition(edge, &routine.statements[from.statement], to)];
             lines.extend(names::updates(edge, from.shape.count));
             lines.retain(|l| !l.is_empty() && l != "counters kept");
             assert!(line.contains(&said(&lines)), "{lines:?} is not in {line}");
         }
     }
     assert!(faults.iter().all(|&n| n > 50), "{faults:?}");
+}
+
+/// A test that looks at an undefined pointer: the box names the pointers, and the arrow is neither true nor false.
+#[test]
+fn the_box_of_a_test_that_faults() {
+    let box_of = |shapes: &str| {
+        let shown = text(&printed(&["translate", "-", "--dot"], format!("test p0 = p1\nstop\n{shapes}").as_bytes()));
+        let found = shown.lines().find(|l| l.contains(", FAULT 2</B>")).map(String::from);
+        let arrows: Vec<String> = shown.lines().filter(|l| l.contains(" -> l")).map(|l| l.trim().into()).collect();
+        (found.expect("a box with FAULT 2"), arrows)
+    };
+    let (both, arrows) = box_of("shape\np0, p1 -> undefined\n");
+    let lines = ["0: test p0 = p1", "looks at p0 and p1, which are undefined:", "their cells were freed, or they never had one"];
+    let expected = format!("<B>location 1, FAULT 2</B><BR ALIGN=\"LEFT\"/>{}>", said(&lines.map(String::from)));
+    assert!(both.contains(&expected), "{expected} is not in {both}");
+    assert_eq!(arrows, ["l0 -> l1 [label=\"\"]"]);
+    let (either, arrows) = box_of("shape\np0 -> undefined\nshape\np1 -> undefined\n");
+    let lines = ["looks at p0 or p1, which is undefined:", "its cell was freed, or it never had one"];
+    assert!(either.contains(&said(&lines.map(String::from))), "{either}");
+    assert_eq!(arrows, ["l0 -> l2 [label=\"\"]", "l1 -> l2 [label=\"\"]"]);
 }
 
 #[test]

@@ -43,6 +43,9 @@ fn random_runs_match() {
             assert!(ran.text.lines().all(|l| l.chars().count() <= 100), "{}", ran.text);
             assert_eq!(ran.text.matches("\n  match ").count(), ran.steps + 1, "{}", ran.text);
             assert_eq!(ran.text.matches("\n  edge ").count(), ran.steps);
+            let faulted = if let End::Fault(fault) = ran.end { vec![fault.to_string()] } else { Vec::new() };
+            let told: Vec<&str> = ran.text.split("\n  routine    FAULT ").skip(1).map(|t| &t[..1]).collect();
+            assert_eq!(told, faulted, "{}", ran.text);
             runs += 1;
             steps += ran.steps;
             match ran.end {
@@ -56,7 +59,7 @@ fn random_runs_match() {
     assert!(faults[1..].iter().all(|&n| n > 50), "{faults:?}");
 }
 
-/// The examples that are right never fault, from any starting shape; the two that are wrong always do.
+/// The examples that are right never fault, from any starting shape; the three that are wrong always do.
 #[test]
 fn examples_do_what_they_say() {
     let mut d = Draw::new(4);
@@ -67,11 +70,39 @@ fn examples_do_what_they_say() {
             let ran = go(&source, &routine, &automaton, &options);
             let expected = match name {
                 "leak" => vec![End::Fault(3)],
-                "freed" => vec![End::Fault(2)],
+                "freed" | "compared" => vec![End::Fault(2)],
                 "ring" => vec![End::Stop, End::NoPick, End::NoMoreSteps],
                 _ => vec![End::Stop],
             };
             assert!(ran.matched && expected.contains(&ran.end), "{name}: {:?}\n{}", ran.end, ran.text);
+        }
+    }
+}
+
+/// What each wrong example says of itself: with that change every run ends at the stop, and no location but a leak's has a fault.
+#[test]
+fn what_mends_the_examples() {
+    let mut d = Draw::new(10);
+    for (name, wrong, right) in [
+        ("leak", &["        p1 := null\n"][..], &["        free p1\n        p1 := null\n"][..]),
+        ("freed", &["p0 := p0.next goto loop"], &["p0 := p1 goto loop"]),
+        (
+            "compared",
+            &["        free p0                     # the first cell, too early\n", "done:   stop\n"],
+            &["", "done:   free p0\n        stop\n"],
+        ),
+    ] {
+        let mut body = example(name);
+        for (old, new) in wrong.iter().zip(right) {
+            assert_eq!(body.matches(old).count(), 1, "{name}: {old}");
+            body = body.replace(old, new);
+        }
+        let source = Source::of_bytes(name, body.into_bytes()).unwrap();
+        let (routine, automaton) = (source.routine().unwrap(), source.automaton(ALL_PLACES).unwrap());
+        assert!(automaton.locations.iter().all(|l| matches!(l.fault, 0 | 3)), "{name}");
+        for most in 1..40 {
+            let ran = go(&source, &routine, &automaton, &Options { steps: 1000, ..options(&mut d, &routine, most) });
+            assert_eq!(ran.end, End::Stop, "{name}: {}", ran.text);
         }
     }
 }
@@ -140,6 +171,86 @@ fn a_changed_fault_is_told() {
     }
 }
 
+const TESTED: &str = "\
+loop: test p0 = p1
+stop
+shape
+p0 -> undefined
+p1 -> a -> null
+shape
+p0, p1 -> undefined
+";
+
+fn tested() -> (Source, Routine, Automaton) {
+    let source = Source::of_bytes("a", TESTED.into()).unwrap();
+    let (routine, automaton) = (source.routine().unwrap(), source.automaton(ALL_PLACES).unwrap());
+    (source, routine, automaton)
+}
+
+/// A test that looks at an undefined pointer: the edge is neither true nor false, the routine's side and the automaton's say the
+/// fault, and the heap between them is the one before.
+#[test]
+fn both_sides_of_a_test_that_faults() {
+    let (source, routine, automaton) = tested();
+    let one = go(&source, &routine, &automaton, &Options { heap: vec![3], shape: 0, picks: Vec::new(), steps: 200 });
+    let heap = "  heap       p1 -> 0 -> 1 -> 2 -> null\n             p0 -> undefined\n";
+    let start = format!("\nstart\n{heap}  match      location 0 at statement 0 (loop), c0 = 3\n");
+    let step = format!(
+        "
+step 1       statement 0 (loop): test p0 = p1
+  edge 0
+  routine    FAULT 2 at statement 0 (loop): p0 is undefined; branch 0, the heap stays
+{heap}  match      location 2: FAULT 2 at statement 0 (loop), looks at p0, which is undefined:
+                 its cell was freed, or it never had one
+
+1 step and 1 edge, each pair matched. The run ends with fault 2, an undefined pointer, and no edge
+leaves the location.
+"
+    );
+    assert!(one.text.ends_with(&(start + &step)), "{}", one.text);
+    let two = go(&source, &routine, &automaton, &Options { heap: Vec::new(), shape: 1, picks: Vec::new(), steps: 200 });
+    let step = "
+  edge 1
+  routine    FAULT 2 at statement 0 (loop): p0 and p1 are undefined; branch 0, the heap stays
+  heap       p0, p1 -> undefined
+  match      location 2: FAULT 2 at statement 0 (loop), looks at p0 and p1, which are undefined:
+                 their cells were freed, or they never had one
+";
+    assert!(two.text.contains(step), "{}", two.text);
+}
+
+#[test]
+fn a_fault_at_a_long_label() {
+    let shown = text(&printed(&["run", "-", "--shape", "1"], TESTED.replace("loop", &"x".repeat(300)).as_bytes()));
+    assert!(
+        shown.contains("\n  routine    FAULT 2 at statement 0 (xxxxxxxxxxxxxxxxxxxxxx..): p0 and p1 are undefined;"),
+        "{shown}"
+    );
+    assert!(shown.lines().all(|l| l.chars().count() <= 100), "{shown}");
+}
+
+/// The routine's side is the step's answer, whatever the automaton says.
+#[test]
+fn the_routine_speaks_for_itself() {
+    let (source, routine, whole) = tested();
+    let said = |change: &dyn Fn(&mut Automaton), expected: &str| {
+        let mut changed = whole.clone();
+        change(&mut changed);
+        let ran = go(&source, &routine, &changed, &Options { heap: vec![3], shape: 0, picks: Vec::new(), steps: 200 });
+        let side = "\n  routine    FAULT 2 at statement 0 (loop): p0 is undefined; branch 0, the heap stays\n";
+        assert!(matches!(ran.end, End::Mismatch(_)) && ran.text.contains(side), "{}", ran.text);
+        assert!(ran.text.contains(expected), "{expected} is not in\n{}", ran.text);
+    };
+    said(&|a| a.locations[2].fault = 3, "\n  MISMATCH   location 2: FAULT 3 at statement 0 (loop), a cell is lost (leak):");
+    said(
+        &|a| a.locations[2].fault = 1,
+        "\n  MISMATCH   location 2: FAULT 1 at statement 0 (loop), looks at a pointer, which is null\n",
+    );
+    said(&|a| a.locations[2].statement = 1, "\n  MISMATCH   location 2: FAULT 2 at statement 1, ");
+    said(&|a| a.edges[0].to = 0, "\n  MISMATCH   location 0 at statement 0 (loop)");
+    said(&|a| a.edges[0].branch = 1, "\nMISMATCH after 0 matching steps: 0 edges of branch 0 are enabled");
+}
+
 #[test]
 fn guards_hold_of_their_own_counter() {
     for (counters, one, more) in [([0, 5], false, false), ([1, 5], true, false), ([2, 0], false, true), ([40, 1], false, true)] {
@@ -160,6 +271,11 @@ fn a_guard_on_the_sum_is_told() {
     assert!(ran.text.contains("\n  MISMATCH   location 6 at statement 5, c0 = 1, c1 = 0, c2 = 40\n"), "{}", ran.text);
 }
 
+/// What is printed of a run of a text without cells, in one line.
+fn go_text(body: &str) -> String {
+    text(&printed(&["run", "-"], body.as_bytes())).replace('\n', " ")
+}
+
 #[test]
 fn how_runs_end() {
     let ends = |words: &[&str], status: i32, expected: &str| {
@@ -178,7 +294,12 @@ fn how_runs_end() {
         0,
         "4 steps and 4 edges, each pair matched. The run could go on",
     );
-    ends(&["run", "examples/leak.txt", "--heap", "2"], 0, "The run ends with fault 3, leak, and no edge leaves the location.");
+    for (file, words) in [("leak", "fault 3, a leak"), ("freed", "fault 2, an undefined pointer")] {
+        let expected = format!("The run ends with {words}, and no edge leaves the location.");
+        ends(&["run", &format!("examples/{file}.txt"), "--heap", "2"], 0, &expected);
+    }
+    let null = go_text("p1 := p0.next\nstop\nshape\n");
+    assert!(null.contains("The run ends with fault 1, a null pointer, and no edge leaves the location."), "{null}");
     ends(&["run", "examples/insert.txt", "--shape", "1"], 0, "The routine stands at a stop");
     ends(&["run", "examples/insert.txt", "--shape", "2"], 2, "--shape 2: the routine has 2 starting shapes, counted from 0");
     let drawn = "starting shape 0 needs 2, one for each node:     p0 -> n0(c0) -> null     p1 -> n1(c1) -> null";

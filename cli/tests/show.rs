@@ -58,6 +58,22 @@ location 4     statement 4: p0 := p0.next
     assert!(text(&from_records).contains("record         4c"), "{}", text(&from_records));
 }
 
+/// An edge of a test that faults: no condition, and the pointer by its name.
+#[test]
+fn an_edge_to_a_fault() {
+    let body = b"test p0 = p1\nstop\nshape\np1 -> undefined\nshape\np0, p1 -> undefined\n";
+    let said = |number: &str| text(&printed(&["show", "-", "edge", number], body));
+    let first = "\nedge 0         from location 0  to location 2, FAULT 2: p1 is undefined\nlocation 0     start, ";
+    assert!(said("0").contains(first), "{}", said("0"));
+    let second = "\nedge 1         from location 1  to location 2, FAULT 2: p0 and p1 are undefined\nlocation 1     start, ";
+    assert!(said("1").contains(second), "{}", said("1"));
+    let end = "\nlocation 2     FAULT 2 at statement 0: test p0 = p1\n               looks at p1, which is undefined: \
+               its cell was freed, or it never had one\n";
+    assert!(said("1").ends_with(end), "{}", said("1"));
+    let location = text(&printed(&["show", "-", "location", "0"], body));
+    assert!(location.ends_with("\n  edge 0       to location 2, FAULT 2: p1 is undefined\n"), "{location}");
+}
+
 /// A number that is not in use is refused by the library, and explained with those that are.
 #[test]
 fn numbers_that_are_not_in_use() {

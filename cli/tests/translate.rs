@@ -114,6 +114,7 @@ fn edge_record(line: &str, from: usize, old: u8, new: u8) -> [u8; 32] {
         record[7] = number(guard);
     }
     if rest.contains("FAULT") {
+        assert!(condition.is_empty() || condition.starts_with("if "), "{line}");
         return record;
     }
     let updates: Vec<String> = match rest.split_once(": ").map_or("", |u| u.1) {
@@ -136,6 +137,60 @@ fn edge_record(line: &str, from: usize, old: u8, new: u8) -> [u8; 32] {
         record[8 + 2 * n..10 + 2 * n].copy_from_slice(&bits.to_le_bytes());
     }
     record
+}
+
+/// The pointers that a location's statement goes through or looks at, by its words.
+fn looked_at(block: &[String]) -> Vec<&str> {
+    let words = || block[0].rsplit_once(": ").unwrap().1.split(' ');
+    let mut pointers = match words().find_map(|w| w.strip_suffix(".next")) {
+        Some(through) => vec![through],
+        None => words().filter(|w| w.starts_with('p')).collect(),
+    };
+    pointers.dedup();
+    pointers
+}
+
+/// Where the edges of a block lead to fault 1 or 2, each with the pointers to blame, by the shape that is drawn; and that they say so.
+fn blamed(block: &[String]) -> Vec<(usize, Vec<&str>)> {
+    let location = location_record(block);
+    let mut out = Vec::new();
+    for (lead, said) in block.iter().filter_map(|line| line.split_once(", FAULT ")) {
+        let fault = number(said);
+        let held = if fault == 1 { 0xfe } else { 0xff };
+        let who: Vec<&str> = looked_at(block).into_iter().filter(|p| location[4 + number(p) as usize] == held).collect();
+        let what = match (fault, &who[..]) {
+            (1, [one]) => format!("{one} is null"),
+            (2, [one]) => format!("{one} is undefined"),
+            (2, [one, other]) => format!("{one} and {other} are undefined"),
+            (3, _) => "leak".into(),
+            _ => panic!("{block:?}"),
+        };
+        assert_eq!(said, format!("{fault}: {what}"), "{block:?}");
+        if fault < 3 {
+            out.push((lead.rsplit_once(' ').unwrap().1.parse().unwrap(), who));
+        }
+    }
+    out
+}
+
+/// At each fault the listing names the pointers to blame. How often it is one, both, and one or the other.
+fn faults_name_their_pointers(listing: &str) -> [usize; 3] {
+    let blocks = joined(listing);
+    let told = &blocks[1..blocks.len() - 1];
+    let mut blames: HashMap<usize, Vec<Vec<&str>>> = HashMap::new();
+    told.iter().flat_map(|b| blamed(b)).for_each(|(at, who)| blames.entry(at).or_default().push(who));
+    let mut counts = [0; 3];
+    for (at, blames) in blames {
+        let always: Vec<&str> = blames[0].iter().copied().filter(|p| blames.iter().all(|who| who.contains(p))).collect();
+        let (kind, expected) = match &always[..] {
+            [] => (2, format!(" {}, which is ", looked_at(&told[at]).join(" or "))),
+            [one] => (0, format!(" {one}, which is ")),
+            both => (1, format!(" {}, which are ", both.join(" and "))),
+        };
+        assert!(told[at][1].contains(&expected), "{expected} is not in {:?}", told[at]);
+        counts[kind] += 1;
+    }
+    counts
 }
 
 /// Reads both tables back from the listing.
@@ -166,7 +221,7 @@ fn no_long_lines(shown: &str) {
 #[test]
 fn listings_tell_the_whole_tables() {
     let mut d = Draw::new(2);
-    let (mut seen, mut large) = (0, 0);
+    let (mut seen, mut large, mut faults) = (0, 0, [0; 3]);
     for round in 0..2400 {
         let records = d.routine(if round % 2 == 0 { 64 } else { 9 });
         let source = Source::of_bytes("a", records).unwrap();
@@ -174,11 +229,14 @@ fn listings_tell_the_whole_tables() {
             no_long_lines(&shown);
             let (locations, edges) = tables_of(&shown);
             assert!(locations == tables.locations && edges == tables.edges, "{shown}");
+            let more = faults_name_their_pointers(&shown);
+            faults = [0, 1, 2].map(|kind| faults[kind] + more[kind]);
             seen += 1;
             large += usize::from(locations.len() > 200 * 32);
         }
     }
     assert!(seen > 1000 && large > 30, "{seen} listings, {large} large ones");
+    assert!(faults.iter().all(|&n| n > 10), "{faults:?}");
 }
 
 #[test]
@@ -187,6 +245,7 @@ fn listings_of_the_examples_tell_the_whole_tables() {
         let (shown, tables) = listing(&of_text(name)).unwrap();
         no_long_lines(&shown);
         assert_eq!(tables_of(&shown), (tables.locations, tables.edges), "{name}");
+        faults_name_their_pointers(&shown);
     }
 }
 
@@ -210,9 +269,14 @@ fn shelf_cases_in_words() {
         ("p0 := new", "", "to location 1: c0' = 1"),
         ("p1 := null", "p0 -> a -> b\np1 -> b", "to location 1: c0' = c0 + c1"),
         ("free p0", "", "to location 1\n"),
-        ("p0.next := null", "p0 -> undefined", "to location 1, FAULT 2: through undefined"),
-        ("p0.next := null", "", "to location 1, FAULT 1: through null"),
-        ("test p0 = p1", "p0, p1 -> undefined", "true  to location 1\n"),
+        ("p0.next := null", "p0 -> undefined", "edge 0       to location 1, FAULT 2: p0 is undefined\n"),
+        ("p0.next := null", "", "edge 0       to location 1, FAULT 1: p0 is null\n"),
+        ("test p0 = p1", "p0, p1 -> undefined", "edge 0       to location 1, FAULT 2: p0 and p1 are undefined\n"),
+        ("test p0 = p1", "p1 -> undefined", "edge 0       to location 1, FAULT 2: p1 is undefined\n"),
+        ("test p0 = p0", "p0, p1 -> undefined", "edge 0       to location 1, FAULT 2: p0 is undefined\n"),
+        ("test p1 = null", "p0, p1 -> undefined", "edge 0       to location 1, FAULT 2: p1 is undefined\n"),
+        ("test p0 = p1", "p0, p1 -> a -> undefined\np2 -> undefined", "true  to location 1: counters kept\n"),
+        ("test p0 = null", "p0 -> a\np1 -> undefined", "false  to location 1: counters kept\n"),
     ];
     for (statement, chains, expected) in cases {
         let body = format!("{statement}\nstop\nshape\n{chains}\n");
@@ -230,6 +294,15 @@ fn faults_in_words() {
         ("p2.next := null", "p2 -> undefined", "writes through p2, which is undefined: its cell was freed, or it never had one"),
         ("free p3", "p3 -> undefined", "frees p3, which is undefined: its cell was freed, or it never had one"),
         ("p0 := null", "p0 -> a", "a cell is lost (leak): no pointer reaches it any more"),
+        ("test p4 = null", "p4 -> undefined", "looks at p4, which is undefined: its cell was freed, or it never had one"),
+        ("test p0 = p1", "p1 -> undefined", "looks at p1, which is undefined: its cell was freed, or it never had one"),
+        ("test p0 = p1", "p0 -> undefined\np1 -> a", "looks at p0, which is undefined: its cell was freed, or it never had one"),
+        ("test p3 = p3", "p3 -> undefined", "looks at p3, which is undefined: its cell was freed, or it never had one"),
+        (
+            "test p0 = p1",
+            "p0, p1 -> undefined",
+            "looks at p0 and p1, which are undefined:\n               their cells were freed, or they never had one",
+        ),
     ];
     for (statement, chains, expected) in cases {
         let body = format!("{statement}\nstop\nshape\n{chains}\n");
@@ -239,10 +312,33 @@ fn faults_in_words() {
             "{expected} is not in\n{shown}"
         );
         assert!(shown.contains("(1 start, 0 stops, 1 fault), 1 edge\nLocations with a fault: 1\n"), "{shown}");
+        let fault = number(shown.split_once(", FAULT ").unwrap().1);
+        let kind = ["null pointer", "undefined pointer", "leak"][fault as usize - 1];
+        assert!(shown.contains(&format!("\n    FAULT {fault}, {kind}: 1\n")), "{shown}");
     }
     let (shown, _) = listing(&of_text("two-lists")).unwrap();
     assert!(
         shown.ends_with("\nNo location has a fault: no run from the starting shapes faults, however long the lists are.\n"),
         "{shown}"
     );
+}
+
+/// Where the locations before a fault differ in the pointer that is undefined, its words name either; where they agree, all.
+#[test]
+fn one_pointer_or_another() {
+    let either = "looks at p0 or p1, which is undefined: its cell was freed, or it never had one";
+    let both = "looks at p0 and p1, which are undefined:\n               their cells were freed, or they never had one";
+    let cases = [
+        ("p0 -> undefined", "p1 -> undefined", either),
+        ("p0 -> undefined", "p0, p1 -> undefined", "looks at p0, which is undefined: its cell was freed, or it never had one"),
+        ("p0, p1 -> undefined", "p1 -> undefined", "looks at p1, which is undefined: its cell was freed, or it never had one"),
+        ("p0, p1 -> undefined", "p0, p1, p2 -> undefined", both),
+        ("p0 -> undefined", "p0, p2 -> undefined", "looks at p0, which is undefined: its cell was freed, or it never had one"),
+    ];
+    for (first, second, expected) in cases {
+        let body = format!("test p0 = p1\nstop\nshape\n{first}\nshape\n{second}\n");
+        let (shown, _) = listing(&Source::of_bytes("a", body.into_bytes()).unwrap()).unwrap();
+        let block = format!("\nlocation 2     FAULT 2 at statement 0: test p0 = p1\n               {expected}\n\n");
+        assert!(shown.contains(&block), "{expected} is not in\n{shown}");
+    }
 }

@@ -5,7 +5,7 @@ use crate::statement::{Op, Statement};
 
 /// Reading or writing through null.
 pub const THROUGH_NULL: u8 = 1;
-/// Reading or writing through undefined, or freeing it.
+/// Reading or writing through undefined, freeing it, or looking at it in a test.
 pub const THROUGH_UNDEFINED: u8 = 2;
 /// The finished effect leaves a cell unreachable.
 pub const LEAK: u8 = 3;
@@ -24,7 +24,6 @@ pub fn run(heap: &mut Heap, statement: &Statement, pick: u64, fresh: usize) -> O
     if statement.op == Op::Stop {
         return Outcome::Stop;
     }
-    let branch = branch(heap, statement, pick);
     let mut changed = heap.clone();
     if let Err(fault) = effect(&mut changed, statement, fresh) {
         return Outcome::Fault(fault);
@@ -32,16 +31,17 @@ pub fn run(heap: &mut Heap, statement: &Statement, pick: u64, fresh: usize) -> O
     if changed.leaks() {
         return Outcome::Fault(LEAK);
     }
+    let branch = branch(heap, statement, pick);
     *heap = changed;
     let next = if branch == 0 { statement.first } else { statement.second };
     Outcome::Moved { branch, next }
 }
 
-/// A true test and a first choice take branch 0, the others branch 1.
+/// A true test and a first choice take branch 0, the others branch 1. A test
+/// that gets here has looked at null and cells only.
 fn branch(heap: &Heap, statement: &Statement, pick: u64) -> u8 {
     let first = match statement.op {
         Op::TestNull => heap.pointers[statement.u] == Value::Null,
-        // Two undefined pointers are equal, as the values are.
         Op::TestEqual => heap.pointers[statement.u] == heap.pointers[statement.w],
         Op::Choose => pick == 0,
         _ => true,
@@ -52,7 +52,7 @@ fn branch(heap: &Heap, statement: &Statement, pick: u64) -> u8 {
 fn effect(heap: &mut Heap, statement: &Statement, fresh: usize) -> Result<(), u8> {
     let Statement { op, u, w, .. } = *statement;
     match op {
-        Op::Stop | Op::TestNull | Op::TestEqual | Op::Choose | Op::Skip => {}
+        Op::Stop | Op::Choose | Op::Skip => {}
         Op::SetNull => heap.pointers[u] = Value::Null,
         Op::Copy => heap.pointers[u] = heap.pointers[w],
         Op::LoadNext => heap.pointers[u] = heap.next(cell_of(heap, w)?),
@@ -73,6 +73,13 @@ fn effect(heap: &mut Heap, statement: &Statement, fresh: usize) -> Result<(), u8
             Value::Null => {}
             Value::Undefined => return Err(THROUGH_UNDEFINED),
         },
+        // "From now on a test that looks at an undefined pointer, in op 8 or
+        // 9, is fault 2, on branch 0, even if both are the same."
+        Op::TestNull => look_at(heap, u)?,
+        Op::TestEqual => {
+            look_at(heap, u)?;
+            look_at(heap, w)?;
+        }
     }
     Ok(())
 }
@@ -82,6 +89,14 @@ fn cell_of(heap: &Heap, pointer: usize) -> Result<usize, u8> {
     match heap.pointers[pointer] {
         Value::Cell(cell) => Ok(cell),
         Value::Null => Err(THROUGH_NULL),
+        Value::Undefined => Err(THROUGH_UNDEFINED),
+    }
+}
+
+/// The fault of a test that looks at a pointer, if there is one.
+fn look_at(heap: &Heap, pointer: usize) -> Result<(), u8> {
+    match heap.pointers[pointer] {
+        Value::Cell(_) | Value::Null => Ok(()),
         Value::Undefined => Err(THROUGH_UNDEFINED),
     }
 }
@@ -115,6 +130,10 @@ mod tests {
             (Op::StoreNext, 3, 0, THROUGH_NULL),
             (Op::StoreNext, 2, 0, THROUGH_UNDEFINED),
             (Op::Free, 2, 0, THROUGH_UNDEFINED),
+            (Op::TestNull, 2, 0, THROUGH_UNDEFINED),
+            (Op::TestEqual, 2, 2, THROUGH_UNDEFINED),
+            (Op::TestEqual, 2, 3, THROUGH_UNDEFINED),
+            (Op::TestEqual, 0, 2, THROUGH_UNDEFINED),
             (Op::SetNull, 0, 0, LEAK),
             (Op::Copy, 0, 1, LEAK),
             (Op::New, 0, 0, LEAK),
@@ -132,12 +151,13 @@ mod tests {
     fn branches() {
         let cases = [
             (Op::TestNull, 3, 0, 0, 0),
-            (Op::TestNull, 2, 0, 0, 1),
             (Op::TestNull, 0, 0, 0, 1),
-            (Op::TestEqual, 2, 2, 0, 0),
+            (Op::TestEqual, 0, 0, 0, 0),
             (Op::TestEqual, 0, 1, 0, 1),
+            (Op::TestEqual, 3, 3, 0, 0),
             (Op::TestEqual, 3, 4, 0, 0),
-            (Op::TestEqual, 2, 3, 0, 1),
+            (Op::TestEqual, 0, 3, 0, 1),
+            (Op::TestEqual, 3, 0, 0, 1),
             (Op::Choose, 0, 0, 0, 0),
             (Op::Choose, 0, 0, 1, 1),
             (Op::Skip, 0, 0, 1, 0),
@@ -150,6 +170,85 @@ mod tests {
             assert_eq!(outcome, Outcome::Moved { branch, next }, "{op:?} {u} {w}");
             assert_eq!(heap, two_cells());
         }
+    }
+
+    /// What a test may find: null, undefined, and two cells.
+    const HELD: [Value; 4] = [Value::Null, Value::Undefined, Value::Cell(0), Value::Cell(1)];
+
+    /// Pointer 5 and cell 1 keep both cells held, whatever the others hold.
+    fn holding(u: usize, first: Value, w: usize, second: Value) -> Heap {
+        let mut heap = Heap::empty();
+        heap.cells = vec![Some(Value::Undefined), Some(Value::Cell(0))];
+        heap.pointers[5] = Value::Cell(1);
+        heap.pointers[u] = first;
+        heap.pointers[w] = second;
+        heap
+    }
+
+    /// The outcome of a test that is fault 2, or true, or false.
+    fn decided(fault: bool, equal: bool) -> Outcome {
+        match (fault, equal) {
+            (true, _) => Outcome::Fault(THROUGH_UNDEFINED),
+            (_, true) => Outcome::Moved { branch: 0, next: 4 },
+            _ => Outcome::Moved { branch: 1, next: 5 },
+        }
+    }
+
+    #[test]
+    fn every_pairing_that_a_test_may_find() {
+        let mut faults = 0;
+        for first in HELD {
+            for pointer in 0..5 {
+                let before = holding(pointer, first, pointer, first);
+                let undefined = first == Value::Undefined;
+                for (op, w, equal) in [(Op::TestNull, 0, first == Value::Null), (Op::TestEqual, pointer, true)] {
+                    let mut heap = before.clone();
+                    let outcome = run(&mut heap, &statement(op, pointer, w), 1, 9);
+                    assert_eq!(outcome, decided(undefined, equal), "{op:?} {pointer} at {first:?}");
+                    assert_eq!(heap, before);
+                    faults += u32::from(undefined);
+                }
+            }
+            for second in HELD {
+                for (u, w) in [(0, 1), (1, 0), (2, 4)] {
+                    let before = holding(u, first, w, second);
+                    let undefined = [first, second].contains(&Value::Undefined);
+                    let mut heap = before.clone();
+                    let outcome = run(&mut heap, &statement(Op::TestEqual, u, w), 1, 9);
+                    assert_eq!(outcome, decided(undefined, first == second), "{first:?} and {second:?}");
+                    assert_eq!(heap, before);
+                    faults += u32::from(undefined);
+                }
+            }
+        }
+        // Five pointers by both ops, and seven of the sixteen pairs at three places.
+        assert_eq!(faults, 10 + 21);
+    }
+
+    #[test]
+    fn a_test_looks_at_its_own_pointers_only() {
+        // Other pointers, and the next of a cell, may be undefined.
+        let mut heap = holding(0, Value::Cell(0), 1, Value::Null);
+        heap.pointers[2] = Value::Undefined;
+        heap.pointers[3] = Value::Undefined;
+        for (op, u, w, equal) in [(Op::TestNull, 0, 0, false), (Op::TestNull, 1, 0, true), (Op::TestEqual, 0, 1, false)] {
+            assert_eq!(run(&mut heap, &statement(op, u, w), 0, 9), decided(false, equal), "{op:?} {u} {w}");
+        }
+    }
+
+    #[test]
+    fn a_freed_cell_may_not_be_compared() {
+        let mut heap = two_cells();
+        heap.pointers[4] = Value::Cell(1);
+        run(&mut heap, &statement(Op::Free, 1, 0), 0, 0);
+        let freed = heap.clone();
+        let fault = Outcome::Fault(THROUGH_UNDEFINED);
+        assert_eq!(run(&mut heap, &statement(Op::TestNull, 4, 0), 0, 0), fault);
+        assert_eq!(run(&mut heap, &statement(Op::TestEqual, 1, 4), 0, 0), fault);
+        assert_eq!(run(&mut heap, &statement(Op::TestEqual, 1, 1), 0, 0), fault);
+        assert_eq!(heap, freed);
+        run(&mut heap, &statement(Op::SetNull, 4, 0), 0, 0);
+        assert_eq!(run(&mut heap, &statement(Op::TestNull, 4, 0), 0, 0), decided(false, true));
     }
 
     #[test]

@@ -113,7 +113,8 @@ fn many_nodes(random: &mut Random, most: usize) -> Heap {
     heap
 }
 
-fn drop_lost_cells(heap: &mut Heap) {
+/// Takes the cells away that are not reachable.
+pub fn drop_lost_cells(heap: &mut Heap) {
     let met = heap.reachable();
     for (cell, met) in heap.cells.iter_mut().zip(met) {
         if !met {

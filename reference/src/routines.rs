@@ -2,7 +2,7 @@
 
 use crate::fold::fold_heap;
 use crate::heap::{Heap, Value, POINTERS};
-use crate::random::{random_heap, Random};
+use crate::random::{drop_lost_cells, random_heap, Random};
 use crate::records::{Record, RECORD, STATEMENT};
 use crate::statement::OPS;
 
@@ -19,10 +19,13 @@ impl Drawn {
 }
 
 /// A routine that passes all checks. Most are short; some are as long as may
-/// be, and some are made so that their listings grow large.
+/// be, some are made so that their listings grow large, and some so that they
+/// compare what they freed.
 pub fn random_routine(random: &mut Random) -> Drawn {
-    if random.chance(4) {
-        return ring_walk(random);
+    match random.below(100) {
+        0..=3 => return ring_walk(random),
+        4..=13 => return free_and_compare(random),
+        _ => {}
     }
     let (statements, shapes) = match random.below(100) {
         0..=69 => (random.between(1, 8), random.between(1, 3)),
@@ -56,6 +59,24 @@ fn ring_walk(random: &mut Random) -> Drawn {
     }
     heap.pointers = heap.pointers.map(|_| Value::Cell(random.below(cells)));
     heap.pointers[POINTERS - 1] = Value::Cell(0);
+    Drawn { statements, shapes: vec![fold_heap(&heap).0] }
+}
+
+/// Few pointers, most of them at one node, which is freed and then compared:
+/// many tests look at undefined pointers.
+fn free_and_compare(random: &mut Random) -> Drawn {
+    const FREE: [usize; 12] = [0, 0, 0, 0, 0, 0, 0, 1, 0, 0, 0, 0];
+    const TEST: [usize; 12] = [0, 0, 0, 0, 0, 0, 0, 0, 1, 4, 0, 0];
+    const ANY: [usize; 12] = [1, 1, 5, 0, 0, 0, 3, 3, 3, 9, 5, 1];
+    let count = random.between(3, 12);
+    let pointers = random.between(2, 4);
+    let weights = |number| [&FREE, &TEST, &ANY][usize::min(number, 2)];
+    let statements = (0..count).map(|number| random_statement(random, number, count, pointers, weights(number))).collect();
+    let mut heap = Heap::empty();
+    heap.cells = vec![Some(Value::Null), Some(Value::Undefined)];
+    let others = [Value::Cell(1), Value::Null, Value::Undefined];
+    heap.pointers = heap.pointers.map(|_| if random.chance(75) { Value::Cell(0) } else { others[random.below(3)] });
+    drop_lost_cells(&mut heap);
     Drawn { statements, shapes: vec![fold_heap(&heap).0] }
 }
 

@@ -132,6 +132,11 @@ fn step_in_text() {
     check(&["step"], &with(stop(), ""), 0, &format!("stop\n{stays}"));
     let leak = with(s(1, 0, 0, 0, 0), "");
     check(&["step"], &leak, 0, &format!("fault 3\n{stays}"));
+    for test in [s(8, 4, 0, 7, 9), s(9, 4, 4, 7, 9), s(9, 0, 4, 7, 9), s(9, 4, 1, 7, 9)] {
+        check(&["step"], &with(test, ""), 0, &format!("fault 2\n{stays}"));
+    }
+    let test = with(s(9, 0, 1, 7, 9), "");
+    check(&["step"], &test, 0, &format!("moved 1 9\n{stays}"));
 }
 
 #[test]

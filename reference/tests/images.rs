@@ -180,7 +180,8 @@ fn steps_that_move() {
     assert_eq!((pointers, cells), ([4, 2, UNDEF, 1, NULL, 4], CELLS));
     let second = Stepped::Moved { branch: 1, next: 5 };
     assert_eq!(step_on(&s(10, 0, 0, 63, 5), 1, 0).0, second);
-    assert_eq!(step_on(&s(8, 2, 0, 63, 5), 0, 0).0, second);
+    assert_eq!(step_on(&s(8, 1, 0, 63, 5), 0, 0).0, moved);
+    assert_eq!(step_on(&s(8, 3, 0, 63, 5), 0, 0).0, second);
     assert_eq!(step_on(&s(9, 0, 5, 63, 5), 0, 0).0, moved);
     assert_eq!(step_on(&s(9, 0, 3, 63, 5), 0, 0).0, second);
 }
@@ -191,6 +192,10 @@ fn steps_that_stay() {
     assert_eq!(step_on(&s(3, 0, 1, 0, 0), 0, 0).0, Stepped::Fault(1));
     assert_eq!(step_on(&s(4, 2, 0, 0, 0), 0, 0).0, Stepped::Fault(2));
     assert_eq!(step_on(&s(7, 2, 0, 0, 0), 0, 0).0, Stepped::Fault(2));
+    assert_eq!(step_on(&s(8, 2, 0, 63, 5), 0, 0).0, Stepped::Fault(2));
+    assert_eq!(step_on(&s(9, 2, 2, 63, 5), 0, 0).0, Stepped::Fault(2));
+    assert_eq!(step_on(&s(9, 2, 3, 63, 5), 0, 0).0, Stepped::Fault(2));
+    assert_eq!(step_on(&s(9, 1, 2, 63, 5), 0, 0).0, Stepped::Fault(2));
     assert_eq!(step_on(&s(1, 3, 0, 0, 0), 0, 0).0, Stepped::Fault(3));
     assert_eq!(step_on(&s(6, 3, 0, 0, 0), 0, 3).0, Stepped::Fault(3));
 }

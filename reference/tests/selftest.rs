@@ -1,6 +1,6 @@
 //! The selftest with its fixed seed, and that it is the same every time.
 
-use reference::selftest::{run, ROUTINES, SEED};
+use reference::selftest::{run, Counts, ROUTINES, SEED};
 
 #[test]
 fn the_fixed_seed_agrees_and_meets_everything() {
@@ -10,6 +10,26 @@ fn the_fixed_seed_agrees_and_meets_everything() {
     assert!(counts.large >= 20);
     assert_eq!(counts.nodes, 12);
     assert!(counts.never_met().is_none());
+    assert!(counts.too_few().is_none());
+    for tests in [counts.undefined_listed, counts.undefined_run, counts.undefined_stepped] {
+        assert!(tests.iter().all(|&count| count >= 400), "{tests:?}");
+    }
+    assert!(counts.freed_run >= 1_000);
+}
+
+#[test]
+fn tests_of_undefined_pointers_that_are_too_few_are_told() {
+    let (each, routines) = ([5; 5], 400);
+    let mut counts = Counts { routines, freed_run: 5, ..Counts::default() };
+    [counts.undefined_listed, counts.undefined_run, counts.undefined_stepped] = [each; 3];
+    assert_eq!(counts.undefined_floor(), 5);
+    assert_eq!(counts.too_few(), None);
+    counts.undefined_run[3] = 4;
+    let due = "undefined in runs, test u = w with both undefined (4 of 5)";
+    assert_eq!(counts.too_few().as_deref(), Some(due));
+    counts.freed_run = 0;
+    let due = format!("undefined in runs, test of a freed cell (0 of 5), {due}");
+    assert_eq!(counts.too_few(), Some(due));
 }
 
 #[test]

@@ -112,9 +112,10 @@ fn p10_write_through_undefined() {
 }
 
 #[test]
-fn p11_two_undefined_pointers_are_equal() {
+fn p11_a_test_of_two_undefined_pointers() {
+    // "Case P11 becomes a fault."
     let both = pointers(&[UNDEF, UNDEF]);
-    check_listing(&[s(9, 0, 1, 1, 2), stop(), stop(), h(both, &[])], &[l(0, both, &[]), l(1, both, &[])], &[e(0, 1, 0, 0, &[])]);
+    check_listing(&[s(9, 0, 1, 1, 2), stop(), stop(), h(both, &[])], &[l(0, both, &[]), faulted(0, 2)], &[e(0, 1, 0, 0, &[])]);
 }
 
 #[test]
@@ -128,10 +129,16 @@ fn choose_has_both_branches_in_order() {
 
 #[test]
 fn a_test_has_the_one_branch_that_its_shape_decides() {
+    let list = pointers(&[0]);
     check_listing(
-        &[s(8, 0, 0, 1, 2), stop(), stop(), h(pointers(&[UNDEF]), &[])],
-        &[l(0, pointers(&[UNDEF]), &[]), l(2, pointers(&[UNDEF]), &[])],
-        &[e(1, 1, 0, 0, &[])],
+        &[s(8, 0, 0, 1, 2), stop(), stop(), h(list, &[UNDEF])],
+        &[l(0, list, &[UNDEF]), l(2, list, &[UNDEF])],
+        &[e(1, 1, 0, 0, &[0x1001])],
+    );
+    check_listing(
+        &[s(8, 1, 0, 1, 2), stop(), stop(), h(list, &[0])],
+        &[l(0, list, &[0]), l(1, list, &[0])],
+        &[e(0, 1, 0, 0, &[0x1001])],
     );
 }
 

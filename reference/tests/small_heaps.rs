@@ -130,7 +130,9 @@ fn effect(held: &mut [u8; 6], cells: &mut Cells, fields: [u8; 3], pick: u64, cel
             }
             cells[usize::from(gone)] = UNUSED;
         }
+        8 if held[u] == UNDEF => return Err(2),
         8 => return Ok(held[u] == NULL),
+        9 if held[u] == UNDEF || held[w] == UNDEF => return Err(2),
         9 => return Ok(held[u] == held[w]),
         10 => return Ok(pick == 0),
         _ => {}
@@ -177,6 +179,7 @@ fn all_statements() -> Vec<Record> {
 fn every_statement() {
     let statements = all_statements();
     let mut faults = [0; 4];
+    let mut tests = [0; 2];
     let sound = all_images().into_iter().filter(|(held, cells)| due_refusal(held, cells) == 0);
     for (number, (held, cells)) in sound.enumerate() {
         for statement in &statements {
@@ -190,8 +193,12 @@ fn every_statement() {
             assert_eq!((to_held, to_cells), (due_held, due_cells));
             if let Stepped::Fault(fault) = got {
                 faults[usize::from(fault)] += 1;
+                if let op @ (8 | 9) = fields[0] {
+                    tests[usize::from(op - 8)] += 1;
+                }
             }
         }
     }
     assert!(faults[1..].iter().all(|&count| count > 500), "{faults:?}");
+    assert!(tests.iter().all(|&count| count > 500), "{tests:?}");
 }

@@ -10,8 +10,6 @@ fn p2() -> Vec<u8> {
 }
 
 fn listing() -> (Vec<Record>, Vec<Record>) {
-    let mut from_1 = e(0, 4, 0, 0, &[]);
-    from_1[2] = 1;
     let locations = vec![
         l(0, pointers(&[0, 0]), &[NULL]),
         l(0, NULLS, &[]),
@@ -19,7 +17,7 @@ fn listing() -> (Vec<Record>, Vec<Record>) {
         l(1, pointers(&[0, 1]), &[NULL, 0]),
         faulted(0, 1),
     ];
-    let edges = vec![e(0, 2, 1, 0, &[0x1001]), e(0, 3, 2, 0, &[0x0001, 0x2000]), from_1];
+    let edges = vec![e(0, 2, 1, 0, &[0x1001]), e(0, 3, 2, 0, &[0x0001, 0x2000]), from(1, e(0, 4, 0, 0, &[]))];
     (locations, edges)
 }
 

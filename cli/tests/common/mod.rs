@@ -5,7 +5,7 @@ use std::io::Write;
 use std::path::{Path, PathBuf};
 use std::process::{Command, Output, Stdio};
 
-pub const EXAMPLES: [&str; 8] = ["reverse", "insert", "remove", "clear", "ring", "two-lists", "leak", "freed"];
+pub const EXAMPLES: [&str; 9] = ["reverse", "insert", "remove", "clear", "ring", "two-lists", "leak", "freed", "compared"];
 
 pub fn root() -> PathBuf {
     Path::new(env!("CARGO_MANIFEST_DIR")).parent().unwrap().to_path_buf()

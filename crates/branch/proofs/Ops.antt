@@ -16,7 +16,7 @@ abbrev pub Missed : ℕ → ℕ → ℕ → Type 0
 Missed a zero op = Unit {0}
 Missed a (suc k) op = Missed a k op × (op ≡ a + k → ⊥)
 
-missed : (a k op : ℕ) → Missed a k op → a ≤ op → op < a + k → ⊥
+pub missed : (a k op : ℕ) → Missed a k op → a ≤ op → op < a + k → ⊥
 missed a zero op m l h = omega arith
 missed a (suc k) op m l h = let q = m .1 in missed a k op (m .0) l (omega arith)
 

@@ -1,68 +1,72 @@
--- The edge of a test, choose or skip: the run is done with the heap as it is, which is its own shape, and each counter
--- is carried.
+-- The edge of a test, choose or skip, which is not run: the fault of a test that looks at an undefined pointer; else
+-- the run would be done with the heap as it is, which is its own shape, and each counter is carried.
 use Prim.Native.Nat.{ℕ, _+_, _^_, _≤_, _<_}
-use mathlib.Core.Path.{_≡_, refl, sym, ap, ap₂, _∙_}
-use mathlib.Core.Bool.{Bool, true, false, _||_, cond}
+use mathlib.Core.Path.{_≡_, refl, subst, sym, ap, ap₂, _∙_}
+use mathlib.Core.Bool.{true, false, cond}
 use mathlib.Core.List.{List, [], _∷_, map, map-map}
 use native.Mathlib.Omega.{arith}
-use lib.Dec.{eqb}
 use lib.ListN.{drop, getD, length, length-map, set, take}
 use lib.Seq.{getD-take, length-take-le}
 use borrow.Author.Tests.{eq-eqb, lt-leb, ne-eqb}
 use Rattle.model.specs.Base.{numbers}
-use Rattle.model.specs.Edges.{Edge, at, stepBy, updateOf, view}
+use Rattle.model.specs.Edges.{Edge, at, stepBy, updateOf}
 use Rattle.model.specs.Heap.{Heap}
 use Rattle.model.specs.Image.{heapOf}
-use Rattle.model.specs.Machine.{Action, action, answerOf, branch, carryOut, done, fault, follow, keep, kind, leak, link, make, perform, point, release, stay, target}
+use Rattle.model.specs.Machine.{action, answerOf, branch, carryOut, done, effect, fault, keep, kind, leak, target}
 use Rattle.model.specs.Notions.{Canon}
-use Rattle.model.specs.Records.{byte, guardBytes, locRecord, opCount, opOf, shapeOf, updateCode}
+use Rattle.model.specs.Records.{byte, guardBytes, locRecord, shapeOf, updateCode}
 use Rattle.model.specs.Shape.{Seg, segments}
-use Rattle.model.specs.Structs.{opIn, stmtIn}
+use Rattle.model.specs.Structs.{keepsAt, opIn, stmtIn}
 use Rattle.model.specs.declared.Decoded.{Decoded}
-use Rattle.model.proofs.expansion.Facts.{kept-test}
+use Rattle.model.proofs.expansion.Facts.{closed-test, kept-test}
 use Rattle.model.proofs.lists.Lists.{in-single, map-same, mem-in}
 use Rattle.model.proofs.lists.Logic.{bool-case, clash}
 use Rattle.model.proofs.lists.Numbers.{in-numbers, length-numbers, read-all}
-use Rattle.model.proofs.records.Ops.{each-op, op-stops}
+use Rattle.model.proofs.records.Ops.{op-stops}
 use Rattle.model.proofs.shapes.Canon.{canon-fold, canon-segments, single}
 use Rattle.model.proofs.ways.Ways.{no-view}
-use Rattle.loss.specs.Loss.{keepsAt}
+use Rattle.effect.proofs.Laws.{answer-fault}
+use Rattle.effect.specs.Effect.{TestFault, effectOf}
 use Rattle.cell_sum.proofs.Codes.{segment-update}
 use Rattle.cell_sum.specs.Codes.{plusBy, weightBy}
 use Rattle.way.proofs.Ready.{nodes-few, nodes-is, shape-is}
 use Rattle.way.specs.Ready.{WayReady}
+use Rattle.way.proofs.Through.{view-keeps}
 use Rattle.way.specs.Way.{wayIn}
 use Rattle.way.specs.declared.Way.{Way}
-use Rattle.edge.specs.Edge.{LeavesBy, staysAt}
-use Rattle.edge.proofs.Edges.{guards-is, step-way, went-edge}
+use Rattle.edge.specs.Edge.{KeepsShape, LeavesBy}
+use Rattle.edge.proofs.Edges.{Faults, guards-is, step-way, went-edge}
 use Rattle.shape_run.proofs.Running.{branch-pointers}
 
--- ---- ops that keep the heap
+-- ---- ops that are not run
 
-abbrev isStay : Action → Bool
-isStay stay = true
-isStay (point u s) = false
-isStay (follow u w) = false
-isStay (link u s) = false
-isStay (make u) = false
-isStay (release u) = false
+-- no node is looked at, so no split is ready: the statement is run on the shape itself
+module _ {l : List ℕ} {d : Decoded} {s : ℕ} {h : Heap} {y : Way} (R : WayReady l d s h y)
+    (stays : keepsAt (d .op) ≡ true) where
+  still-whole : y .split ≡ false
+  still-whole =
+      bool-case (y .split)
+      (λ q. no-view (view-keeps (d .op) (d .u .0) (d .w .0) h (R .statement .known) stays ∙ R .isNode q))
+      (λ q. q)
 
-stay-is : (a : Action) → isStay a ≡ true → a ≡ stay
-stay-is stay e = refl
-stay-is (point u s) e = clash e refl
-stay-is (follow u w) e = clash e refl
-stay-is (link u s) e = clash e refl
-stay-is (make u) e = clash e refl
-stay-is (release u) e = clash e refl
-
-stays-op : (op u w : ℕ) → op < opCount → staysAt op ≡ true → action (opOf op u w) ≡ stay
-stays-op op u w lt e =
-    stay-is (action (opOf op u w))
-    (each-op (λ o. isStay (action o)) (λ n. staysAt n || eqb n 0) u w refl op lt ∙ rw e)
+  still-heap : wayIn y h .heap ≡ h
+  still-heap = rw still-whole
 
 -- nothing of a shape is lost
-run-kept : (d : Decoded) (k : ℕ) (h : Heap) → action (opIn d) ≡ stay → Canon h → carryOut (opIn d) k h ≡ done h
-run-kept d k h e C = ap (λ a. keep (perform a k h)) e ∙ ap (λ b. cond b (done h) (fault leak)) (kept-test h (C .kept))
+kept-run : (d : Decoded) (k : ℕ) (h : Heap) → Canon h → effect (opIn d) k h ≡ done h → carryOut (opIn d) k h ≡ done h
+kept-run d k h C e = ap keep e ∙ ap (λ b. cond b (done h) (fault leak)) (kept-test h (C .kept))
+
+-- the fault that a test was answered is that of its run
+pub still-faults : {l : List ℕ} {d : Decoded} {y : Way} (f : ℕ) → keepsAt (d .op) ≡ true
+    → TestFault d (take 6 (drop 4 l)) f → (f ≡ 0 → ⊥) → Faults l d y f
+still-faults {l = l} {d = d} {y = y} f stays t bad s h R =
+    let k = length (h .slots) in
+    let x = answer-fault (action (opIn d)) k h (closed-test h (R .isShape .closed)) f h
+    (subst (λ (g : Heap). effectOf f g ≡ effect (opIn d) k g) (shape-is R) (t k (shapeOf l) refl)) bad in
+    (x .0, x .2, ap (carryOut (opIn d) k) (still-heap R stays) ∙ ap keep (x .1))
+
+pub still-keeps : (l : List ℕ) (d : Decoded) (f : ℕ) → TestFault d (take 6 (drop 4 l)) f → f ≡ 0 → KeepsShape l d
+still-keeps l d f t z n = sym (sym (ap (λ i. effectOf i (shapeOf l)) z) ∙ t n (shapeOf l) refl)
 
 -- ---- the updates
 
@@ -91,29 +95,26 @@ codes-carried k us few room codes =
 
 -- ---- the edge
 
--- no split is ready, as nothing is looked at
-pub keep-leaves : {l : List ℕ} {d : Decoded} {y : Way} (t us : List ℕ) (a b : ℕ) → staysAt (d .op) ≡ true
-    → 12 ≤ length us
+pub keep-leaves : {l : List ℕ} {d : Decoded} {y : Way} (t us : List ℕ) (a b : ℕ) → keepsAt (d .op) ≡ true
+    → KeepsShape l d → 12 ≤ length us
     → b ≡ branch (opIn d) (y .pick) (heapOf (take 6 (drop 4 l)) []) → a ≡ target (stmtIn d) b → t ≡ set l 1 a
     → ((j : ℕ) → j < 12 → getD us j 0 ≡ 4096 + 2 ^ j)
     → LeavesBy l d y t us (record { branch = b; guards = y .guards; nodes = byte l 3 })
-keep-leaves {l = l} {d = d} {y = y} t us a b le room be ae te codes s h R E e =
+keep-leaves {l = l} {d = d} {y = y} t us a b le keeps room be ae te codes s h R E e =
     let st = stmtIn d in
     let k = length (h .slots) in
     let w = wayIn y h in
     let few = nodes-few R in
     let is = nodes-is R in
-    let stays = stays-op (d .op) (d .u .0) (d .w .0) (R .statement .known) le in
-    let plain : y .split ≡ false = bool-case (y .split) (λ q. no-view (ap (λ x. view x h) (sym stays) ∙ R .isNode q))
-    (λ q. q) in
-    let whole-heap : w .heap ≡ h = rw plain in
-    let weight-is : w .weight ≡ weightBy false 0 k = rw plain in
+    let weight-is : w .weight ≡ weightBy false 0 k = rw (still-whole R le) in
+    let does : effect (opIn d) k h ≡ done h =
+    subst (λ (g : Heap). effect (opIn d) k g ≡ done g) (shape-is R) (keeps k) in
     let step : stepBy st k w ≡ answerOf st b (done h) =
     step-way R
     ∙ ap₂ (answerOf st)
     (ap (branch (opIn d) (y .pick)) (sym (shape-is R))
     ∙ sym (be ∙ branch-pointers (kind (opIn d)) (y .pick) (heapOf (take 6 (drop 4 l)) []) (shapeOf l) refl))
-    (ap (carryOut (opIn d) k) whole-heap ∙ run-kept d k h stays (R .isShape)) in
+    (ap (carryOut (opIn d) k) (still-heap R le) ∙ kept-run d k h (R .isShape) does) in
     let q = went-edge s k w b (target st b) h (stepBy st k w) E step e in
     let update = updateOf k (w .weight) in
     let ss = canon-segments h (R .isShape) in

@@ -2,16 +2,14 @@
 -- nothing.
 use Prim.Native.Nat.{ℕ, _≤_}
 use mathlib.Core.Path.{_≡_}
-use mathlib.Core.Bool.{Bool}
 use mathlib.Core.List.{List, [], _∷_}
-use lib.Dec.{leb}
 use lib.ListN.{length, drop}
 use Rattle.model.specs.Base.{recordSize}
 use Rattle.model.specs.Edges.{Edge, edgeBy, stepBy}
 use Rattle.model.specs.Heap.{Heap}
-use Rattle.model.specs.Machine.{target}
-use Rattle.model.specs.Records.{byte}
-use Rattle.model.specs.Structs.{IsEdge, stmtIn}
+use Rattle.model.specs.Machine.{done, effect, target}
+use Rattle.model.specs.Records.{byte, shapeOf}
+use Rattle.model.specs.Structs.{IsEdge, opIn, stmtIn}
 use Rattle.model.specs.declared.Decoded.{Decoded}
 use Rattle.model.specs.declared.EdgeMade.{EdgeMade}
 use Rattle.model.specs.declared.Guards.{Guards}
@@ -35,9 +33,9 @@ pub record EdgeReady (l : List ℕ) (d : Decoded) (y : Way) (t us : List ℕ) : 
   pub wide : length t ≡ recordSize
   pub room : 13 ≤ length us
 
--- the ops from the tests on keep the heap
-abbrev pub staysAt : ℕ → Bool
-staysAt op = leb 8 op
+-- the statement is done on the location's shape and leaves it, so that it looks at no undefined pointer
+abbrev pub KeepsShape : List ℕ → Decoded → Type 0
+KeepsShape l d = (n : ℕ) → effect (opIn d) n (shapeOf l) ≡ done (shapeOf l)
 
 -- what is made of a fault f of the location l: t is the fault's record
 abbrev pub FaultMade : List ℕ → ℕ → Guards → List ℕ → EdgeMade → Type 0

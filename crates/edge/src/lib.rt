@@ -1,5 +1,5 @@
 // One edge of a location: the statement is run on the location's shape, opened for the way, and the result is folded.
-// A statement that keeps the heap needs no run.
+// A test, a choice or a skip needs no run.
 use cell_sum::Weights;
 use model::Decoded;
 use model::EdgeMade;
@@ -12,7 +12,8 @@ ghost use Prim.Native.Nat.{_≤_};
 ghost use lib.ListN.{length, set};
 ghost use Rattle.model.specs.Base.{mostNodes, recordSize};
 ghost use Rattle.model.specs.Records.{byte};
-ghost use Rattle.edge.specs.Edge.{EdgeOn, EdgeReady, FaultMade, LeavesBy, staysAt};
+ghost use Rattle.model.specs.Structs.{keepsAt};
+ghost use Rattle.edge.specs.Edge.{EdgeOn, EdgeReady, FaultMade, KeepsShape, LeavesBy};
 
 // The edge to a fault.
 fn fault_edge(location: &[u8], fault: u8, guards: Guards, target: &mut [u8]) -> EdgeMade
@@ -105,7 +106,7 @@ fn move_to(location: &[u8], to: Statement, target: &mut [u8])
     target[1] = to.0;
 }
 
-// The edge of a statement that keeps the heap: the shape and the counters stay.
+// The edge of a statement that is done and keeps the shape: the counters stay too.
 fn keep_edge(
     location: &[u8],
     d: Decoded,
@@ -113,7 +114,8 @@ fn keep_edge(
     target: &mut [u8],
     updates: &mut [u16],
 ) -> EdgeMade
-    requires { ⌜ (staysAt (d .op) ≡ true) × EdgeReady (now location) d way (now target) (now updates) ⌝ }
+    requires { ⌜ (keepsAt (d .op) ≡ true) × KeepsShape (now location) d
+        × EdgeReady (now location) d way (now target) (now updates) ⌝ }
     ensures { λ r. ⌜ LeavesBy (now (location .entry)) d way (now (target .exit)) (now (updates .exit)) r ⌝ }
 {
     let branch = branch::branch_of(d, way.pick, &location[4..10]);
@@ -125,6 +127,25 @@ fn keep_edge(
         guards: guards,
         nodes: location[3] as usize,
     }
+}
+
+// The edge of a test, a choice or a skip, which are not run: a test that looks at an undefined pointer is a fault, and
+// this is looked at first; else the shape is kept.
+fn still_edge(
+    location: &[u8],
+    d: Decoded,
+    way: Way,
+    target: &mut [u8],
+    updates: &mut [u16],
+) -> EdgeMade
+    requires { ⌜ (keepsAt (d .op) ≡ true) × EdgeReady (now location) d way (now target) (now updates) ⌝ }
+    ensures { λ r. ⌜ LeavesBy (now (location .entry)) d way (now (target .exit)) (now (updates .exit)) r ⌝ }
+{
+    let fault = effect::test_fault(d, &location[4..10]);
+    if fault != 0 {
+        return fault_edge(location, fault, way.guards, target);
+    }
+    keep_edge(location, d, way, target, updates)
 }
 
 // The edge by one way out of a location: its target's record, its updates, its branch and guards, and how many new
@@ -140,7 +161,7 @@ pub fn one_edge(
     ensures { λ r. ⌜ LeavesBy (now (location .entry)) d way (now (target .exit)) (now (updates .exit)) r ⌝ }
 {
     if 8 <= d.op {
-        keep_edge(location, d, way, target, updates)
+        still_edge(location, d, way, target, updates)
     } else if loss::surely_lost(location, d, way) {
         fault_edge(location, 3, way.guards, target)
     } else {

@@ -2,15 +2,15 @@
 use Prim.Native.Nat.{ℕ, zero, suc, _≤_, _<_}
 use mathlib.Core.Path.{_≡_}
 use mathlib.Core.Bool.{true, false, cond}
-use mathlib.Core.List.{List}
+use mathlib.Core.List.{List, map}
 use lib.Dec.{eqb}
 use lib.ListN.{length, getD}
 use Rattle.model.specs.Base.{pointerCount, mostCells}
 use Rattle.model.specs.Heap.{Val, Heap, holds, next, closed}
-use Rattle.model.specs.Machine.{Effect, action, done, fault, atNull, atUndef, leak, through, setPtr, putSlot, held}
+use Rattle.model.specs.Machine.{Effect, action, done, effect, fault, atNull, atUndef, leak, look, through, setPtr, putSlot, held}
 use Rattle.model.specs.Records.{opCount, valOf}
 use Rattle.model.specs.Image.{heapOf, pastEnd}
-use Rattle.model.specs.Structs.{opIn}
+use Rattle.model.specs.Structs.{DecodedOk, keepsAt, opIn}
 use Rattle.model.specs.declared.Decoded.{Decoded}
 
 -- a known op on two of six pointers of a closed image; at new, the cell x is one of the image
@@ -44,6 +44,20 @@ pub record Access (v r : ℕ) : Type 0 where
   pub faults : (r ≡ 0 → ⊥) → (h : Heap) (k : ℕ → Heap) → effectOf r h ≡ through (valOf v) k
   pub notNull : r ≡ 0 → v ≡ 0xfe → ⊥
   pub notUndef : r ≡ 0 → v ≡ 0xff → ⊥
+
+-- r is the fault of comparing two values, 0 where there is none
+abbrev pub Compares : Val → Val → ℕ → Type 0
+Compares a b r = (h : Heap) → effectOf r h ≡ look a (look b (done h))
+
+-- a statement that leaves the heap: a stop, a test, a choice or a skip, on two of six pointers
+pub record TestReady (d : Decoded) (ps : List ℕ) : Type 0 where
+  pub fields : DecodedOk d
+  pub stays : keepsAt (d .op) ≡ true
+  pub six : length ps ≡ pointerCount
+
+-- r is the fault of such a statement on each heap with these pointers, 0 where there is none
+abbrev pub TestFault : Decoded → List ℕ → ℕ → Type 0
+TestFault d ps r = (x : ℕ) (h : Heap) → h .ptrs ≡ map valOf ps → effectOf r h ≡ effect (opIn d) x h
 
 -- pointer u becomes v
 abbrev pub assigned : ℕ → Val → Heap → Effect

@@ -10,7 +10,7 @@ ghost use Rattle.model.specs.Base.{mostCells};
 ghost use Rattle.model.specs.Machine.{effect, freeVal, make, perform};
 ghost use Rattle.model.specs.Records.{valOf};
 ghost use Rattle.model.specs.Structs.{opIn};
-ghost use Rattle.effect.specs.Effect.{EffectReady, Access, Named, HasEffect, assigned, loaded, stored, wipeByte};
+ghost use Rattle.effect.specs.Effect.{EffectReady, Access, Compares, Named, HasEffect, TestFault, TestReady, assigned, loaded, stored, wipeByte};
 
 // Reading or writing through the value v: fault 1 through null, 2 through undefined, else 0.
 fn access_fault(v: u8) -> u8
@@ -114,6 +114,28 @@ fn free_at(at: u8, pointers: &mut [u8], cells: &mut [u8]) -> u8
     0
 }
 
+// Comparing two values: fault 2 where one of them is undefined, else 0.
+fn compared(a: u8, b: u8) -> u8
+    ensures { λ r. ⌜ Compares (valOf a) (valOf b) r ⌝ }
+{
+    if (a == 0xff) | (b == 0xff) { 2 } else { 0 }
+}
+
+// The fault of a statement that leaves the heap: 2 where it is a test that looks at an undefined pointer, else 0.
+pub fn test_fault(d: Decoded, pointers: &[u8]) -> u8
+    requires { ⌜ TestReady d (now pointers) ⌝ }
+    ensures { λ r. ⌜ TestFault d (now (pointers .entry)) r ⌝ }
+{
+    let op = d.op;
+    let i = d.u.0 as usize;
+    let j = d.w.0 as usize;
+    match op {
+        8 => compared(pointers[i], 0xfe),
+        9 => compared(pointers[i], pointers[j]),
+        _ => 0,
+    }
+}
+
 // The effect of a statement; x is the cell for new.
 pub fn run_effect(d: Decoded, x: usize, pointers: &mut [u8], cells: &mut [u8]) -> u8
     requires { ⌜ EffectReady d x (now pointers) (now cells) ⌝ }
@@ -133,6 +155,6 @@ pub fn run_effect(d: Decoded, x: usize, pointers: &mut [u8], cells: &mut [u8]) -
         5 => store_through(at, v, cells),
         6 => new_cell(d.u, x, pointers, cells),
         7 => free_at(at, pointers, cells),
-        _ => 0,
+        _ => test_fault(d, &pointers[..]),
     }
 }

@@ -5,7 +5,7 @@ use mathlib.Core.Bool.{Bool, true, false, not}
 use mathlib.Core.List.{List}
 use borrow.Author.Tests.{ltb-true}
 use Rattle.model.specs.Heap.{Heap}
-use Rattle.model.specs.Machine.{Kind, Stmt, acts, branch, branchBy, halts, ifNull, ifSame, isStop, kind, picks, target}
+use Rattle.model.specs.Machine.{Kind, Stmt, acts, branch, branchBy, halts, tests, isStop, kind, picks, target}
 use Rattle.model.specs.Records.{byte, opCount, opOf, stmtOf, targetBelow, usesFirst, usesSecond}
 use Rattle.model.specs.Structs.{decoded}
 use Rattle.model.proofs.lists.Logic.{and-l, and-r, bool-case, clash}
@@ -18,15 +18,13 @@ use Rattle.location_edges.specs.LocationEdges.{Among}
 abbrev turns : Kind → Bool
 turns halts = false
 turns (acts x) = false
-turns (ifNull u) = true
-turns (ifSame u w) = true
+turns (tests u s) = true
 turns picks = true
 
 branch-first : (k : Kind) (p : ℕ) (h : Heap) → turns k ≡ false → branchBy k p h ≡ 0
 branch-first halts p h e = refl
 branch-first (acts x) p h e = refl
-branch-first (ifNull u) p h e = clash refl e
-branch-first (ifSame u w) p h e = clash refl e
+branch-first (tests u s) p h e = clash refl e
 branch-first picks p h e = clash refl e
 
 -- an op that is no stop uses its first target, and one with a second branch the second

@@ -11,7 +11,7 @@ use native.Mathlib.Numerals.{add-one}
 use lib.ListN.{List·getD-eq-default, drop, drop-of-length-le, getElem?, length, length-map}
 use Rattle.model.specs.Base.{joined}
 use Rattle.model.specs.Heap.{Heap, next, unused}
-use Rattle.model.specs.Machine.{Effect, Kind, accepts, action, acts, answerOf, branch, carryOut, done, entry, fault, halts, ifNull, ifSame, isStop, kind, picks}
+use Rattle.model.specs.Machine.{Effect, Kind, accepts, action, acts, answerOf, branch, carryOut, done, entry, fault, halts, tests, isStop, kind, picks}
 use Rattle.model.specs.Edges.{Edge, Loc, View, Way, at, edgeBy, edgesAt, failed, noNode, oneNode, picksOf, splitHeap, stepBy, view, viewVal, ways, waysOf, whole}
 use Rattle.model.specs.Listings.{GoodLoc, WritableLoc}
 use Rattle.model.specs.Notions.{In}
@@ -101,8 +101,7 @@ drop-elem (a ∷ l) (suc j) x e = drop-elem l j x e
 picks-few : (k : Kind) → length (picksOf k) ≤ 2
 picks-few halts = omega arith
 picks-few (acts a) = omega arith
-picks-few (ifNull u) = omega arith
-picks-few (ifSame u w) = omega arith
+picks-few (tests u s) = omega arith
 picks-few picks = omega arith
 
 ways-few : (k : Kind) (v : View) (h : Heap) → length (waysOf k v h) ≤ 2

@@ -10,13 +10,13 @@ use Rattle.model.specs.Heap.{Heap}
 use Rattle.model.specs.Machine.{action, branch, isStop, kind, target}
 use Rattle.model.specs.Edges.{Edge, at, edgeBy, edgesAt, stepBy, view, viewVal}
 use Rattle.model.specs.Records.{locRecord, valOf}
-use Rattle.model.specs.Structs.{opIn, stmtIn}
+use Rattle.model.specs.Structs.{DecodedOk, opIn, stmtIn}
 use Rattle.model.specs.Translate.{Listing}
 use Rattle.model.specs.Notions.{Canon}
 use Rattle.model.specs.Listings.{WritableLoc}
 use Rattle.model.specs.declared.Counts.{Counts}
 use Rattle.model.specs.declared.Decoded.{Decoded}
-use Rattle.way.specs.Ready.{DecodedOk, WayReady}
+use Rattle.way.specs.Ready.{WayReady}
 use Rattle.way.specs.Way.{wayIn, wayNumber}
 use Rattle.way.specs.declared.Way.{Way}
 use Rattle.listing.specs.Grow.{Holds, GrownTo}

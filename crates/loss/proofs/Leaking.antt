@@ -20,13 +20,13 @@ use Rattle.model.specs.declared.Decoded.{Decoded}
 use Rattle.way.specs.Ready.{WayReady}
 use Rattle.way.specs.declared.Way.{Way}
 use Rattle.way.proofs.Ready.{location-wide, node-used, nodes-few, nodes-is, shape-is}
-use Rattle.loss.specs.Loss.{AloneHolds, Leaks, Overwrites, cutsAt, keepsAt}
+use Rattle.loss.specs.Loss.{AloneHolds, Leaks, Overwrites, cutsAt}
 use Rattle.loss.proofs.Ops.{Reads, copies, cuts, cuts-op, follows, neither, reads, reads-op, sets, sets-op}
 use mathlib.Core.Option.{some}
-use Rattle.model.specs.Machine.{Source, Action, action, point, keep, valueOf, perform, from, fault, leak, nil, follow, link, held, make, release, stay}
+use Rattle.model.specs.Machine.{Source, Action, action, point, keep, valueOf, perform, from, fault, leak, nil, follow, link, held, make, release, compare, stay}
 use Rattle.model.proofs.expansion.Unheld.{free-leaks, NoNext, split-used, split-none, set-leaks, write-leaks, held-other, new-leaks}
 use Rattle.model.specs.Edges.{view, splitHeap, oneNode}
-use Rattle.model.specs.Structs.{opIn}
+use Rattle.model.specs.Structs.{keepsAt, opIn}
 use Rattle.model.proofs.expansion.Splits.{view-is}
 
 null-cell : {c : ℕ} → _≡_ {A = Val} null (cell c) → ⊥
@@ -51,6 +51,7 @@ module _ {l : List ℕ} {d : Decoded} {s : ℕ} {h : Heap} {y : Way} (R : WayRea
   -- what a pointer holds before the split it holds after it
   cut-run : (a : Action) → cuts a ≡ true → view a h ≡ oneNode v → keep (perform a k (splitHeap v k h)) ≡ fault leak
   cut-run stay c e = clash c refl
+  cut-run (compare u s) c e = clash c refl
   cut-run (point i x) c e = clash c refl
   cut-run (follow i j) c e = clash c refl
   cut-run (link i x) c e =
@@ -146,6 +147,7 @@ module _ {l : List ℕ} {d : Decoded} {s : ℕ} {h : Heap} {y : Way} (R : WayRea
       over-run : (x : Action) → sets x ≡ some u → Another (reads x) → keep (perform x (length (h .slots)) H)
           ≡ fault leak
       over-run stay e n = some-none e
+      over-run (compare u s) e n = some-none e
       over-run (point i x) e n = rw (set-is e) (set-leaks H u a used only empty (valueOf x H) (source-other x n))
       over-run (follow i w) e n =
           let b = byte l (w + 4) in

@@ -4,14 +4,16 @@ use mathlib.Core.Bool.{Bool, true, false, _||_, cond}
 use mathlib.Core.Option.{Option, none, some}
 use mathlib.Core.Path.{_≡_, _∙_, refl}
 use lib.Dec.{eqb}
-use Rattle.model.specs.Machine.{Action, Source, action, follow, from, link, make, nil, point, release, stay}
+use Rattle.model.specs.Machine.{Action, Source, action, follow, from, link, make, nil, point, release, compare, stay}
 use Rattle.model.specs.Records.{opCount, opOf}
 use Rattle.model.proofs.records.Ops.{each-op}
-use Rattle.loss.specs.Loss.{cutsAt, keepsAt}
+use Rattle.model.specs.Structs.{keepsAt}
+use Rattle.loss.specs.Loss.{cutsAt}
 
 -- the action takes the next of a cell away
 abbrev pub cuts : Action → Bool
 cuts stay = false
+cuts (compare u s) = false
 cuts (point u s) = false
 cuts (follow u w) = false
 cuts (link u s) = true
@@ -24,6 +26,7 @@ cuts-op op u w = each-op (λ o. cuts (action o)) cutsAt u w refl op
 -- the pointer that the action sets
 abbrev pub sets : Action → Option ℕ
 sets stay = none
+sets (compare u s) = none
 sets (point u s) = some u
 sets (follow u w) = some u
 sets (link u s) = none
@@ -47,6 +50,7 @@ readsFrom (from w) = copies w
 
 abbrev pub reads : Action → Reads
 reads stay = neither
+reads (compare u s) = neither
 reads (point u s) = readsFrom s
 reads (follow u w) = follows w
 reads (link u s) = neither

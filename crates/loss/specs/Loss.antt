@@ -4,12 +4,12 @@ use Prim.Native.Nat.{ℕ, _+_, _<_, _≤_}
 use mathlib.Core.Path.{_≡_}
 use mathlib.Core.Bool.{Bool, false, _||_}
 use mathlib.Core.List.{List}
-use lib.Dec.{eqb, leb}
+use lib.Dec.{eqb}
 use lib.ListN.{length}
 use Rattle.model.specs.Heap.{Heap}
 use Rattle.model.specs.Machine.{fault, leak, carryOut}
 use Rattle.model.specs.Records.{byte}
-use Rattle.model.specs.Structs.{opIn}
+use Rattle.model.specs.Structs.{keepsAt, opIn}
 use Rattle.model.specs.declared.Decoded.{Decoded}
 use Rattle.way.specs.Ready.{WayReady}
 use Rattle.way.specs.Way.{wayIn}
@@ -18,10 +18,6 @@ use Rattle.way.specs.declared.Way.{Way}
 -- the ops that take the next of a cell away
 abbrev pub cutsAt : ℕ → Bool
 cutsAt op = eqb op 4 || (eqb op 5 || eqb op 7)
-
--- the ops that keep the heap: stop, the tests, choose and skip
-abbrev pub keepsAt : ℕ → Bool
-keepsAt op = eqb op 0 || leb 8 op
 
 -- the byte at place a stands at no other place of the pointers and the successors
 abbrev pub StandsOnce : List ℕ → ℕ → Type 0

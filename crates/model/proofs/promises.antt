@@ -4,4 +4,5 @@ pub mod PromisesShapes
 pub mod PromisesListings
 pub mod PromisesRuns
 pub mod PromisesTables
+pub mod PromisesStatements
 pub mod Shelf

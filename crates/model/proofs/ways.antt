@@ -1,6 +1,7 @@
 -- The ways out of a location and the edges that they make.
 pub mod Weights
 pub mod Sizes
+pub mod Tests
 pub mod Picks
 pub mod Ways
 pub mod Leave

@@ -136,12 +136,12 @@ cases =
           ∷ line 0x4500000001000000 48
           ∷ [];
     }
-    -- P11: test p0 = p1, both undefined: branch 0
+    -- P11: test p0 = p1, both undefined: fault 2, by 02, job 2
     ∷ record {
       input = line 0x5309000101 54 ∷ line 0x53 62 ∷ line 0x48000000fffffefefefe 44 ∷ [];
       output =
           line 0x4c000000fffffefefefe 44
-          ∷ line 0x4c010000fffffefefefe 44
+          ∷ line 0x4c000200 56
           ∷ line 0x4500000001000000 48
           ∷ [];
     }

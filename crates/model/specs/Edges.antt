@@ -7,7 +7,7 @@ use lib.ListN.{length, getD}
 use Rattle.model.specs.Base.{any, count, numbers, joined}
 use Rattle.model.specs.Heap.{Val, cell, null, undef, holds, Heap, ptr, next, sameHeap}
 use Rattle.model.specs.Shape.{Seg, cells, segments, foldBy}
-use Rattle.model.specs.Machine.{Op, stop, Stmt, Action, stay, point, follow, link, make, release, action, Kind, halts, acts, ifNull, ifSame, picks, kind, Fault, faultNumber, putSlot, entry, Answer, refused, stopped, faulted, went, step}
+use Rattle.model.specs.Machine.{Op, stop, Stmt, Action, stay, compare, point, follow, link, make, release, action, Kind, halts, acts, tests, picks, kind, Fault, faultNumber, putSlot, entry, Answer, refused, stopped, faulted, went, step}
 
 -- "A location is a statement with a shape, or a statement with a fault."
 pub data Loc : Type 0 where
@@ -110,6 +110,7 @@ viewVal undef = noNode
 
 abbrev pub view : Action → Heap → View
 view stay h = noNode
+view (compare u s) h = noNode
 view (point u s) h = noNode
 view (follow u w) h = viewVal (ptr h w)
 view (link u s) h = viewVal (ptr h u)
@@ -119,8 +120,7 @@ view (release u) h = viewVal (ptr h u)
 abbrev pub picksOf : Kind → List ℕ
 picksOf halts = 0 ∷ []
 picksOf (acts a) = 0 ∷ []
-picksOf (ifNull u) = 0 ∷ []
-picksOf (ifSame u w) = 0 ∷ []
+picksOf (tests u s) = 0 ∷ []
 picksOf picks = 0 ∷ 1 ∷ []
 
 -- "Ops 3, 4, 5 and 7 on a pointer to a node give two edges: counter = 1, with nothing split, then counter ≥ 2, with

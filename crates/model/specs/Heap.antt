@@ -34,7 +34,7 @@ abbrev pub inUse : Slot → Bool
 inUse unused = false
 inUse (holds v) = true
 
--- equal values: two undefined ones are equal
+-- the same value; what comparing undefined pointers comes to is said where tests are (`look` in `Machine`)
 abbrev pub sameVal : Val → Val → Bool
 sameVal (cell c) (cell d) = eqb c d
 sameVal (cell c) null = false

@@ -1,4 +1,4 @@
--- 01, "The plain machine": the statements, their effects, and one step. Assumes nothing.
+-- 01, "The plain machine", as 02 amends it: the statements, their effects, and one step. Assumes nothing.
 use Prim.Native.Nat.{ℕ, zero, suc}
 use mathlib.Core.Bool.{Bool, true, false, _&&_, cond, not}
 use mathlib.Core.List.{List, [], _∷_, map}
@@ -35,6 +35,7 @@ pub data Source : Type 0 where
 
 pub data Action : Type 0 where
   stay : Action  -- the heap stays
+  compare : ℕ → Source → Action  -- the heap stays; pointer u is compared with the value
   point : ℕ → Source → Action  -- pointer u becomes the value
   follow : ℕ → ℕ → Action  -- pointer u becomes the next of the cell that w holds
   link : ℕ → Source → Action  -- the next of the cell that u holds becomes the value
@@ -45,8 +46,7 @@ pub data Action : Type 0 where
 pub data Kind : Type 0 where
   halts : Kind
   acts : Action → Kind
-  ifNull : ℕ → Kind
-  ifSame : ℕ → ℕ → Kind
+  tests : ℕ → Source → Kind  -- whether pointer u holds the value
   picks : Kind
 
 abbrev pub kind : Op → Kind
@@ -58,16 +58,15 @@ kind (clear u) = acts (link u nil)
 kind (store u w) = acts (link u (from w))
 kind (new u) = acts (make u)
 kind (free u) = acts (release u)
-kind (isNull u) = ifNull u
-kind (same u w) = ifSame u w
+kind (isNull u) = tests u nil
+kind (same u w) = tests u (from w)
 kind choose = picks
 kind skip = acts stay
 
 abbrev pub actionOf : Kind → Action
 actionOf halts = stay
 actionOf (acts a) = a
-actionOf (ifNull u) = stay
-actionOf (ifSame u w) = stay
+actionOf (tests u s) = compare u s
 actionOf picks = stay
 
 abbrev pub action : Op → Action
@@ -132,6 +131,13 @@ freeVal (cell c) h = done (freeCell c h)
 freeVal null h = done h
 freeVal undef h = fault atUndef
 
+-- 02, job 2: "a test that looks at an undefined pointer, in op 8 or 9, is fault 2, on branch 0, even if both are the
+-- same". Comparing looks at both values; the null of op 8 is never undefined.
+abbrev pub look : Val → Effect → Effect
+look (cell c) e = e
+look null e = e
+look undef e = fault atUndef
+
 abbrev pub valueOf : Source → Heap → Val
 valueOf nil h = null
 valueOf (from w) h = ptr h w
@@ -139,6 +145,7 @@ valueOf (from w) h = ptr h w
 -- n is the cell for new
 abbrev pub perform : Action → ℕ → Heap → Effect
 perform stay n h = done h
+perform (compare u s) n h = look (ptr h u) (look (valueOf s h) (done h))
 perform (point u s) n h = done (setPtr u (valueOf s h) h)
 perform (follow u w) n h = through (ptr h w) (λ c. setPtr u (held (next h c)) h)
 perform (link u s) n h = through (ptr h u) (λ c. putSlot c (holds (valueOf s h)) h)
@@ -159,7 +166,8 @@ carryOut op n h = keep (effect op n h)
 
 -- ---- one step
 
--- "A true test and a first choice go to the first target as branch 0; the others go to the second as branch 1"
+-- "A true test and a first choice go to the first target as branch 0; the others go to the second as branch 1". The
+-- branch counts where the effect is done: a fault has branch 0 whatever a test would say.
 abbrev pub test : Bool → ℕ
 test true = 0
 test false = 1
@@ -167,8 +175,7 @@ test false = 1
 abbrev pub branchBy : Kind → ℕ → Heap → ℕ
 branchBy halts p h = 0
 branchBy (acts x) p h = 0
-branchBy (ifNull u) p h = test (sameVal (ptr h u) null)
-branchBy (ifSame u w) p h = test (sameVal (ptr h u) (ptr h w))
+branchBy (tests u s) p h = test (sameVal (ptr h u) (valueOf s h))
 branchBy picks p h = p
 
 abbrev pub branch : Op → ℕ → Heap → ℕ
@@ -190,12 +197,12 @@ entry p c = record { pick = p; cellNo = c }
 abbrev pub acceptsPick : Kind → ℕ → Bool
 acceptsPick halts p = true
 acceptsPick (acts x) p = true
-acceptsPick (ifNull u) p = true
-acceptsPick (ifSame u w) p = true
+acceptsPick (tests u s) p = true
 acceptsPick picks p = leb p 1
 
 abbrev pub acceptsCell : Action → Slot → Bool
 acceptsCell stay s = true
+acceptsCell (compare u v) s = true
 acceptsCell (point u v) s = true
 acceptsCell (follow u w) s = true
 acceptsCell (link u v) s = true
@@ -219,8 +226,7 @@ answerOf st b (done h) = went b (target st b) h
 abbrev pub isStop : Kind → Bool
 isStop halts = true
 isStop (acts x) = false
-isStop (ifNull u) = false
-isStop (ifSame u w) = false
+isStop (tests u s) = false
 isStop picks = false
 
 abbrev pub step : Stmt → Entry → Heap → Answer

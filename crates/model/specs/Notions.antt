@@ -11,7 +11,7 @@ use lib.ListN.{getD, length}
 use Rattle.model.specs.Base.{mem, sum, numbers, all}
 use Rattle.model.specs.Edges.{Edge, Guard, Loc, Test, Update, View, at, failed, isMore, isOne, noNode, oneNode}
 use Rattle.model.specs.Heap.{Heap, IsHeap, Slot, Val, cell, closed, holds, next, null, order, undef, unused}
-use Rattle.model.specs.Machine.{Action, Effect, Fault, done, fault, follow, link, make, point, putSlot, release, stay}
+use Rattle.model.specs.Machine.{Action, Effect, Fault, compare, done, fault, follow, link, make, point, putSlot, release, stay}
 use Rattle.model.specs.Records.{Row, Verdict, isAccepted, isRefused, refusal}
 use Rattle.model.specs.Shape.{Seg, cells, core, segments, size}
 
@@ -211,6 +211,7 @@ pub record Expansion (W : Heap) (sg : ℕ → Seg) (H : Heap) : Type 0 where
 -- the cell for new is not in use
 abbrev pub Room : Action → Heap → ℕ → Type 0
 Room stay h c = Unit {0}
+Room (compare u s) h c = Unit {0}
 Room (point u s) h c = Unit {0}
 Room (follow u w) h c = Unit {0}
 Room (link u s) h c = Unit {0}
@@ -220,6 +221,7 @@ Room (release u) h c = Unit {0}
 -- the chains after the effect: at new, cell k of the small heap is cell c of the large one
 abbrev pub sg-after : Action → ℕ → ℕ → (ℕ → Seg) → ℕ → Seg
 sg-after stay k c sg = sg
+sg-after (compare u s) k c sg = sg
 sg-after (point u s) k c sg = sg
 sg-after (follow u w) k c sg = sg
 sg-after (link u s) k c sg = sg

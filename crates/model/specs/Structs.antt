@@ -1,12 +1,14 @@
 -- What the structs that the code passes by value stand for. Assumes nothing.
-use Prim.Native.Nat.{ℕ, zero, suc, _≤_}
+use Prim.Native.Nat.{ℕ, zero, suc, _≤_, _<_}
+use mathlib.Core.Bool.{Bool, _||_}
 use mathlib.Core.List.{List, [], _∷_, map}
 use mathlib.Core.Path.{_≡_}
+use lib.Dec.{eqb, leb}
 use lib.ListN.{length, take}
-use Rattle.model.specs.Base.{mostNodes}
+use Rattle.model.specs.Base.{mostNodes, pointerCount}
 use Rattle.model.specs.Edges.{Edge, Guard, isMore, isOne}
 use Rattle.model.specs.Machine.{Op, Stmt}
-use Rattle.model.specs.Records.{byte, guardBytes, locRecord, opOf, updateCode}
+use Rattle.model.specs.Records.{byte, guardBytes, locRecord, opCount, opOf, updateCode}
 use Rattle.model.specs.Translate.{Tables}
 use Rattle.model.specs.declared.Counts.{Counts}
 use Rattle.model.specs.declared.Decoded.{Decoded}
@@ -27,6 +29,16 @@ decoded r = record {
 
 abbrev pub opIn : Decoded → Op
 opIn d = opOf (d .op) (d .u .0) (d .w .0)
+
+-- the fields of an accepted statement
+pub record DecodedOk (d : Decoded) : Type 0 where
+  pub known : d .op < opCount
+  pub isU : d .u .0 < pointerCount
+  pub isW : d .w .0 < pointerCount
+
+-- the ops, by number, that change no heap: stop, the tests, choose and skip
+abbrev pub keepsAt : ℕ → Bool
+keepsAt op = eqb op 0 || leb 8 op
 
 abbrev pub stmtIn : Decoded → Stmt
 stmtIn d = record { op = opIn d; firstTarget = d .first .0; secondTarget = d .second .0 }

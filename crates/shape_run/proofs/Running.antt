@@ -5,11 +5,11 @@ use mathlib.Core.Path.{_≡_, refl, sym, ap, subst, _∙_}
 use mathlib.Core.Bool.{true}
 use mathlib.Core.List.{List, [], _++_, map}
 use native.Mathlib.Omega.{arith}
-use lib.ListN.{drop, getD, length, length-drop, replicate, take}
+use lib.ListN.{drop, getD, length, replicate, take}
 use lib.Seq.{length-take-le, take-at}
 use Rattle.model.specs.Heap.{Heap, Val, closed, null, sameVal, undef}
 use Rattle.model.specs.Image.{heapOf}
-use Rattle.model.specs.Machine.{Kind, action, acts, branch, branchBy, carryOut, halts, ifNull, ifSame, kind, picks, test}
+use Rattle.model.specs.Machine.{Kind, action, acts, branch, branchBy, carryOut, from, halts, kind, nil, picks, test, tests}
 use Rattle.model.specs.Notions.{Room}
 use Rattle.model.specs.Records.{byte, shapeOf, valOf}
 use Rattle.model.specs.Structs.{opIn}
@@ -18,7 +18,7 @@ use Rattle.machine.specs.Run.{IsRun, RunReady, bytes}
 use Rattle.machine.specs.declared.Ran.{Ran}
 use Rattle.way.proofs.Heaps.{opened-closed, opened-end, opened-room, opened-run}
 use Rattle.way.proofs.Opened.{count-most}
-use Rattle.way.proofs.Ready.{location-wide, node-used, nodes-few, nodes-is, shape-is}
+use Rattle.way.proofs.Ready.{node-used, nodes-few, nodes-is, pointers-six, shape-is}
 use Rattle.way.specs.Ready.{WayReady}
 use Rattle.way.specs.Way.{openedCount, openedHeap, wayIn}
 use Rattle.way.specs.declared.Way.{Way}
@@ -28,8 +28,9 @@ use Rattle.shape_run.specs.WayRun.{WayRan}
 pub branch-pointers : (k : Kind) (p : ℕ) (g h : Heap) → g .ptrs ≡ h .ptrs → branchBy k p g ≡ branchBy k p h
 branch-pointers halts p g h e = refl
 branch-pointers (acts a) p g h e = refl
-branch-pointers (ifNull u) p g h e = ap (λ (l : List Val). test (sameVal (getD l u undef) null)) e
-branch-pointers (ifSame u w) p g h e = ap (λ (l : List Val). test (sameVal (getD l u undef) (getD l w undef))) e
+branch-pointers (tests u nil) p g h e = ap (λ (l : List Val). test (sameVal (getD l u undef) null)) e
+branch-pointers (tests u (from w)) p g h e =
+    ap (λ (l : List Val). test (sameVal (getD l u undef) (getD l w undef))) e
 branch-pointers picks p g h e = refl
 
 pub zeros : (n i : ℕ) → getD {A = ℕ} (replicate n 0) i 0 ≡ 0
@@ -55,7 +56,7 @@ module _ {l : List ℕ} {d : Decoded} {s : ℕ} {h : Heap} {y : Way} (R : WayRea
     count-few = rw ce (count-most (y .split) op (byte l 3))
 
     six-pointers : length ps ≡ 6
-    six-pointers = rw pe (length-take-le 6 (drop 4 l) (omega (arith, location-wide R, length-drop 4 l)))
+    six-pointers = rw pe (pointers-six R)
 
     pub part-length : length (take c cs) ≡ c
     part-length = length-take-le c cs (omega (arith, count-few, nodes-few R))

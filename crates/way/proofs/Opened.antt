@@ -11,7 +11,7 @@ use borrow.Author.Tests.{eqb-true, ltb-true, ne-eqb}
 use Rattle.model.specs.Base.{all}
 use Rattle.model.specs.Heap.{Heap, Slot, unused, holds, cell, undef}
 use Rattle.model.specs.Image.{cellSlot, heapOf}
-use Rattle.model.specs.Machine.{done, setPtr, new, effect, carryOut, keep, put, Op, action, Action, perform, point, follow, link, make, release, stay}
+use Rattle.model.specs.Machine.{done, setPtr, carryOut, keep, put, Op, action, Action, perform, point, follow, link, make, release, compare, stay}
 use Rattle.model.specs.Records.{byte, shapeOf, valOf, valueByte}
 use Rattle.model.proofs.lists.Lists.{getD-map, map-set}
 use Rattle.model.proofs.lists.Logic.{and-l, and-r, bool-case, or-cases, clash}
@@ -159,6 +159,7 @@ run-makes op h e = ap keep (by-action (action op) e)
     by-action : (a : Action) → makes a ≡ true → perform a (length (h .slots)) (withUnused h)
         ≡ perform a (length (h .slots)) h
     by-action stay q = clash q refl
+    by-action (compare u s) q = clash q refl
     by-action (point u s) q = clash q refl
     by-action (follow u w) q = clash q refl
     by-action (link u s) q = clash q refl

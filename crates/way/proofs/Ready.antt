@@ -1,16 +1,17 @@
 -- What a ready way says of the bytes: the location's record holds the shape.
 use Prim.Native.Nat.{ℕ, _+_, _≤_, _<_}
 use mathlib.Core.Path.{_≡_, sym, ap, subst, _∙_}
-use mathlib.Core.Bool.{Bool, true}
+use mathlib.Core.Bool.{true}
 use mathlib.Core.List.{List}
 use native.Mathlib.Omega.{arith}
-use lib.ListN.{drop, length, take}
+use lib.ListN.{drop, length, length-drop, take}
+use lib.Seq.{length-take-le}
 use Rattle.model.specs.Base.{all}
 use Rattle.model.specs.Heap.{Heap, next}
-use Rattle.model.specs.Records.{byte, shapeOf, stmtOf, valueByte}
+use Rattle.model.specs.Records.{byte, shapeOf, valueByte}
 use Rattle.model.proofs.visits.Order.{used-below}
 use Rattle.model.proofs.records.ReadBack.{canon-writable, location-length, location-shape}
-use Rattle.model.specs.Notions.{Closed, Used}
+use Rattle.model.specs.Notions.{Used}
 use Rattle.model.proofs.ways.Ways.{ClosedView, view-closed}
 use Rattle.model.specs.Listings.{Writable}
 use Rattle.model.proofs.records.ShapeBack.{values-pass}
@@ -29,6 +30,9 @@ module _ {l : List ℕ} {d : Decoded} {s : ℕ} {h : Heap} {y : Way} (R : WayRea
 
   pub location-wide : length l ≡ 32
   location-wide = ap length (R .isRecord) ∙ location-length s h writable
+
+  pub pointers-six : length (take 6 (drop 4 l)) ≡ 6
+  pointers-six = length-take-le 6 (drop 4 l) (omega (arith, location-wide, length-drop 4 l))
 
   pub statement-is : byte l 1 ≡ s
   statement-is = ap (λ x. byte x 1) (R .isRecord)

@@ -9,7 +9,7 @@ use lib.ListN.{getD, getElem?, length, length-map}
 use borrow.Author.Tests.{lt-leb, ne-eqb, eqb-false}
 use Rattle.model.specs.Edges.{noNode, oneNode, picksOf, view, viewVal, waysOf, whole}
 use Rattle.model.specs.Heap.{Heap, undef, next, unused}
-use Rattle.model.specs.Machine.{Action, Kind, action, acts, follow, halts, ifNull, ifSame, kind, link, make, picks, point, release, stay}
+use Rattle.model.specs.Machine.{Action, Kind, action, acts, follow, halts, tests, kind, link, make, picks, point, release, compare, stay}
 use Rattle.model.specs.Records.{opCount, opOf, valOf, isZero}
 use Rattle.model.proofs.lists.Lists.{getD-map}
 use Rattle.model.proofs.lists.Logic.{clash, eq-case}
@@ -20,7 +20,7 @@ use lib.Dec.{eqb}
 use Rattle.model.proofs.ways.Ways.{no-view}
 use Rattle.model.specs.Image.{pastEnd}
 use Rattle.model.specs.Notions.{Room}
-use Rattle.model.specs.Structs.{Writes}
+use Rattle.model.specs.Structs.{Writes, keepsAt}
 
 pub pointer-value : (ps : List ℕ) (u : ℕ) → u < length ps → valOf (getD ps u 0) ≡ getD (map valOf ps) u undef
 pointer-value ps u h = sym (getD-map valOf ps u 0 undef h)
@@ -29,6 +29,7 @@ pointer-value ps u h = sym (getD-map valOf ps u 0 undef h)
 
 abbrev looks : Action → Bool
 looks stay = false
+looks (compare u s) = false
 looks (point u s) = false
 looks (follow u w) = true
 looks (link u s) = true
@@ -37,6 +38,7 @@ looks (release u) = true
 
 looks-not : (a : Action) (h : Heap) → looks a ≡ false → noNode ≡ view a h
 looks-not stay h e = refl
+looks-not (compare u s) h e = refl
 looks-not (point u s) h e = refl
 looks-not (follow u w) h e = clash refl e
 looks-not (link u s) h e = clash refl e
@@ -48,8 +50,16 @@ pub view-none : (op u w : ℕ) (h : Heap) → op < opCount → looksAt op ≡ fa
 view-none op u w h lt e = looks-not (action (opOf op u w)) h (each-op (λ o. looks (action o)) looksAt u w refl op lt
     ∙ e)
 
+-- an op that changes no heap looks at none
+pub view-keeps : (op u w : ℕ) (h : Heap) → op < opCount → keepsAt op ≡ true → noNode ≡ view (action (opOf op u w)) h
+view-keeps op u w h lt e =
+    looks-not (action (opOf op u w)) h
+    (each-op (λ o. looks (action o)) (λ n. cond (keepsAt n) false (looksAt n)) u w refl op lt
+    ∙ ap (λ t. cond t false (looksAt op)) e)
+
 abbrev pub makes : Action → Bool
 makes stay = false
+makes (compare u s) = false
 makes (point u s) = false
 makes (follow u w) = false
 makes (link u s) = false
@@ -58,6 +68,7 @@ makes (release u) = false
 
 pub makes-view : {C : Type 0} (a : Action) (h : Heap) (n : ℕ) → makes a ≡ true → view a h ≡ oneNode n → C
 makes-view stay h n e v = clash e refl
+makes-view (compare u s) h n e v = clash e refl
 makes-view (point u s) h n e v = clash e refl
 makes-view (follow u w) h n e v = clash e refl
 makes-view (link u s) h n e v = clash e refl
@@ -66,6 +77,7 @@ makes-view (release u) h n e v = clash e refl
 
 pub room-makes : (a : Action) (h : Heap) (c : ℕ) → (makes a ≡ true → next h c ≡ unused) → Room a h c
 room-makes stay h c f = tt
+room-makes (compare u s) h c f = tt
 room-makes (point u s) h c f = tt
 room-makes (follow u w) h c f = tt
 room-makes (link u s) h c f = tt
@@ -74,6 +86,7 @@ room-makes (release u) h c f = tt
 
 pub end-makes : (a : Action) (c n : ℕ) → (makes a ≡ true → c < n) → pastEnd a c n ≡ false
 end-makes stay c n f = refl
+end-makes (compare u s) c n f = refl
 end-makes (point u s) c n f = refl
 end-makes (follow u w) c n f = refl
 end-makes (link u s) c n f = refl
@@ -135,10 +148,8 @@ pick-at halts h zero lt = refl
 pick-at halts h (suc j) lt = absurd (omega arith)
 pick-at (acts a) h zero lt = refl
 pick-at (acts a) h (suc j) lt = absurd (omega arith)
-pick-at (ifNull u) h zero lt = refl
-pick-at (ifNull u) h (suc j) lt = absurd (omega arith)
-pick-at (ifSame u w) h zero lt = refl
-pick-at (ifSame u w) h (suc j) lt = absurd (omega arith)
+pick-at (tests u s) h zero lt = refl
+pick-at (tests u s) h (suc j) lt = absurd (omega arith)
 pick-at picks h zero lt = refl
 pick-at picks h (suc zero) lt = refl
 pick-at picks h (suc (suc j)) lt = absurd (omega arith)

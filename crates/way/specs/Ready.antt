@@ -9,16 +9,10 @@ use Rattle.model.specs.Edges.{at, oneNode, view}
 use Rattle.model.specs.Heap.{Heap}
 use Rattle.model.specs.Machine.{action, isStop, kind}
 use Rattle.model.specs.Notions.{Canon}
-use Rattle.model.specs.Records.{locRecord, opCount}
-use Rattle.model.specs.Structs.{Writes, opIn}
+use Rattle.model.specs.Records.{locRecord}
+use Rattle.model.specs.Structs.{DecodedOk, Writes, opIn}
 use Rattle.model.specs.declared.Decoded.{Decoded}
 use Rattle.way.specs.declared.Way.{Way}
-
--- the fields of an accepted statement
-pub record DecodedOk (d : Decoded) : Type 0 where
-  pub known : d .op < opCount
-  pub isU : d .u .0 < pointerCount
-  pub isW : d .w .0 < pointerCount
 
 -- the record l is that of statement s with shape h; d is the statement; and the way is one of the location's
 pub record WayReady (l : List ℕ) (d : Decoded) (s : ℕ) (h : Heap) (y : Way) : Type 0 where

@@ -2,7 +2,13 @@
 
 use std::fmt;
 
-/// Index 0 of the arrays is not used: refusals and faults count from 1.
+use super::undefined::WAYS;
+
+/// One more test of undefined pointers is wanted for each so many routines.
+const UNDEFINED_EACH: u64 = 100;
+
+/// Index 0 of the last two arrays is not used: faults and refusals count from
+/// 1.
 #[derive(Clone, Debug, Default, PartialEq, Eq)]
 pub struct Counts {
     pub routines: u64,
@@ -20,6 +26,13 @@ pub struct Counts {
     pub heaps: u64,
     /// The most nodes of one heap.
     pub nodes: u64,
+    /// Tests that look at an undefined pointer, by their way: locations of
+    /// listings, steps of runs, and single steps on images.
+    pub undefined_listed: [u64; WAYS.len()],
+    pub undefined_run: [u64; WAYS.len()],
+    pub undefined_stepped: [u64; WAYS.len()],
+    /// Steps of runs that test a pointer whose cell the run freed.
+    pub freed_run: u64,
     pub faults: [u64; 4],
     pub refusals: [u64; 18],
 }
@@ -45,6 +58,29 @@ impl Counts {
         all.extend(missing("refusal", &self.refusals));
         (!all.is_empty()).then(|| all.join(", "))
     }
+
+    /// The tests of undefined pointers by place and way.
+    fn undefined_tests(&self) -> Vec<(String, u64)> {
+        let places = [("listings", self.undefined_listed), ("runs", self.undefined_run), ("steps", self.undefined_stepped)];
+        let mut all = vec![("undefined in runs, test of a freed cell".to_string(), self.freed_run)];
+        for (place, counts) in places {
+            all.extend(WAYS.iter().zip(counts).map(|(way, count)| (format!("undefined in {place}, test {way}"), count)));
+        }
+        all
+    }
+
+    /// How many tests of undefined pointers are wanted at each place in each way.
+    pub fn undefined_floor(&self) -> u64 {
+        1 + self.routines / UNDEFINED_EACH
+    }
+
+    /// The tests of undefined pointers that came too seldom, if there are any.
+    pub fn too_few(&self) -> Option<String> {
+        let floor = self.undefined_floor();
+        let few = self.undefined_tests().into_iter().filter(|&(_, count)| count < floor);
+        let all: Vec<String> = few.map(|(name, count)| format!("{name} ({count} of {floor})")).collect();
+        (!all.is_empty()).then(|| all.join(", "))
+    }
 }
 
 impl fmt::Display for Counts {
@@ -65,6 +101,9 @@ impl fmt::Display for Counts {
             ("most nodes of a heap", self.nodes),
         ];
         for (name, count) in lines {
+            writeln!(out, "{name}: {count}")?;
+        }
+        for (name, count) in self.undefined_tests() {
             writeln!(out, "{name}: {count}")?;
         }
         for (number, count) in self.faults.iter().enumerate().skip(1) {

@@ -1,19 +1,23 @@
 //! Exactness of a listing: each location once and reachable, and the edges
 //! of each in their place and order.
 
+use super::counts::Counts;
+use super::undefined;
 use crate::automaton::{Automaton, Edge};
 use crate::input::Routine;
-use crate::records::{location, pointer_byte, shape_of, Record, NODES, NO_GUARD, ONE, TWO_OR_MORE};
+use crate::records::{
+    fault_location, location, pointer_byte, shape_of, Record, NODES, NO_GUARD, NULL, ONE, TWO_OR_MORE, UNDEFINED,
+};
 use crate::statement::{Op, Statement};
 use crate::unfold::check_shape;
 use std::collections::HashSet;
 
-pub fn test(automaton: &Automaton, routine: &Routine) -> Result<(), String> {
+pub fn test(counts: &mut Counts, automaton: &Automaton, routine: &Routine) -> Result<(), String> {
     starting_shapes_come_first(automaton, routine)?;
     locations_are_distinct_and_sound(automaton, routine)?;
     locations_are_numbered_as_found(automaton, routine)?;
     for number in 0..automaton.locations.len() {
-        edges_of(automaton, routine, number)?;
+        edges_of(counts, automaton, routine, number)?;
     }
     Ok(())
 }
@@ -71,7 +75,7 @@ fn locations_are_numbered_as_found(automaton: &Automaton, routine: &Routine) -> 
 }
 
 /// The branches, guards and nodes that the op asks for, in order.
-fn edges_of(automaton: &Automaton, routine: &Routine, number: usize) -> Result<(), String> {
+fn edges_of(counts: &mut Counts, automaton: &Automaton, routine: &Routine, number: usize) -> Result<(), String> {
     let record = &automaton.locations[number];
     let edges: Vec<&Edge> = automaton.leaving(number).iter().map(|&edge| &automaton.edges[edge]).collect();
     let guards: Vec<(u8, usize)> = edges.iter().map(|edge| (edge.guard, edge.node)).collect();
@@ -82,16 +86,32 @@ fn edges_of(automaton: &Automaton, routine: &Routine, number: usize) -> Result<(
     let branches: Vec<u8> = edges.iter().map(|edge| edge.branch).collect();
     let fits = match statement.op {
         Op::Choose => branches == [0, 1] || record[2] != 0,
-        Op::TestNull | Op::TestEqual => true,
+        Op::TestNull | Op::TestEqual => edges.iter().all(|edge| edge_of_a_test(counts, automaton, statement, edge)),
         _ => branches.iter().all(|&branch| branch == 0),
     };
     if !fits {
-        return Err(format!("location {number} has the branches {branches:?}"));
+        return Err(format!("location {number} has other edges than those due: {edges:?}"));
     }
     for edge in edges {
         updates_fit(automaton, edge)?;
     }
     Ok(())
+}
+
+/// A test that looks at an undefined pointer leads to fault 2 of its statement
+/// on branch 0. Every other test goes by what is held and changes nothing.
+fn edge_of_a_test(counts: &mut Counts, automaton: &Automaton, statement: &Statement, edge: &Edge) -> bool {
+    let record = &automaton.locations[edge.from];
+    let held = |pointer| pointer_byte(record, pointer);
+    let target = &automaton.locations[edge.to];
+    if let Some(way) = undefined::way(statement, |pointer| held(pointer) == UNDEFINED) {
+        counts.undefined_listed[way] += 1;
+        return edge.branch == 0 && *target == fault_location(record[1], undefined::FAULT);
+    }
+    let other = if statement.op == Op::TestNull { NULL } else { held(statement.w) };
+    let (branch, next) = if held(statement.u) == other { (0, statement.first) } else { (1, statement.second) };
+    let carried = (0..usize::from(record[3])).all(|node| edge.updates[node] == 0x1000 | 1 << node);
+    edge.branch == branch && *target == location(next, &shape_of(record)) && carried
 }
 
 fn expected_guards(record: &Record, statement: &Statement) -> Vec<(u8, usize)> {

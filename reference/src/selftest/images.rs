@@ -3,13 +3,14 @@
 use super::counts::Counts;
 use super::describes::describes;
 use super::refusals::{any_bytes, lost_cell, named_wrongly, wrong_unfolding};
+use super::undefined;
 use crate::calls::{fold, step, unfold, Folded, Stepped};
-use crate::heap::Heap;
+use crate::heap::{Heap, Value};
 use crate::image::{write_image, IMAGE_CELLS};
 use crate::input::Refusal;
 use crate::machine::{run, Outcome};
-use crate::random::{random_heap, rename, Random};
-use crate::records::{STATEMENTS, UNUSED};
+use crate::random::{drop_lost_cells, random_heap, rename, Random};
+use crate::records::{Record, STATEMENTS, UNDEFINED, UNUSED};
 use crate::routines::random_statement;
 use crate::statement::{read_statement, Op};
 
@@ -38,7 +39,10 @@ pub fn test(random: &mut Random, counts: &mut Counts, number: u64) -> Result<(),
     let heap = random_heap(random, most);
     let length = random.between(heap.cells.len(), IMAGE_CELLS);
     let folded = round_trip(random, counts, &heap, length)?;
-    single_step(random, counts, &heap, length)?;
+    let any = random_statement(random, 0, STATEMENTS, 6, &[1; 12]);
+    single_step(random, counts, &heap, length, &any)?;
+    let (with_undefined, comparison) = undefined_comparison(random, &heap);
+    single_step(random, counts, &with_undefined, length, &comparison)?;
     let refusal = 13 + (number % 3) as u8;
     match refusal {
         13 => named_wrongly(random, counts, &heap, length)?,
@@ -81,16 +85,29 @@ fn round_trip(random: &mut Random, counts: &mut Counts, heap: &Heap, length: usi
     Ok(folded)
 }
 
+/// A test, and the heap with one or both of its pointers made undefined. Op 8
+/// does not look at the second, which is pointer 0 there.
+fn undefined_comparison(random: &mut Random, heap: &Heap) -> (Heap, Record) {
+    let record = random_statement(random, 0, STATEMENTS, 6, &[0, 0, 0, 0, 0, 0, 0, 0, 1, 2, 0, 0]);
+    let both = [usize::from(record[2]), usize::from(record[3])];
+    let made_undefined = [&both[..1], &both[1..], &both[..]][random.below(3)];
+    let mut changed = heap.clone();
+    for &pointer in made_undefined {
+        changed.pointers[pointer] = Value::Undefined;
+    }
+    drop_lost_cells(&mut changed);
+    (changed, record)
+}
+
 /// A single step on the image against the machine without a limit.
-fn single_step(random: &mut Random, counts: &mut Counts, heap: &Heap, length: usize) -> Result<(), String> {
-    let record = random_statement(random, 0, STATEMENTS, 6, &[1; 12]);
+fn single_step(random: &mut Random, counts: &mut Counts, heap: &Heap, length: usize, record: &Record) -> Result<(), String> {
     let statement =
-        read_statement(&record, STATEMENTS).map_err(|refusal| format!("a sound statement is refused with {refusal}"))?;
+        read_statement(record, STATEMENTS).map_err(|refusal| format!("a sound statement is refused with {refusal}"))?;
     let pick = random.next() & 3;
     let cell = random.below(length + 2);
     let mut image = Image::of(heap, length);
     let before = image.clone();
-    let stepped = step(&mut image.pointers, &mut image.cells, &record, pick, cell as u64);
+    let stepped = step(&mut image.pointers, &mut image.cells, record, pick, cell as u64);
     let refused = match statement.op {
         Op::Choose => pick > 1,
         Op::New => cell >= length || before.cells[cell] != UNUSED,
@@ -110,5 +127,10 @@ fn single_step(random: &mut Random, counts: &mut Counts, heap: &Heap, length: us
     want(stepped == due, "a step on an image differs")?;
     want(image == Image::of(&after, length), "a step leaves another image")?;
     let stays = !matches!(stepped, Stepped::Moved { .. });
-    want(!stays || image == before, "a step that is none changes the image")
+    want(!stays || image == before, "a step that is none changes the image")?;
+    let way = undefined::way(&statement, |pointer| before.pointers[pointer] == UNDEFINED);
+    if let Some(way) = way {
+        counts.undefined_stepped[way] += 1;
+    }
+    undefined::check(&statement, way, if let Stepped::Fault(fault) = stepped { fault } else { 0 })
 }

@@ -11,6 +11,7 @@ mod parts;
 mod refusals;
 mod runs;
 mod tables;
+mod undefined;
 
 use crate::automaton::Automaton;
 use crate::input::read_routine;
@@ -25,7 +26,8 @@ pub const SEED: u64 = 1;
 pub const ROUTINES: u64 = 12_000;
 
 /// Tests so many routines. Answers what was counted, or what differs, or
-/// which refusal or fault was never met.
+/// which refusal or fault was never met, or which tests of undefined pointers
+/// were too few.
 pub fn run(seed: u64, routines: u64) -> Result<Counts, String> {
     let mut random = Random::new(seed);
     // What a seed draws elsewhere does not hang on the parts.
@@ -43,9 +45,10 @@ pub fn run(seed: u64, routines: u64) -> Result<Counts, String> {
         images::test(&mut random, &mut counts, number)
             .map_err(|difference| format!("seed {seed}, heap {number}: {difference}"))?;
     }
-    match counts.never_met() {
-        None => Ok(counts),
-        Some(missing) => Err(format!("{counts}never met: {missing}")),
+    match (counts.never_met(), counts.too_few()) {
+        (None, None) => Ok(counts),
+        (Some(missing), _) => Err(format!("{counts}never met: {missing}")),
+        (None, Some(few)) => Err(format!("{counts}too few: {few}")),
     }
 }
 
@@ -62,7 +65,7 @@ fn test_routine(random: &mut Random, part_random: &mut Random, counts: &mut Coun
     counts.edges += automaton.edges.len() as u64;
     counts.large += u64::from(automaton.locations.len() >= 200);
     counts.largest = counts.largest.max(automaton.locations.len() as u64);
-    exact::test(&automaton, &routine)?;
+    exact::test(counts, &automaton, &routine)?;
     tables::test_short_tables(random, counts, input, &full, routine.shapes.len(), &automaton)?;
     parts::test(part_random, counts, &full)?;
     for _ in 0..3 {

@@ -3,9 +3,10 @@
 use super::counts::Counts;
 use super::describes::describes;
 use super::draws::{any_unused_cell, random_edge_number};
+use super::undefined;
 use crate::automaton::{Automaton, Configuration};
 use crate::fold::{fold_heap, Counters};
-use crate::heap::Heap;
+use crate::heap::{Heap, Value, POINTERS};
 use crate::input::Routine;
 use crate::machine::{run, Outcome};
 use crate::random::{rename, Random};
@@ -22,6 +23,8 @@ struct Running {
     heap: Heap,
     statement: u8,
     fault: u8,
+    /// The pointers whose cell was freed and that were not set since.
+    freed: [bool; POINTERS],
 }
 
 /// What an entry did.
@@ -50,6 +53,7 @@ impl Running {
         if self.fault != 0 || refused {
             return Fed::NoStep;
         }
+        let held = self.heap.pointers;
         match run(&mut self.heap, statement, pick, cell) {
             Outcome::Stop => Fed::NoStep,
             Outcome::Fault(fault) => {
@@ -58,8 +62,31 @@ impl Running {
             }
             Outcome::Moved { branch, next } => {
                 self.statement = next;
+                self.mark_freed(statement, &held);
                 Fed::Step { branch }
             }
+        }
+    }
+
+    /// Follows a step from what the pointers held before it.
+    fn mark_freed(&mut self, statement: &Statement, held: &[Value; POINTERS]) {
+        match statement.op {
+            Op::Free => {
+                for (pointer, freed) in self.freed.iter_mut().enumerate() {
+                    *freed |= self.heap.pointers[pointer] != held[pointer];
+                }
+            }
+            Op::SetNull | Op::Copy | Op::LoadNext | Op::New => self.freed[statement.u] = false,
+            _ => {}
+        }
+    }
+
+    /// Whether the statement is a test of a pointer whose cell was freed.
+    fn compares_freed(&self, statement: &Statement) -> bool {
+        match statement.op {
+            Op::TestNull => self.freed[statement.u],
+            Op::TestEqual => self.freed[statement.u] || self.freed[statement.w],
+            _ => false,
         }
     }
 }
@@ -75,7 +102,7 @@ fn start(random: &mut Random, counts: &mut Counts, routine: &Routine) -> (Runnin
     let straight = unfold_shape(shape, &counters);
     let room = straight.cells.len() + random.below(4);
     counts.runs += 1;
-    let running = Running { heap: rename(random, &straight, room), statement: 0, fault: 0 };
+    let running = Running { heap: rename(random, &straight, room), statement: 0, fault: 0, freed: [false; POINTERS] };
     let at = Configuration { location: number, counters };
     (running, at)
 }
@@ -109,7 +136,7 @@ pub fn follow_the_routine(
             }
             Fed::Step { branch } => {
                 take_the_only_edge(automaton, &mut at, branch)?;
-                count_step(counts, routine, &running);
+                check_step(counts, routine, &before, &running)?;
                 check_match(routine, automaton, &running, &at)?;
             }
         }
@@ -157,23 +184,41 @@ pub fn follow_the_edges(
         }
         let edge = &automaton.edges[number as usize];
         let cell = any_unused_cell(random, &running.heap);
+        let before = running.clone();
         let fed = running.feed(routine, u64::from(edge.branch), cell);
         if fed != (Fed::Step { branch: edge.branch }) {
             return Err(format!("edge {number} is taken but the routine gives {fed:?}"));
         }
-        count_step(counts, routine, &running);
+        check_step(counts, routine, &before, &running)?;
         check_match(routine, automaton, &running, &at)?;
     }
     Ok(())
 }
 
-fn count_step(counts: &mut Counts, routine: &Routine, running: &Running) {
+/// Counts a step. A fault leaves heap and statement as they stood, and a test
+/// faults exactly when it looks at an undefined pointer.
+fn check_step(counts: &mut Counts, routine: &Routine, before: &Running, after: &Running) -> Result<(), String> {
     counts.steps += 1;
-    if running.fault != 0 {
-        counts.faulted(running.fault);
-    } else if running.ended(routine) {
+    if after.fault != 0 {
+        counts.faulted(after.fault);
+        if after.heap != before.heap || after.statement != before.statement {
+            return Err("a fault changes something".to_string());
+        }
+    } else if after.ended(routine) {
         counts.stops += 1;
     }
+    let statement = before.at(routine);
+    let way = undefined::way(statement, |pointer| before.heap.pointers[pointer] == Value::Undefined);
+    if let Some(way) = way {
+        counts.undefined_run[way] += 1;
+    }
+    if before.compares_freed(statement) {
+        counts.freed_run += 1;
+        if way.is_none() {
+            return Err("a pointer to a freed cell is not undefined".to_string());
+        }
+    }
+    undefined::check(statement, way, after.fault)
 }
 
 /// Whether routine and automaton match, by the definition and by folding.

@@ -59,6 +59,12 @@ pub fn e(branch: u8, to: u8, guard: u8, node: u8, updates: &[u16]) -> Record {
     record
 }
 
+/// The same edge from another location.
+pub fn from(location: u8, mut edge: Record) -> Record {
+    edge[2] = location;
+    edge
+}
+
 /// The first pointers as given, the others null.
 pub fn pointers(first: &[u8]) -> [u8; 6] {
     let mut all = NULLS;

@@ -121,8 +121,22 @@ pub fn damage_record(d: &mut Draw, r: &mut Vec<u8>) {
     }
 }
 
+/// Every op, those that walk and choose more often.
+const ANY: [u8; 18] = [1, 2, 2, 3, 3, 3, 4, 5, 5, 6, 6, 7, 8, 9, 10, 10, 11, 0];
+/// Cells freed, pointers copied, and many tests.
+const TESTING: [u8; 15] = [1, 2, 2, 3, 6, 7, 7, 8, 8, 9, 9, 9, 10, 10, 0];
+
 /// A routine in records: S records and starting shapes, small or large by i.
 pub fn routine(d: &mut Draw, i: usize) -> Vec<u8> {
+    routine_of(d, i, &ANY)
+}
+
+/// A routine whose tests often look at an undefined pointer.
+pub fn testing_routine(d: &mut Draw, i: usize) -> Vec<u8> {
+    routine_of(d, i, &TESTING)
+}
+
+fn routine_of(d: &mut Draw, i: usize, ops: &[u8]) -> Vec<u8> {
     let n = match i % 10 {
         0 => 1 + d.below(64),
         1 | 2 => 8 + d.below(24),
@@ -131,7 +145,7 @@ pub fn routine(d: &mut Draw, i: usize) -> Vec<u8> {
     let pointers = 1 + d.below(if i % 10 < 3 { 5 } else { 6 });
     let mut out = Vec::new();
     for s in 0..n {
-        let op = [1, 2, 2, 3, 3, 3, 4, 5, 5, 6, 6, 7, 8, 9, 10, 10, 11, 0][d.below(18)];
+        let op = ops[d.below(ops.len())];
         let op = if i % 10 < 3 && op == 0 && !d.one_in(4) { 10 } else { op };
         let mut r = [0u8; 32];
         r[0] = 0x53;

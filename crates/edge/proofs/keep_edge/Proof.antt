@@ -6,23 +6,20 @@ use Rattle.edge.proofs.keep_edge.Tie as tie
 use native.Mathlib.Omega.{arith}
 use Rattle.edge.proofs.Keeping.{keep-leaves}
 use mathlib.Core.List.{[]}
-use Rattle.way.proofs.Ready.{location-wide, nodes-few}
-use lib.Seq.{length-take-le}
-use lib.ListN.{drop, length-drop}
+use Rattle.way.proofs.Ready.{location-wide, nodes-few, pointers-six}
 
 part-branch-of-end : tie.Need-part-branch-of-end
-part-branch-of-end c = omega (arith, location-wide (c .before .before .before .pre .1 .ready))
+part-branch-of-end c = omega (arith, location-wide (c .before .before .before .pre .2 .ready))
 
 branch-of-requires : tie.Need-branch-of-requires
 branch-of-requires c κs =
-    let R = c .before .before .before .before .pre .1 .ready in
+    let R = c .before .before .before .before .pre .2 .ready in
     let f = R .statement in
-    let l = c .before .before .before .before .args .location .now in
-    (f .known, f .isU, f .isW, length-take-le 6 (drop 4 l) (omega (arith, location-wide R, length-drop 4 l)))
+    (f .known, f .isU, f .isW, pointers-six R)
 
 move-to-requires : tie.Need-move-to-requires
 move-to-requires c κs =
-    let s = c .before .before .before .before .before .before .before .pre .1 in
+    let s = c .before .before .before .before .before .before .before .pre .2 in
     (location-wide (s .ready), s .wide)
 
 shared-slice-read-t19 : tie.Need-shared-slice-read-t19
@@ -30,14 +27,14 @@ shared-slice-read-t19 c = omega (
   arith,
   location-wide
       (c .before .before .before .before .before .before .before .before .before .before .before .before .before .before
-      .before .before .pre .1 .ready),
+      .before .before .pre .2 .ready),
 )
 
 cast-t9 : tie.Need-cast-t9
 cast-t9 c = omega (
   arith,
   nodes-few (c .before .before .before .before .before .before .before .before .before .before
-      .before .before .before .before .before .before .pre .1 .ready),
+      .before .before .before .before .before .before .pre .2 .ready),
 )
 
 returns : tie.Need-returns
@@ -52,7 +49,7 @@ returns c =
     let u = c .before .before .before .before .carry-updates in
     keep-leaves {l = a .location .now} {d = a .d} {y = a .way} (m .last .1 .1 .0) (u .last .0) (t .result .0)
     (b .result)
-    (s .0) (omega (arith, s .1 .room, u .kept .0)) (b .ensures []) (t .ensures) (m .ensures) (u .ensures)
+    (s .0) (s .1) (omega (arith, s .2 .room, u .kept .0)) (b .ensures []) (t .ensures) (m .ensures) (u .ensures)
 
 pub keep-edge-spec : {M : Type 1} → statement M
 keep-edge-spec =

@@ -1,20 +1,22 @@
--- `edge::one_edge` meets its contract: ops from 8 on keep the heap, a leak that is seen at once is written, and the
+-- `edge::one_edge` meets its contract: ops from 8 on are not run, a leak that is seen at once is written, and the
 -- others are run.
 use mathlib.Core.Path.{refl}
 use borrow.Author.Needs.{needs}
 use Rattle.edge.proofs.one_edge.Statement.{statement}
 use Rattle.edge.proofs.one_edge.Tie as tie
+use lib.Dec.{eqb, leb}
 use borrow.Author.Tests.{le-leb}
+use Rattle.model.proofs.lists.Logic.{or-r}
 use Rattle.edge.proofs.Keeping.{changes-op}
 use Rattle.edge.proofs.Edges.{fault-leaves}
 use Rattle.way.proofs.Ready.{location-wide}
 use Rattle.model.specs.Machine.{leak}
 
-keep-edge-requires : tie.Need-keep-edge-requires
-keep-edge-requires c κs = (
-  le-leb 8 _ (c .before .before .if1 .taken),
-  c .before .before .before .before .before .before .before .pre,
-)
+still-edge-requires : tie.Need-still-edge-requires
+still-edge-requires c κs =
+    let s = c .before .before .before .before .before .before .before in
+    let op = s .args .d .op in
+    (or-r (eqb op 0) (leb 8 op) (le-leb 8 op (c .before .before .if1 .taken)), s .pre)
 
 surely-lost-requires : tie.Need-surely-lost-requires
 surely-lost-requires c κs =
@@ -42,7 +44,7 @@ pub one-edge-spec : {M : Type 1} → statement M
 one-edge-spec =
     tie.close
     (tie.spec
-    keep-edge-requires
+    still-edge-requires
     surely-lost-requires
     fault-edge-requires
     (λ c κs. search needs)

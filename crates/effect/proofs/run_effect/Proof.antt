@@ -1,8 +1,9 @@
 -- `run_effect` meets its contract: each arm is the effect of its op.
-use mathlib.Core.Path.{_≡_, refl, sym}
+use mathlib.Core.Path.{_≡_, refl}
 use native.Mathlib.Omega.{arith}
+use Rattle.model.specs.Image.{heapOf}
 use Rattle.effect.proofs.Bytes.{as-effect, ready-u, ready-w, named-u, named-w, room-x, value-w}
-use Rattle.effect.proofs.Ops.{idle}
+use Rattle.effect.proofs.Ops.{keeps-rest}
 use borrow.Author.Needs.{needs}
 use Rattle.effect.proofs.run_effect.Statement.{statement}
 use Rattle.effect.proofs.run_effect.Tie as tie
@@ -27,6 +28,15 @@ new-cell-requires c κs =
 
 free-at-requires : tie.Need-free-at-requires
 free-at-requires c κs = let p = start (c .before .before .before) .pre in (named-u p, p .few)
+
+test-fault-requires : tie.Need-test-fault-requires
+test-fault-requires c κs =
+    let p = start (c .before .before) .pre in
+    record {
+      fields = record { known = p .known; isU = p .isU; isW = p .isW };
+      stays = keeps-rest _ (c .before .match .rest);
+      six = p .six;
+    }
 
 returns : tie.Need-returns
 returns c =
@@ -73,10 +83,9 @@ returns-7 c =
 
 returns-8 : tie.Need-returns-8
 returns-8 c =
-    let s = start (c .before) in
-    let d = s .args .d in
+    let s = start (c .before .before .before) in
     record {
-      outcome = sym (idle (d .op) (d .u .0) (d .w .0) (s .args .x) _ (s .pre .known) (c .match .rest));
+      outcome = c .test-fault .ensures (s .args .x) (heapOf (s .args .pointers .now) (s .args .cells .now)) refl;
       stays = λ z. (refl, refl);
     }
 
@@ -85,6 +94,7 @@ run-effect-spec =
     tie.close
     (tie.spec (λ c. search needs) (λ c. search needs) (λ c. search needs) (λ c. search needs) (λ c κs. search needs)
     (λ c κs. search needs) load-through-requires store-through-requires store-through-requires-2 new-cell-requires
-    free-at-requires (λ c. search needs) returns (λ c. search needs) returns-2
+    free-at-requires test-fault-requires (λ c. search needs) returns (λ c. search needs) returns-2
     (λ c. search needs) (λ c. search needs) returns-3 (λ c. search needs) returns-4 (λ c. search needs) returns-5
-    (λ c. search needs) (λ c. search needs) returns-6 (λ c. search needs) (λ c. search needs) returns-7 returns-8)
+    (λ c. search needs) (λ c. search needs) returns-6 (λ c. search needs) (λ c. search needs) returns-7
+    (λ c. search needs) returns-8)

@@ -14,7 +14,7 @@ use Rattle.model.proofs.lists.Logic.{eqb-same}
 use Rattle.model.specs.Notions.{Alike, Expands, Expansion, Room, both-bad, both-ok, img, sg-after, upd, AllClosed, Closed, Used, seg, Alone}
 use Rattle.model.proofs.visits.Walks.{closed-map, closed-up, map-closed}
 use Rattle.model.proofs.expansion.Writes.{expands-new, expands-write, n-closed, n-img, upd-at, w-closed}
-use Rattle.model.specs.Machine.{put, putSlot, freeCell, setPtr, Source, Action, wipeSlot, wipe, valueOf, through, freeVal, perform, held, from, point, follow, link, make, release, nil, stay}
+use Rattle.model.specs.Machine.{put, putSlot, freeCell, setPtr, Source, Action, Effect, compare, look, wipeSlot, wipe, valueOf, through, freeVal, perform, held, from, point, follow, link, make, release, nil, stay}
 use Rattle.model.specs.Edges.{splitHeap, viewVal, view}
 
 getD-put : (l : List Slot) (c : ℕ) (s : Slot) (i : ℕ) → getD (put l c s) i unused ≡ cond (eqb i c) s (getD l i unused)
@@ -117,11 +117,11 @@ module _ (W : Heap) (sg : ℕ → Seg) (H : Heap) (X : Expansion W sg H) where
   one-cell : (n : ℕ) → sg n .rest ≡ [] → sg n ≡ seg (sg n .first) []
   one-cell n e = λ i. record { first = sg n .first; rest = e i }
 
-  value-img : (s : Source) → valueOf s H ≡ img sg (valueOf s W)
+  pub value-img : (s : Source) → valueOf s H ≡ img sg (valueOf s W)
   value-img nil = refl
   value-img (from w) = ptr-img W sg H X w
 
-  value-closed : (s : Source) → Closed (next W) (valueOf s W)
+  pub value-closed : (s : Source) → Closed (next W) (valueOf s W)
   value-closed nil = tt
   value-closed (from w) = ptr-closed W sg H X w
 
@@ -147,10 +147,19 @@ module _ (W : Heap) (sg : ℕ → Seg) (H : Heap) (X : Expansion W sg H) where
   release-alike undef w e k o = rw e both-bad
   release-alike (cell n) w e k o = rw e (both-ok (exp-free W sg H X n (sg n .first) (one-cell n o) k))
 
+  -- a value is undefined where what it stands for is
+  look-alike : (v w : Val) → w ≡ img sg v → {a b : Effect} → Alike sg a b → Alike sg (look v a) (look w b)
+  look-alike null w e x = rw e x
+  look-alike undef w e x = rw e both-bad
+  look-alike (cell n) w e x = rw e x
+
   -- each kind of action does the same to a heap and to its expansion
   pub effect-alike : (a : Action) (k c : ℕ) → Alone (view a W) sg → Room a W k → Room a H c
       → Alike (sg-after a k c sg) (perform a k W) (perform a c H)
   effect-alike stay k c o fw fh = both-ok X
+  effect-alike (compare u s) k c o fw fh =
+      look-alike (ptr W u) (ptr H u) (ptr-img W sg H X u)
+      (look-alike (valueOf s W) (valueOf s H) (value-img s) (both-ok X))
   effect-alike (point u s) k c o fw fh = rw (value-img s) (both-ok (exp-ptr W sg H X u (valueOf s W) (value-closed s)))
   effect-alike (follow u w) k c o fw fh = follow-alike u (ptr W w) (ptr H w) (ptr-img W sg H X w)
       (ptr-closed W sg H X w) o

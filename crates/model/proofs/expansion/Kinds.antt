@@ -7,7 +7,7 @@ use lib.ListN.{length, length-map, length-set}
 use borrow.Author.Tests.{leb-false}
 use Rattle.model.specs.Heap.{Heap, Slot, Val, cell, holds, next, null, ptr, undef, unused}
 use Rattle.model.specs.Image.{pastEnd}
-use Rattle.model.specs.Machine.{Action, Effect, Fault, atNull, atUndef, done, fault, follow, freeCell, freeVal, held, leak, link, make, perform, point, put, putSlot, release, setPtr, stay, through, valueOf, wipe, wipeSlot}
+use Rattle.model.specs.Machine.{Action, Effect, Fault, atNull, atUndef, compare, look, done, fault, follow, freeCell, freeVal, held, leak, link, make, perform, point, put, putSlot, release, setPtr, stay, through, valueOf, wipe, wipeSlot}
 use Rattle.model.specs.Notions.{Closed, ClosedHeap, Used}
 use Rattle.model.proofs.expansion.Effects.{closed-ptr}
 use Rattle.model.proofs.visits.Order.{used-below}
@@ -39,8 +39,16 @@ free-leaves a n h (cell c) k = frees c k
 free-leaves a n h null k = stays
 free-leaves a n h undef k = fails undef-no-leak
 
+-- a value that is looked at is a fault where it is undefined, and changes nothing else
+look-leaves : (a : Action) (n : ℕ) (h : Heap) (v : Val) {e : Effect} → Leaves a n h e → Leaves a n h (look v e)
+look-leaves a n h (cell c) l = l
+look-leaves a n h null l = l
+look-leaves a n h undef l = fails undef-no-leak
+
 pub effect-leaves : (a : Action) (n : ℕ) (h : Heap) → ClosedHeap h → Leaves a n h (perform a n h)
 effect-leaves stay n h cl = stays
+effect-leaves (compare u s) n h cl =
+    look-leaves (compare u s) n h (ptr h u) (look-leaves (compare u s) n h (valueOf s h) stays)
 effect-leaves (point u s) n h cl = points u (valueOf s h)
 effect-leaves (follow u w) n h cl =
     through-leaves (follow u w) n h (ptr h w) (closed-ptr (next h) (h .ptrs) w (cl .0))

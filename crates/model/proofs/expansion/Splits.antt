@@ -5,7 +5,7 @@ use mathlib.Core.Bool.{false}
 use native.Mathlib.Omega.{arith}
 use lib.Dec.{eqb}
 use Rattle.model.specs.Heap.{Heap, Slot, Val, cell, holds, kept, next, null, ptr, undef}
-use Rattle.model.specs.Machine.{Action, Effect, carryOut, done, fault, keep, putSlot, wipe, perform, Op, point, action, follow, link, valueOf, make, release, stay}
+use Rattle.model.specs.Machine.{Action, Effect, carryOut, done, fault, keep, putSlot, wipe, perform, Op, point, action, follow, link, valueOf, make, release, compare, stay}
 use Rattle.model.specs.Edges.{View, oneNode, splitHeap, view, viewVal, noNode}
 use Rattle.model.specs.Notions.{AllClosed, Closed, ClosedHeap, Used, upd}
 use Rattle.model.proofs.expansion.Effects.{next-free, next-put}
@@ -76,6 +76,7 @@ view-is undef n e = no-view e
 effect-used : (a : Action) (x n k : ℕ) (h : Heap) → view a h ≡ oneNode n → eqb k n ≡ false → Used (next h) k
     → InUse k (perform a x h)
 effect-used stay x n k h a d u = no-view a
+effect-used (compare i s) x n k h a d u = no-view a
 effect-used (point i s) x n k h a d u = no-view a
 effect-used (follow i j) x n k h a d u = rw (view-is (ptr h j) n a) u
 effect-used (link i s) x n k h a d u = rw (view-is (ptr h i) n a) (put-used h n k (valueOf s h) u)

@@ -6,10 +6,10 @@ use mathlib.Core.Bool.{false, true}
 use lib.Dec.{eqb}
 use borrow.Author.Tests.{eq-eqb, eqb-true}
 use Rattle.model.specs.Heap.{Heap, Slot, Val, cell, kept, next, null, ptr, sameVal, undef}
-use Rattle.model.specs.Machine.{isStop, Effect, Kind, Answer, Stmt, Fault, keep, branchBy, answerOf, Entry, fault, faulted, kind, done, went, accepts, step, branch, ifNull, carryOut, action, test, ifSame, perform, acts, halts, picks}
+use Rattle.model.specs.Machine.{isStop, Effect, Kind, Answer, Stmt, Fault, keep, branchBy, answerOf, Entry, fault, faulted, kind, done, went, accepts, step, branch, tests, carryOut, action, test, perform, valueOf, acts, halts, picks}
 use Rattle.model.specs.Shape.{Seg}
 use Rattle.model.proofs.expansion.Cores.{first-inj}
-use Rattle.model.proofs.expansion.Effects.{effect-alike, ptr-closed, ptr-img}
+use Rattle.model.proofs.expansion.Effects.{effect-alike, ptr-closed, ptr-img, value-closed, value-img}
 use Rattle.model.proofs.expansion.Facts.{kept-same, test-kept}
 use Rattle.model.specs.Notions.{Kept, Alike, Expands, Expansion, Room, both-bad, both-ok, img, sg-after, Closed, Alone}
 use Rattle.model.proofs.lists.Logic.{bool-case, bool-ext}
@@ -51,11 +51,9 @@ module _ (W : Heap) (sg : ℕ → Seg) (H : Heap) (X : Expansion W sg H) where
   pub branch-same : (c : Kind) (p : ℕ) → branchBy c p H ≡ branchBy c p W
   branch-same halts p = refl
   branch-same (acts x) p = refl
-  branch-same (ifNull u) p = ap test (test-same (ptr W u) null (ptr H u) null (ptr-img W sg H X u) refl
-      (ptr-closed W sg H X u) tt)
-  branch-same (ifSame u w) p =
-      ap test (test-same (ptr W u) (ptr W w) (ptr H u) (ptr H w) (ptr-img W sg H X u) (ptr-img W sg H X w)
-      (ptr-closed W sg H X u) (ptr-closed W sg H X w))
+  branch-same (tests u s) p =
+      ap test (test-same (ptr W u) (valueOf s W) (ptr H u) (valueOf s H) (ptr-img W sg H X u) (value-img W sg H X s)
+      (ptr-closed W sg H X u) (value-closed W sg H X s))
   branch-same picks p = refl
 
 -- the answers of two steps

@@ -1,6 +1,6 @@
 -- The promises: each is a type, and under it stands its proof, which cites a law. This page has demand 1; demand 2 is
--- in PromisesShapes and PromisesListings, demand 3 in PromisesRuns, and reading the tables in PromisesTables. The words
--- are those of specs/, Notions and Listings.
+-- in PromisesShapes and PromisesListings, demand 3 in PromisesRuns, reading the tables in PromisesTables, and single
+-- statements in PromisesStatements. The words are those of specs/, Notions and Listings.
 use Prim.Native.Nat.{_*_, _-_, _/_, _<_, _≤_, suc, ℕ}
 use mathlib.Core.Path.{_∙_, _≡_, ap}
 use mathlib.Core.Logic.{_↔_, _⊎_}

@@ -11,7 +11,7 @@ use borrow.Author.Tests.{eqb-false, eqb-true, le-leb, leb-true}
 use Rattle.model.specs.Base.{joined}
 use Rattle.model.specs.Edges.{Edge, Way, edgeBy, edgesAt, picksOf, split, stepBy, whole, View, view, oneAt, waysOf, oneNode, moreAt, noNode}
 use Rattle.model.specs.Heap.{Heap, kept, Slot, next}
-use Rattle.model.specs.Machine.{Answer, Effect, Stmt, accepts, answerOf, branch, done, fault, faulted, picks, refused, carryOut, stopped, went, isStop, Kind, kind, Action, acts, action, ifNull, ifSame, acceptsCell, entry, halts, actionOf, branchBy}
+use Rattle.model.specs.Machine.{Answer, Effect, Stmt, accepts, answerOf, branch, done, fault, faulted, picks, refused, carryOut, stopped, went, isStop, Kind, kind, Action, acts, action, tests, acceptsCell, entry, halts, actionOf, branchBy}
 use Rattle.model.specs.Notions.{In, Pairs, Exclude, guardsOn}
 use Rattle.model.proofs.lists.Lists.{in-joined, in-map, pairs-append, pairs-few, few-same, joined-in, map-in}
 use Rattle.model.proofs.ways.Location.{choose-edge, way-guards}
@@ -65,8 +65,7 @@ module _ (s : ℕ) (st : Stmt) (h : Heap) (kp : kept h ≡ true) where
       → Pairs Exclude (joined (map edges-by (map (λ p. whole [] p h) (picksOf k))))
   plain-exclude halts q = one-way (whole [] 0 h)
   plain-exclude (acts a) q = one-way (whole [] 0 h)
-  plain-exclude (ifNull u) q = one-way (whole [] 0 h)
-  plain-exclude (ifSame u w) q = one-way (whole [] 0 h)
+  plain-exclude (tests u s) q = one-way (whole [] 0 h)
   plain-exclude picks q = two-ways (whole [] 0 h) (whole [] 1 h) (λ x y i j e cs g k. absurd (differ x y i j e))
     where
       differ : (x y : Edge) → In x (edges-by (whole [] 0 h)) → In y (edges-by (whole [] 1 h)) → x .branchNo

@@ -8,7 +8,7 @@ use native.Mathlib.Omega.{arith}
 use borrow.Author.Tests.{le-leb, leb-true}
 use Rattle.model.specs.Edges.{picksOf}
 use Rattle.model.specs.Heap.{Heap, inUse, next, unused}
-use Rattle.model.specs.Machine.{Action, Entry, Kind, Op, Stmt, accepts, acceptsCell, acceptsPick, action, acts, branchBy, follow, halts, ifNull, ifSame, isStop, kind, link, make, picks, point, release, stay, step}
+use Rattle.model.specs.Machine.{Action, Entry, Kind, Op, Stmt, accepts, acceptsCell, acceptsPick, action, acts, branchBy, follow, halts, tests, isStop, kind, link, make, picks, point, release, compare, stay, step}
 use Rattle.model.specs.Notions.{In, Room}
 use Rattle.model.specs.Runs.{Advance, State, made}
 use Rattle.model.proofs.expansion.Facts.{unused-of}
@@ -20,16 +20,14 @@ use Rattle.model.proofs.lists.Logic.{and-both, and-l, and-r, bool-case,
 pub kind-case {ℓ} : {C : Type ℓ} (k : Kind) → (k ≡ picks → C) → ((k ≡ picks → ⊥) → C) → C
 kind-case halts f g = g (λ e. let z : _≡_ {A = ℕ} 0 1 = cc in omega arith)
 kind-case (acts a) f g = g (λ e. let z : _≡_ {A = ℕ} 0 1 = cc in omega arith)
-kind-case (ifNull u) f g = g (λ e. let z : _≡_ {A = ℕ} 0 1 = cc in omega arith)
-kind-case (ifSame u w) f g = g (λ e. let z : _≡_ {A = ℕ} 0 1 = cc in omega arith)
+kind-case (tests u s) f g = g (λ e. let z : _≡_ {A = ℕ} 0 1 = cc in omega arith)
 kind-case picks f g = f refl
 
 -- a statement that does not choose has a branch of its own
 pub branch-pick : (k : Kind) (p q : ℕ) (h : Heap) → (k ≡ picks → ⊥) → branchBy k p h ≡ branchBy k q h
 branch-pick halts p q h n = refl
 branch-pick (acts a) p q h n = refl
-branch-pick (ifNull u) p q h n = refl
-branch-pick (ifSame u w) p q h n = refl
+branch-pick (tests u s) p q h n = refl
 branch-pick picks p q h n = absurd (n refl)
 
 pub pick-low : (k : Kind) (p : ℕ) → In p (picksOf k) → p ≤ 1
@@ -37,10 +35,8 @@ pick-low halts p (inl e) = omega arith
 pick-low halts p (inr x) = absurd x
 pick-low (acts a) p (inl e) = omega arith
 pick-low (acts a) p (inr x) = absurd x
-pick-low (ifNull u) p (inl e) = omega arith
-pick-low (ifNull u) p (inr x) = absurd x
-pick-low (ifSame u w) p (inl e) = omega arith
-pick-low (ifSame u w) p (inr x) = absurd x
+pick-low (tests u s) p (inl e) = omega arith
+pick-low (tests u s) p (inr x) = absurd x
 pick-low picks p (inl e) = omega arith
 pick-low picks p (inr (inl e)) = omega arith
 pick-low picks p (inr (inr x)) = absurd x
@@ -52,8 +48,7 @@ Stands k n = (p : ℕ) × In p (picksOf k) × (k ≡ picks → n ≡ p)
 first-pick : (k : Kind) → In 0 (picksOf k)
 first-pick halts = inl refl
 first-pick (acts x) = inl refl
-first-pick (ifNull u) = inl refl
-first-pick (ifSame u w) = inl refl
+first-pick (tests u s) = inl refl
 first-pick picks = inl refl
 
 pub pick-in : (k : Kind) (n : ℕ) → acceptsPick k n ≡ true → Stands k n
@@ -69,14 +64,14 @@ pick-in k n a =
 low-pick : (k : Kind) (p : ℕ) → (k ≡ picks → p ≤ 1) → acceptsPick k p ≡ true
 low-pick halts p l = refl
 low-pick (acts a) p l = refl
-low-pick (ifNull u) p l = refl
-low-pick (ifSame u w) p l = refl
+low-pick (tests u s) p l = refl
 low-pick picks p l = le-leb p 1 (l refl)
 
 -- ---- cells for new
 
 cell-room : (a : Action) (h : Heap) (c : ℕ) → acceptsCell a (next h c) ≡ true → Room a h c
 cell-room stay h c e = tt
+cell-room (compare u s) h c e = tt
 cell-room (point u s) h c e = tt
 cell-room (follow u w) h c e = tt
 cell-room (link u s) h c e = tt
@@ -85,6 +80,7 @@ cell-room (release u) h c e = tt
 
 room-cell : (a : Action) (h : Heap) (c : ℕ) → Room a h c → acceptsCell a (next h c) ≡ true
 room-cell stay h c r = refl
+room-cell (compare u s) h c r = refl
 room-cell (point u s) h c r = refl
 room-cell (follow u w) h c r = refl
 room-cell (link u s) h c r = refl
@@ -93,6 +89,7 @@ room-cell (release u) h c r = refl
 
 pub room-of : (a : Action) (h : Heap) (c : ℕ) → next h c ≡ unused → Room a h c
 room-of stay h c e = tt
+room-of (compare u s) h c e = tt
 room-of (point u s) h c e = tt
 room-of (follow u w) h c e = tt
 room-of (link u s) h c e = tt

@@ -10,7 +10,7 @@ use lib.ListN.{List·getD-eq-default, List·getD-map, getD, length, length-map}
 use borrow.Author.Tests.{eqb-false, eqb-true}
 use Rattle.model.specs.Edges.{Guard, Way, Weight, addsCounter, counter, isOneCell, isLess, one, less, split, splitHeap, whole, noNode, view, oneNode, View, viewVal}
 use Rattle.model.specs.Heap.{Heap, Val, cell, next, null, unused, Slot, undef, ptr}
-use Rattle.model.specs.Machine.{picks, Kind, Action, actionOf, acceptsCell, point, acts, follow, ifNull, link, ifSame, make, release, halts, stay}
+use Rattle.model.specs.Machine.{picks, Kind, Action, actionOf, acceptsCell, point, acts, follow, tests, link, make, release, halts, compare, stay}
 use Rattle.model.specs.Shape.{Seg, counters, last, nodeSlot, segments, shape, size}
 use Rattle.model.proofs.shapes.Canon.{single}
 use Rattle.model.proofs.expansion.Effects.{closed-ptr, exp-split}
@@ -43,8 +43,7 @@ no-view {n} e = absurd (let z : _≡_ {A = ℕ} 0 1 = cc in omega arith)
 pub view-acts : (k : Kind) (h : Heap) (n : ℕ) → view (actionOf k) h ≡ oneNode n → (a : Action) × (k ≡ acts a)
 view-acts halts h n e = no-view e
 view-acts (acts a) h n e = (a, refl)
-view-acts (ifNull u) h n e = no-view e
-view-acts (ifSame u w) h n e = no-view e
+view-acts (tests u s) h n e = no-view e
 view-acts picks h n e = no-view e
 
 pub acts-no-pick : (a : Action) → acts a ≡ picks → ⊥
@@ -57,6 +56,7 @@ pub record Looks (a : Action) : Type 0 where
 
 pub view-looks : (a : Action) (h : Heap) (n : ℕ) → view a h ≡ oneNode n → Looks a
 view-looks stay h n e = no-view e
+view-looks (compare u s) h n e = no-view e
 view-looks (point u s) h n e = no-view e
 view-looks (follow u w) h n e = record { takes = λ s. refl; roomy = λ h c. tt; chains = λ k c sg. refl }
 view-looks (link u s) h n e = record { takes = λ s. refl; roomy = λ h c. tt; chains = λ k c sg. refl }
@@ -75,6 +75,7 @@ view-val nx undef k = tt
 
 pub view-closed : (a : Action) (h : Heap) → AllClosed (next h) (h .ptrs) → ClosedView (next h) (view a h)
 view-closed stay h k = tt
+view-closed (compare u s) h k = tt
 view-closed (point u s) h k = tt
 view-closed (follow u w) h k = view-val (next h) (ptr h w) (closed-ptr (next h) (h .ptrs) w k)
 view-closed (link u s) h k = view-val (next h) (ptr h u) (closed-ptr (next h) (h .ptrs) u k)
@@ -84,6 +85,7 @@ view-closed (release u) h k = view-val (next h) (ptr h u) (closed-ptr (next h) (
 -- the pointers alone decide
 pub view-split : (a : Action) (n k : ℕ) (h : Heap) → view a (splitHeap n k h) ≡ view a h
 view-split stay n k h = refl
+view-split (compare u s) n k h = refl
 view-split (point u s) n k h = refl
 view-split (follow u w) n k h = refl
 view-split (link u s) n k h = refl
@@ -100,6 +102,7 @@ same-weigh k sg f h z e i = eq-case i k (λ p. ap (λ x. size (sg x)) p ∙ z �
 weigh-of : (a : Action) (k c : ℕ) (sg : ℕ → Seg) (f : ℕ → ℕ) → ((i : ℕ) → eqb i k ≡ false → size (sg i) ≡ f i)
     → size (sg k) ≡ 1 → f k ≡ 1 → (i : ℕ) → size (sg-after a k c sg i) ≡ f i
 weigh-of stay k c sg f h z e = same-weigh k sg f h z e
+weigh-of (compare u s) k c sg f h z e = same-weigh k sg f h z e
 weigh-of (point u s) k c sg f h z e = same-weigh k sg f h z e
 weigh-of (follow u w) k c sg f h z e = same-weigh k sg f h z e
 weigh-of (link u s) k c sg f h z e = same-weigh k sg f h z e
