@@ -4,6 +4,7 @@ pub mod Sizes
 pub mod Tests
 pub mod Picks
 pub mod Ways
+pub mod Relinks
 pub mod Leave
 pub mod Location
 pub mod Guards
