@@ -1,13 +1,13 @@
 -- A node split into its head and the tail: what each cell then holds, and that the tail stays in use through an action.
 use Prim.Native.Nat.{ℕ}
-use mathlib.Core.Path.{_≡_, refl, sym, ap, subst, _∙_}
+use mathlib.Core.Path.{_≡_, refl, sym, ap, ap₂, subst, _∙_}
 use mathlib.Core.Logic.{_⊎_}
-use mathlib.Core.Bool.{false}
+use mathlib.Core.Bool.{cond, false}
 use lib.Dec.{eqb}
-use borrow.Author.Tests.{eqb-false}
+use borrow.Author.Tests.{eqb-false, ne-eqb}
 use Rattle.model.specs.Heap.{Heap, Slot, Val, cell, holds, kept, next, null, ptr, undef}
 use Rattle.model.specs.Machine.{Action, Effect, carryOut, done, fault, keep, putSlot, wipe, perform, Op, point, action, follow, link, valueOf, make, release, compare, held, splice, stay}
-use Rattle.model.specs.Edges.{splitHeap, view, viewPair, viewVal}
+use Rattle.model.specs.Edges.{noNode, splitHeap, twoNodes, view, viewPair, viewVal}
 use Rattle.model.specs.Notions.{AllClosed, Closed, ClosedHeap, Used, Views, upd}
 use Rattle.model.proofs.expansion.Effects.{next-free, next-put}
 use Rattle.model.proofs.expansion.Writes.{holds-inj, upd-at, upd-off}
@@ -95,6 +95,11 @@ pair-is (cell n) null i e = absurd e
 pair-is (cell n) undef i e = absurd e
 pair-is null w i e = absurd e
 pair-is undef w i e = absurd e
+
+pub pair-view : {v w : Val} {i : ℕ} (p : IsPair v w i) → viewPair v w ≡ twoNodes (p .first) (p .second)
+pair-view p =
+    ap₂ viewPair (p .firstIs) (p .secondIs)
+    ∙ ap (λ b. cond b noNode (twoNodes (p .first) (p .second))) (ne-eqb (p .first) (p .second) (p .apart))
 
 -- where both are cells, the effect is done
 pub splice-does : (i j x a b : ℕ) (h : Heap) → ptr h i ≡ cell a → ptr h j ≡ cell b
