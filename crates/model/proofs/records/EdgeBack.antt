@@ -53,7 +53,7 @@ test-low isOne = omega arith
 test-low isMore = omega arith
 
 -- the numbers of a guard on one of 16 nodes
-code-low : (gs : List Guard) → ((g : Guard) → In g gs → g .node < 16) → (i : ℕ)
+pub code-low : (gs : List Guard) → ((g : Guard) → In g gs → g .node < 16) → (i : ℕ)
     → (guardCode gs i .test ≤ 3) × (guardCode gs i .node ≤ 15)
 code-low [] h i = (omega arith, omega arith)
 code-low (g ∷ gs) h zero = (test-low (g .test), omega (arith, h g (inl refl)))
