@@ -31,10 +31,12 @@ keep-target-requires c κs =
 
 put-edge-requires : tie.Need-put-edge-requires
 put-edge-requires c κs =
-    let p = c .before .before .before .before .before .before .before .before .before .before .before .before .before .before .before .before .pre in
-    rw (c .fields-to .ensures)
-    (search needs, search needs, search needs, search needs, search needs, branch-fits (p .bytes) (p .branch)
-    (p .guarded))
+    let b = c .before .before .before .before .before .before .before .before in
+    let p = b .before .before .before .before .before .before .before .before .pre in
+    rw (c .fields-to .ensures) (
+      search needs,
+      (search needs, search needs, search needs, search needs, branch-fits (p .bytes) (p .branch) (p .guarded)),
+    )
 
 returns-3 : tie.Need-returns-3
 returns-3 c t e H W B =
