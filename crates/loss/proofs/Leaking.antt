@@ -12,7 +12,7 @@ use Rattle.model.specs.Records.{byte, shapeOf, valByte, valOf}
 use Rattle.model.proofs.records.Bytes.{byte-back, val-cell}
 use Rattle.model.proofs.expansion.Effects.{closed-ptr}
 use Rattle.model.proofs.lists.Lists.{getD-map, some-inj, some-none}
-use Rattle.model.proofs.lists.Logic.{clash, bool-case, eq-case}
+use Rattle.model.proofs.lists.Logic.{bool-case, eq-case}
 use Rattle.model.proofs.visits.Order.{used-below}
 use Rattle.model.specs.Notions.{Closed, Used, Views, AllClosed}
 use Rattle.model.proofs.expansion.Writes.{holds-inj}

@@ -8,3 +8,4 @@ pub mod Relinks
 pub mod Leave
 pub mod Location
 pub mod Guards
+pub mod RelinkEdges

@@ -10,8 +10,8 @@ use lib.Dec.{eqb, leb}
 use lib.ListN.{getD, length}
 use Rattle.model.specs.Base.{mem, sum, numbers, all}
 use Rattle.model.specs.Edges.{Edge, Guard, Loc, Test, Update, View, at, failed, isMore, isOne, noNode, oneNode, twoNodes}
-use Rattle.model.specs.Heap.{Heap, IsHeap, Slot, Val, cell, closed, holds, next, null, order, undef, unused}
-use Rattle.model.specs.Machine.{Action, Effect, Fault, compare, done, fault, follow, link, make, point, putSlot, release, splice, stay}
+use Rattle.model.specs.Heap.{Heap, IsHeap, Slot, Val, cell, closed, holds, next, null, order, ptr, undef, unused}
+use Rattle.model.specs.Machine.{Action, Effect, Fault, atNull, atUndef, compare, done, fault, follow, link, make, point, putSlot, release, splice, stay}
 use Rattle.model.specs.Records.{Row, Verdict, isAccepted, isRefused, refusal}
 use Rattle.model.specs.Shape.{Seg, cells, core, segments, size}
 
@@ -239,6 +239,13 @@ Views (twoNodes n m) i = (i ≡ n) ⊎ (i ≡ m)
 -- each node that is looked at is one cell of the expansion
 abbrev pub Alone : View → (ℕ → Seg) → Type 0
 Alone v sg = (i : ℕ) → Views v i → sg i .rest ≡ []
+
+-- 02, job 3: "Looking at w comes first, for null and for undefined, then u.": what is looked at is the fault f
+pub data LooksBad (h : Heap) (u w : ℕ) : Fault → Type 0 where
+  w-null : ptr h w ≡ null → LooksBad h u w atNull
+  w-undef : ptr h w ≡ undef → LooksBad h u w atUndef
+  u-null : (d : ℕ) → ptr h w ≡ cell d → ptr h u ≡ null → LooksBad h u w atNull
+  u-undef : (d : ℕ) → ptr h w ≡ cell d → ptr h u ≡ undef → LooksBad h u w atUndef
 
 -- both fault alike, or both finish and the one heap is the expansion of the other
 pub data Alike (sg : ℕ → Seg) : Effect → Effect → Type 0 where

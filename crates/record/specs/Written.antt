@@ -1,7 +1,7 @@
 -- The bytes that are written for a fault, a location and an edge, and a table with a record put at its place.
 -- Assumes nothing.
 use Prim.Native.Nat.{ℕ, _+_, _*_, _<_, _≤_}
-use mathlib.Core.List.{List, [], _∷_, _++_, map}
+use mathlib.Core.List.{List, _∷_, _++_, map}
 use lib.ListN.{length, take, drop, replicate}
 use Rattle.model.specs.Base.{joined, mostNodes, recordSize}
 use Rattle.model.specs.Records.{branchByte, filled, twoBytes}

@@ -6,7 +6,7 @@ use mathlib.Core.Logic.{_↔_, _⊎_}
 use mathlib.Core.Bool.{false, true}
 use mathlib.Core.List.{List, [], _∷_, map}
 use native.Mathlib.Omega.{arith}
-use lib.ListN.{drop, getD, length, replicate}
+use lib.ListN.{drop, length, replicate}
 use Rattle.model.specs.Base.{mem}
 use Rattle.model.specs.Edges.{Edge, Loc, Update, at, edgesOf, failed, splitHeap, view}
 use Rattle.model.specs.Heap.{Heap, IsHeap, inUse, kept, next, order}

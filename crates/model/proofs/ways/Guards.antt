@@ -136,6 +136,23 @@ module _ (s : ℕ) (st : Stmt) (h : Heap) (kp : kept h ≡ true) where
       by-run (fault f) b = (_, inl refl, refl)
       by-run (done g) b = (_, inl refl, b)
 
+  -- and no other
+  pub acts-one : (a : Action) → kind (st .op) ≡ acts a → ((x : Slot) → acceptsCell a x ≡ true) → (y : Way)
+      → (E : Edge) × (edges-by y ≡ E ∷ []) × (E .branchNo ≡ 0) × (E .guards ≡ y .guards)
+  acts-one a q t y =
+      let r = acts-edge a q t y in (
+        r .0,
+        few-one (edges-by y) (edge-few s nodes y (stepBy st nodes y)) (r .0) (r .1),
+        r .2,
+        way-guards s nodes y (stepBy st nodes y) (r .0) (r .1),
+      )
+    where
+      few-one : (l : List Edge) → length l ≤ 1 → (E : Edge) → In E l → l ≡ E ∷ []
+      few-one [] h E i = absurd i
+      few-one (x ∷ []) h E (inl e) = ap (λ z. z ∷ []) (sym e)
+      few-one (x ∷ []) h E (inr i) = absurd i
+      few-one (x ∷ y ∷ l) h E i = absurd (omega arith)
+
   -- each edge of a way that acts has branch 0
   acts-branch : (a : Action) → kind (st .op) ≡ acts a → ((x : Slot) → acceptsCell a x ≡ true) → (y : Way) (E : Edge)
       → In E (edges-by y)

@@ -10,7 +10,7 @@ use lib.Dec.{eqb}
 use lib.ListN.{getD, length}
 use borrow.Author.Tests.{eqb-false}
 use Rattle.model.specs.Base.{mem}
-use Rattle.model.specs.Edges.{noNode, oneNode, splitHeap, twoNodes, view, viewPair, viewVal}
+use Rattle.model.specs.Edges.{noNode, splitHeap, twoNodes, view, viewPair, viewVal}
 use Rattle.model.specs.Heap.{Heap, Val, cell, holds, next, null, ptr, undef}
 use Rattle.model.specs.Machine.{Action, compare, fault, follow, keep, leak, link, make, perform, point, release, splice, stay}
 use Rattle.model.specs.Notions.{Chain, ClosedHeap, Kept, Used, img, segAt}

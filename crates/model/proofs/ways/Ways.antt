@@ -109,11 +109,17 @@ ways-guards k (oneNode n) h y (inr (inl q)) =
     rw q (omega arith, λ g j. guard-node g n isMore [] j (λ e. e) (λ x. absurd x))
 ways-guards k (oneNode n) h y (inr (inr x)) = absurd x
 ways-guards k (twoNodes n m) h y (inl q) =
-    rw q (omega arith, λ g j. guard-node g n isOne (oneAt m ∷ []) j inl
-    (λ i. guard-node g m isOne [] i inr (λ x. absurd x)))
+    rw q (
+      omega arith,
+      λ g j. guard-node g n isOne (oneAt m ∷ []) j inl
+          (λ i. guard-node g m isOne [] i inr (λ x. absurd x)),
+    )
 ways-guards k (twoNodes n m) h y (inr (inl q)) =
-    rw q (omega arith, λ g j. guard-node g n isOne (moreAt m ∷ []) j inl
-    (λ i. guard-node g m isMore [] i inr (λ x. absurd x)))
+    rw q (
+      omega arith,
+      λ g j. guard-node g n isOne (moreAt m ∷ []) j inl
+          (λ i. guard-node g m isMore [] i inr (λ x. absurd x)),
+    )
 ways-guards k (twoNodes n m) h y (inr (inr (inl q))) =
     rw q (omega arith, λ g j. guard-node g n isMore [] j inl (λ x. absurd x))
 ways-guards k (twoNodes n m) h y (inr (inr (inr x))) = absurd x

@@ -5,7 +5,7 @@ use mathlib.Core.Path.{_≡_, _∙_, ap, sym}
 use lib.ListN.{length}
 use borrow.Author.Needs.{needs}
 use borrow.Author.Tests.{eq-eqb, ne-eqb}
-use Rattle.model.specs.Edges.{View, noNode, waysOf}
+use Rattle.model.specs.Edges.{noNode, waysOf}
 use Rattle.model.specs.Machine.{kind}
 use Rattle.model.specs.Records.{opOf}
 use Rattle.way.specs.Way.{viewIn}
