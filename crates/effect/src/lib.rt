@@ -65,18 +65,18 @@ fn store_through(at: u8, v: u8, cells: &mut [u8]) -> u8
     0
 }
 
-// The successor of the cell that the value at names becomes that of the cell that the value v names. v is looked at
-// first.
-fn relink_through(at: u8, v: u8, cells: &mut [u8]) -> u8
-    requires { ⌜ Named (now cells) at × Named (now cells) v ⌝ }
-    ensures { λ r. ⌜ ((ps : List ℕ) → HasEffect (relinked (valOf at) (valOf v)) ps (now (cells .entry))
+// The successor of the cell that the value at names becomes that of the cell that the value from names, which is looked
+// at first.
+fn relink_through(at: u8, from: u8, cells: &mut [u8]) -> u8
+    requires { ⌜ Named (now cells) at × Named (now cells) from ⌝ }
+    ensures { λ r. ⌜ ((ps : List ℕ) → HasEffect (relinked (valOf at) (valOf from)) ps (now (cells .entry))
         r ps (now (cells .exit))) ⌝ }
 {
-    let fault = access_fault(v);
+    let fault = access_fault(from);
     if fault != 0 {
         return fault;
     }
-    let c = v as usize;
+    let c = from as usize;
     let successor = cells[c];
     store_through(at, successor, cells)
 }

@@ -8,13 +8,13 @@ returns : tie.Need-returns
 returns c ps =
     let a = c .before .before .before .args in
     let f = c .before .access-fault in
-    relink-fault ps (a .cells .now) (a .at) (a .v) (f .result) (f .ensures) (c .if1 .taken)
+    relink-fault ps (a .cells .now) (a .at) (a .from) (f .result) (f .ensures) (c .if1 .taken)
 
 in-cells : tie.Need-slice-read-successor
 in-cells c =
     let s = c .before .before .before .before in
     let f = c .before .before .access-fault in
-    access-named (s .args .cells .now) (s .args .v) (f .result) (f .ensures) (c .before .if1 .left) (s .pre .1)
+    access-named (s .args .cells .now) (s .args .from) (f .result) (f .ensures) (c .before .if1 .left) (s .pre .1)
 
 store-through-requires : tie.Need-store-through-requires
 store-through-requires c κs =
@@ -29,7 +29,7 @@ returns-2 c ps =
     let a = s .args in
     let f = c .before .before .before .before .before .before .access-fault in
     let r = c .before .before .store-through in
-    relink-cell ps (a .cells .now) (a .at) (a .v) (f .result) (r .result) ps _ (f .ensures)
+    relink-cell ps (a .cells .now) (a .at) (a .from) (f .result) (r .result) ps _ (f .ensures)
     (c .before .before .before .before .before .if1 .left) (s .pre .1) (r .ensures ps)
 
 pub relink-through-spec : {M : Type 1} → statement M
