@@ -15,7 +15,7 @@ use Rattle.model.proofs.lists.Lists.{getD-map, some-inj, some-none}
 use Rattle.model.proofs.lists.Logic.{bool-case, eq-case}
 use Rattle.model.proofs.visits.Order.{used-below}
 use Rattle.model.specs.Notions.{Closed, Used, Views, AllClosed}
-use Rattle.model.proofs.expansion.Writes.{holds-inj}
+use Rattle.model.proofs.expansion.Writes.{cell-inj, holds-inj}
 use Rattle.model.specs.declared.Decoded.{Decoded}
 use Rattle.way.specs.Ready.{WayReady}
 use Rattle.way.specs.declared.Way.{Way}
@@ -29,9 +29,6 @@ use Rattle.model.specs.Edges.{splitHeap, twoNodes, view}
 use Rattle.model.specs.Structs.{keepsAt, opIn}
 use Rattle.model.proofs.expansion.Splits.{pair-is, pair-view, view-is}
 use Rattle.model.proofs.ways.Relinks.{split-leaks}
-
-cell-inj : {a b : ℕ} → cell a ≡ cell b → a ≡ b
-cell-inj {a} {b} e = cc
 
 null-cell : {c : ℕ} → _≡_ {A = Val} null (cell c) → ⊥
 null-cell {c = c} e = let z : _≡_ {A = ℕ} 0 1 = cc in omega arith

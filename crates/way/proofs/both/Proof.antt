@@ -1,17 +1,13 @@
 -- `way::both` meets its contract: two nodes that are different, or none.
-use mathlib.Core.Bool.{Bool, _&&_, false, not, true}
-use mathlib.Core.Path.{_≡_, refl, sym}
+use mathlib.Core.Bool.{_&&_, false, not, true}
+use mathlib.Core.Path.{_≡_, refl}
 use lib.Dec.{eqb, ltb}
 use borrow.Author.Tests.{lt-ltb, ltb-true}
-use Rattle.model.proofs.lists.Logic.{and-l, and-r, bool-case, clash}
+use Rattle.model.proofs.lists.Logic.{and-l, and-r, bool-case, clash, not-false}
 use Rattle.way.proofs.Through.{view-none-pair, view-pair}
 use Rattle.way.proofs.both.Statement.{statement}
 use Rattle.way.proofs.both.Tie as tie
 use borrow.Author.Needs.{needs}
-
-not-back : (b : Bool) → not b ≡ true → b ≡ false
-not-back true e = sym e
-not-back false e = refl
 
 returns : tie.Need-returns
 returns c =
@@ -20,7 +16,7 @@ returns c =
     let t : (ltb a 0xfe && ltb b 0xfe) && not (eqb a b) ≡ true = c .if1 .taken in
     let l = and-l (ltb a 0xfe && ltb b 0xfe) (not (eqb a b)) t in
     view-pair a b (ltb-true a 0xfe (and-l (ltb a 0xfe) (ltb b 0xfe) l)) (ltb-true b 0xfe (and-r (ltb a 0xfe) (ltb b 0xfe)
-    l)) (not-back (eqb a b) (and-r (ltb a 0xfe && ltb b 0xfe) (not (eqb a b)) t))
+    l)) (not-false (eqb a b) (and-r (ltb a 0xfe && ltb b 0xfe) (not (eqb a b)) t))
 
 returns-2 : tie.Need-returns-2
 returns-2 c =
