@@ -46,8 +46,8 @@ module _ {l : List ℕ} {d : Decoded} {s : ℕ} {h : Heap} {y : Way} (R : WayRea
   still-whole : y .split ≡ false
   still-whole =
       bool-case (y .split)
-      (λ q. absurd (subst (λ x. Views x (y .node .0)) (sym (view-keeps (d .op) (d .u .0) (d .w .0) h (R .statement .known)
-      stays)) (R .isNode q)))
+      (λ q. absurd (subst (λ x. Views x (y .node .0))
+      (sym (view-keeps (d .op) (d .u .0) (d .w .0) h (R .statement .known) stays)) (R .isNode q)))
       (λ q. q)
 
   still-heap : wayIn y h .heap ≡ h

@@ -24,7 +24,7 @@ use Rattle.model.proofs.listings.Reached.{shape-edge}
 use Rattle.model.proofs.records.ReadBack.{canon-writable}
 use Rattle.model.proofs.shapes.Same.{elem-in}
 use Rattle.model.proofs.ways.Picks.{accept-room, room-of}
-use Rattle.model.proofs.ways.Ways.{view-looks}
+use Rattle.model.proofs.ways.Views.{view-looks}
 use Rattle.way.specs.Ready.{WayReady}
 use Rattle.way.specs.Way.{IsWay, IsWayOf, viewIn, wayBy, wayIn}
 use Rattle.way.specs.declared.Way as declared

@@ -59,8 +59,8 @@ codeOf g = record { test = testNumber (g .test); node = g .node }
 abbrev pub guardCode : List Guard → ℕ → GuardCode
 guardCode gs i = getD (map codeOf gs) i (record { test = 0; node = 0 })
 
--- 02, job 3: "in byte 1, bit 0 is the branch, bits 1 and 2 are a second guard with the values of byte 6, and bits 3 to 6
--- its node (0 if none), bit 7 zero"
+-- 02, job 3: "in byte 1, bit 0 is the branch, bits 1 and 2 are a second guard with the values of byte 6, and bits 3 to
+-- 6 its node (0 if none), bit 7 zero"
 abbrev pub branchByte : ℕ → GuardCode → ℕ
 branchByte b g = b + 2 * g .test + 8 * g .node
 

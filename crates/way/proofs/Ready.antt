@@ -12,7 +12,7 @@ use Rattle.model.specs.Records.{byte, shapeOf, valueByte}
 use Rattle.model.proofs.visits.Order.{used-below}
 use Rattle.model.proofs.records.ReadBack.{canon-writable, location-length, location-shape}
 use Rattle.model.specs.Notions.{Used}
-use Rattle.model.proofs.ways.Ways.{view-used}
+use Rattle.model.proofs.ways.Views.{view-used}
 use Rattle.model.specs.Listings.{Writable}
 use Rattle.model.proofs.records.ShapeBack.{values-pass}
 use Rattle.way.specs.Way.{OpenReady}

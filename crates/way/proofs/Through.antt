@@ -135,8 +135,8 @@ view-pair a b la lb e =
     )
 
 none-first : (a b : ℕ) → 0xfe ≤ a → a < 256 → noNode ≡ viewPair (valOf a) (valOf b)
-none-first a b lo hi = eq-case a 0xfe (λ e. rw e) (λ n. let e : a ≡ 0xff = (let m = eqb-false a 0xfe n in omega arith) in
-    rw e)
+none-first a b lo hi =
+    eq-case a 0xfe (λ e. rw e) (λ n. let e : a ≡ 0xff = (let m = eqb-false a 0xfe n in omega arith) in rw e)
 
 none-second : (a b : ℕ) → 0xfe ≤ b → b < 256 → noNode ≡ viewPair (valOf a) (valOf b)
 none-second a b lo hi = sym (pair-none (valOf a) (valOf b) (view-other b lo hi))

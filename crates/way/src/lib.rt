@@ -146,8 +146,8 @@ fn single_way(v: u8, j: u8) -> Way
     }
 }
 
-// Way j through two nodes: nothing split; the second's head split off; the first's head split off, whatever the second's
-// counter.
+// Way j through two nodes: nothing split; the second's head split off; the first's head split off, whatever the
+// counter of the second.
 fn double_way(n: u8, m: u8, j: u8) -> Way
     ensures { λ r. ⌜ IsWay (twoNodes n m) j r ⌝ }
 {

@@ -39,4 +39,5 @@ returns-2 c e =
 pub surely-lost-spec : {M : Type 1} → statement M
 surely-lost-spec =
     tie.close
-    (tie.spec (λ c κs. search needs) splits-at-requires overwrites-requires alone-holds-requires returns returns-2 (λ c e. clash e refl))
+    (tie.spec (λ c κs. search needs) splits-at-requires overwrites-requires alone-holds-requires returns returns-2
+    (λ c e. clash e refl))

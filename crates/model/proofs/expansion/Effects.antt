@@ -152,7 +152,8 @@ module _ (W : Heap) (sg : ℕ → Seg) (H : Heap) (X : Expansion W sg H) where
   value-closed (from w) = ptr-closed W sg H X w
 
   link-alike : (v w : Val) → w ≡ img sg v → Closed (next W) v → Alone (viewVal v) sg → (x : Val) → Closed (next W) x
-      → Alike sg (through v (λ d. done (putSlot d (holds x) W))) (through w (λ d. done (putSlot d (holds (img sg x)) H)))
+      → Alike sg (through v (λ d. done (putSlot d (holds x) W)))
+      (through w (λ d. done (putSlot d (holds (img sg x)) H)))
   link-alike null w e k o x q = rw e both-bad
   link-alike undef w e k o x q = rw e both-bad
   link-alike (cell n) w e k o x q = rw e (both-ok (exp-write W sg H X n (sg n .first) x (one-cell n (o n refl)) k q))
@@ -163,7 +164,8 @@ module _ (W : Heap) (sg : ℕ → Seg) (H : Heap) (X : Expansion W sg H) where
   follow-alike u null w e k o = rw e both-bad
   follow-alike u undef w e k o = rw e both-bad
   follow-alike u (cell n) w e k o =
-      rw (e, k .1, next-one n (k .0) (k .1) (o n refl)) (both-ok (exp-ptr W sg H X u (k .0) (X .body .closed n (k .0) (k .1))))
+      rw (e, k .1, next-one n (k .0) (k .1) (o n refl))
+      (both-ok (exp-ptr W sg H X u (k .0) (X .body .closed n (k .0) (k .1))))
 
   release-alike : (v w : Val) → w ≡ img sg v → Closed (next W) v → Alone (viewVal v) sg
       → Alike sg (freeVal v W) (freeVal w H)

@@ -86,7 +86,8 @@ module _ (r : Routine) (t : Listing) (X : Exact r t) (G : GoodStarts r) (a b : �
   edge-word n h = let k = linkAt t n in ap (λ x. word x 2) (edge-record n h) ∙ edge-from (k .from) (k .dest) (k .edge)
 
   from-few : (n : ℕ) → n < length (t .links) → nodesOf (locAt (t .locs) (linkAt t n .from)) ≤ 12
-  from-few n h = nodes-few (locAt (t .locs) (linkAt t n .from)) (loc-good (linkAt t n .from) (link-facts n h .from-below))
+  from-few n h =
+      let i = linkAt t n .from in nodes-few (locAt (t .locs) i) (loc-good i (link-facts n h .from-below))
 
   edge-on : (n : ℕ) (cs : List ℕ) → n < length (t .links)
       → guardsHold cs (guardsOf (recordAt (T .edgeBytes) n)) ≡ guardsOn (linkAt t n .edge .guards) cs

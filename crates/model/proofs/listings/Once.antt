@@ -18,7 +18,8 @@ use Rattle.model.proofs.lists.Lists.{any-find, in-joined, in-map, in-me
 use Rattle.model.proofs.lists.Numbers.{flag-at}
 use Rattle.model.proofs.visits.Order.{order-once, used-below}
 use Rattle.model.specs.Listings.{GoodLoc}
-use Rattle.model.proofs.ways.Ways.{split-fair, whole-fair, view-used}
+use Rattle.model.proofs.ways.Ways.{split-fair, whole-fair}
+use Rattle.model.proofs.ways.Views.{view-used}
 
 -- the cells of different segments differ
 segments-apart : (ss : List Seg) → NoDup (flat ss) → Pairs (λ s t. (c : ℕ) → mem c (cells s) ≡ true → mem c (cells t)

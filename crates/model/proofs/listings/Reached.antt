@@ -36,7 +36,7 @@ use Rattle.model.proofs.expansion.Step.{step-go}
 use Rattle.model.proofs.shapes.Unfold.{counters-unfold, shape-unfold, unfold-is-heap}
 use Rattle.model.proofs.expansion.Kinds.{PtrsAre, leaves-ptrs, effect-leaves}
 use Rattle.model.proofs.ways.Relinks.{view-two}
-use Rattle.model.proofs.ways.Ways.{view-used}
+use Rattle.model.proofs.ways.Views.{view-used}
 
 pub made-ptrs : (s : ℕ) (st : Stmt) (e : Entry) (h : Heap) → ClosedHeap h → (x : Advance State)
     → made (begin s h) (step st e h) ≡ some x → length (x .after .heap .ptrs) ≡ length (h .ptrs)

@@ -20,7 +20,6 @@ val-clash {ℓ} : {C : Type ℓ} {v : Val} {c : ℕ} → cell c ≡ v → v ≡ 
 val-clash {v} {c} e (inl q) = absurd (let z : _≡_ {A = ℕ} 0 1 = cc in omega arith)
 val-clash {v} {c} e (inr q) = absurd (let z : _≡_ {A = ℕ} 0 1 = cc in omega arith)
 
-
 module _ (nx : ℕ → Slot) where
   -- what holds of the cells that the walk begins with, and goes along nexts, holds of all that it visits
   module _ (P : ℕ → Type 0) (go-on : (c d : ℕ) → P c → nx c ≡ holds (cell d) → P d) where

@@ -12,9 +12,10 @@ use Rattle.model.specs.Heap.{Heap, kept, Slot, next}
 use Rattle.model.specs.Machine.{Answer, Effect, Stmt, accepts, answerOf, branch, done, fault, faulted, picks, refused, carryOut, stopped, went, isStop, Kind, kind, Action, acts, action, tests, acceptsCell, entry, halts, actionOf, branchBy}
 use Rattle.model.specs.Notions.{In, Pairs, Exclude, Views, guardsOn}
 use Rattle.model.proofs.lists.Lists.{in-joined, in-map, pairs-append, pairs-few, few-same, joined-in, map-in}
-use Rattle.model.proofs.ways.Location.{choose-edge, more-on, one-on, one-or-more, rest-on, way-guards}
+use Rattle.model.proofs.ways.Location.{choose-edge, way-guards}
+use Rattle.model.proofs.ways.Lands.{more-on, one-on, one-or-more, rest-on}
 use Rattle.model.proofs.expansion.Step.{step-go}
-use Rattle.model.proofs.ways.Ways.{view-acts, view-looks}
+use Rattle.model.proofs.ways.Views.{view-acts, view-looks}
 
 edge-few : (s k : ℕ) (y : Way) (a : Answer) → length (edgeBy s k y a) ≤ 1
 edge-few s k y refused = omega arith
@@ -181,7 +182,8 @@ module _ (s : ℕ) (st : Stmt) (h : Heap) (kp : kept h ≡ true) where
       let f = view-acts (kind (st .op)) h n v in
       let t = view-looks (f .0) h n (subst (λ k. Views (view (actionOf k) h) n) (f .1) v) .takes in
       let w = way-of ys E j in
-      subst (Enabled ys cs) (sym (acts-branch (f .0) (f .1) t (w .0) E (w .2))) (way-enabled (f .0) (f .1) t ys y i cs on)
+      subst (Enabled ys cs) (sym (acts-branch (f .0) (f .1) t (w .0) E (w .2)))
+      (way-enabled (f .0) (f .1) t ys y i cs on)
 
   ways-cover : (v : View) → view does h ≡ v → (cs : List ℕ) → ((n : ℕ) → Views v n → 1 ≤ getD cs n 0) → (E : Edge)
       → In E (joined (map edges-by (waysOf (kind (st .op)) v h))) → Enabled (waysOf (kind (st .op)) v h) cs

@@ -23,7 +23,8 @@ use Rattle.model.proofs.shapes.Canon.{canon-fold, canon-segments, singl
 use Rattle.model.proofs.ways.Guards.{acts-one}
 use Rattle.model.proofs.ways.Relinks.{heap-leaks, split-leaks}
 use Rattle.model.proofs.ways.Weights.{update-value}
-use Rattle.model.proofs.ways.Ways.{ptr-used, whole-fair}
+use Rattle.model.proofs.ways.Ways.{whole-fair}
+use Rattle.model.proofs.ways.Views.{ptr-used}
 
 module _ (st : Stmt) (u w : ℕ) (k : kind (st .op) ≡ acts (splice u w)) where
   -- ---- one step

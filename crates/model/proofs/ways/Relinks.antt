@@ -22,7 +22,8 @@ use Rattle.model.proofs.expansion.Splits.{splice-does}
 use Rattle.model.proofs.expansion.Start.{start}
 use Rattle.model.proofs.expansion.Unheld.{Only, other-leaks, split-only, split-used}
 use Rattle.model.proofs.lists.Logic.{bool-case, clash, eq-case, mem-here, mem-there}
-use Rattle.model.proofs.ways.Ways.{ptr-used, size-at}
+use Rattle.model.proofs.ways.Ways.{size-at}
+use Rattle.model.proofs.ways.Views.{ptr-used}
 
 -- ---- two nodes are looked at
 

@@ -15,8 +15,9 @@ returns c =
     let b = c .before .args .b in
     let t : (ltb a 0xfe && ltb b 0xfe) && not (eqb a b) ≡ true = c .if1 .taken in
     let l = and-l (ltb a 0xfe && ltb b 0xfe) (not (eqb a b)) t in
-    view-pair a b (ltb-true a 0xfe (and-l (ltb a 0xfe) (ltb b 0xfe) l)) (ltb-true b 0xfe (and-r (ltb a 0xfe) (ltb b 0xfe)
-    l)) (not-false (eqb a b) (and-r (ltb a 0xfe && ltb b 0xfe) (not (eqb a b)) t))
+    view-pair a b (ltb-true a 0xfe (and-l (ltb a 0xfe) (ltb b 0xfe) l))
+    (ltb-true b 0xfe (and-r (ltb a 0xfe) (ltb b 0xfe) l))
+    (not-false (eqb a b) (and-r (ltb a 0xfe && ltb b 0xfe) (not (eqb a b)) t))
 
 returns-2 : tie.Need-returns-2
 returns-2 c =

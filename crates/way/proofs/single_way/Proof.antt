@@ -1,4 +1,5 @@
--- `way::single_way` meets its contract: through a node, whole and then split, with the guards = 1 and ≥ 2; else by pick j.
+-- `way::single_way` meets its contract: through a node, whole and then split, with the guards = 1 and ≥ 2; else by
+-- pick j.
 use borrow.Author.Needs.{needs}
 use Rattle.way.proofs.Through.{node-way, plain-way}
 use Rattle.way.proofs.single_way.Statement.{statement}
@@ -17,4 +18,5 @@ returns-2 c =
     plain-way (a .v) (a .j) (g .result) (search needs) (search needs) (g .ensures .0) (g .ensures .1)
 
 pub single-way-spec : {M : Type 1} → statement M
-single-way-spec = tie.close (tie.spec (λ c. search needs) (λ c κs. search needs) returns (λ c κs. search needs) returns-2)
+single-way-spec =
+    tie.close (tie.spec (λ c. search needs) (λ c κs. search needs) returns (λ c κs. search needs) returns-2)
