@@ -1,6 +1,7 @@
 //! Relinks, in listings, on heaps and in plain steps: the proved library against the second translator's answers, and both against
 //! the sentences themselves. What came is counted, and too few fail.
 
+use native::compare::listing;
 use native::draw::{image, relinking_routine, Draw};
 use reference::Stepped;
 
@@ -181,14 +182,7 @@ fn listings_agree_where_a_routine_relinks() {
     let (mut d, mut inputs, mut counts) = (Draw::new(8), 0, Counts::default());
     for i in 0..40_000 {
         let input = relinking_routine(&mut d, i);
-        let (mut l, mut e) = (vec![0x5a; 32_768], vec![0xa5; 65_536]);
-        let (mut m, mut f) = (l.clone(), e.clone());
-        let (refusal, [locations, edges]) = native::translate(&input, &mut l, &mut e);
-        let theirs = reference::translate(&input, &mut m, &mut f);
-        let ours = (refusal.number, refusal.place, locations, edges);
-        assert_eq!(ours, (theirs.refusal, theirs.place, theirs.locations, theirs.edges), "{input:x?}");
-        assert!(l == m && e == f, "tables of {input:x?}");
-        let (l, e) = (&l[..32 * locations], &e[..32 * edges]);
+        let (l, e) = listing(&input);
         let mut met = false;
         for (number, location) in l.chunks(32).enumerate() {
             let statement = &input[32 * location[1] as usize..][..32];
@@ -197,8 +191,8 @@ fn listings_agree_where_a_routine_relinks() {
             }
             met = true;
             let leaving: Vec<&[u8]> = e.chunks(32).filter(|e| e[2..4] == (number as u16).to_le_bytes()).collect();
-            judge(location, statement, &leaving, l, &mut counts);
-            on_a_heap(&mut d, location, statement, &leaving, l, &mut counts);
+            judge(location, statement, &leaving, &l, &mut counts);
+            on_a_heap(&mut d, location, statement, &leaving, &l, &mut counts);
         }
         inputs += usize::from(met);
     }
