@@ -1,4 +1,4 @@
--- 01, "Edges of a location": the plain machine run on the shape. Assumes nothing.
+-- 01, "Edges of a location", as 02 amends it: the plain machine run on the shape. Assumes nothing.
 use Prim.Native.Nat.{ℕ, _+_, _-_}
 use mathlib.Core.Bool.{Bool, true, false, _&&_, cond}
 use mathlib.Core.List.{List, [], _∷_, map}
@@ -140,7 +140,8 @@ picksOf picks = 0 ∷ 1 ∷ []
 
 -- "Ops 3, 4, 5 and 7 on a pointer to a node give two edges: counter = 1, with nothing split, then counter ≥ 2, with
 -- the head split off .. Every other statement gives one unguarded edge, except choose"; 02, job 3: "three edges: u's
--- counter = 1 and w's = 1; u's = 1 and w's ≥ 2; u's ≥ 2, which leaks"
+-- counter = 1 and w's = 1; u's = 1 and w's ≥ 2; u's ≥ 2, which leaks .. u's guard is the first and w's the second,
+-- absent on the third edge"
 abbrev pub waysOf : Kind → View → Heap → List Way
 waysOf k noNode h = map (λ p. whole [] p h) (picksOf k)
 waysOf k (oneNode n) h = whole (oneAt n ∷ []) 0 h ∷ split (moreAt n ∷ []) n h ∷ []

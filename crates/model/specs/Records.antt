@@ -1,5 +1,5 @@
--- 01, "Records": 32 bytes each. How locations and edges are written, and how statements, shapes, locations and edges
--- are read. Assumes nothing.
+-- 01, "Records", as 02 amends it: 32 bytes each. How locations and edges are written, and how statements, shapes,
+-- locations and edges are read. Assumes nothing.
 use Prim.Native.Nat.{ℕ, suc, _-_, _+_, _*_, _/_, _%_}
 use mathlib.Core.Bool.{Bool, true, false, _&&_, _||_, cond, not}
 use mathlib.Core.List.{List, [], _∷_, _++_, map}
