@@ -109,18 +109,18 @@ pub fn way_count(op: u8, v: Looked) -> u8
 }
 
 // Two guards: a test of 0 is no guard, and its node is then 0.
-fn guards_on(a: u8, n: u8, b: u8, m: u8) -> Guards
-    ensures { λ r. ⌜ (codeIn (r .first) ≡ record { test = a; node = n })
-        × (codeIn (r .second) ≡ record { test = b; node = m }) ⌝ }
+fn guards_on(a: u8, n: Node, b: u8, m: Node) -> Guards
+    ensures { λ r. ⌜ (codeIn (r .first) ≡ record { test = a; node = n .0 })
+        × (codeIn (r .second) ≡ record { test = b; node = m .0 }) ⌝ }
 {
     Guards {
         first: Guard {
             test: a,
-            node: Node(n),
+            node: n,
         },
         second: Guard {
             test: b,
-            node: Node(m),
+            node: m,
         },
     }
 }
@@ -135,26 +135,26 @@ fn single_way(v: u8, j: u8) -> Way
             split: j == 1,
             node: Node(v),
             pick: 0,
-            guards: guards_on(1 + j, v, 0, 0),
+            guards: guards_on(1 + j, Node(v), 0, Node(0)),
         };
     }
     Way {
         split: false,
         node: Node(0),
         pick: j,
-        guards: guards_on(0, 0, 0, 0),
+        guards: guards_on(0, Node(0), 0, Node(0)),
     }
 }
 
 // Way j through two nodes: nothing split; the second's head split off; the first's head split off, whatever the
 // counter of the second.
-fn double_way(n: u8, m: u8, j: u8) -> Way
-    ensures { λ r. ⌜ IsWay (twoNodes n m) j r ⌝ }
+fn double_way(n: Node, m: Node, j: u8) -> Way
+    ensures { λ r. ⌜ IsWay (twoNodes (n .0) (m .0)) j r ⌝ }
 {
     if j == 0 {
         return Way {
             split: false,
-            node: Node(n),
+            node: n,
             pick: 0,
             guards: guards_on(1, n, 1, m),
         };
@@ -162,16 +162,16 @@ fn double_way(n: u8, m: u8, j: u8) -> Way
     if j == 1 {
         return Way {
             split: true,
-            node: Node(m),
+            node: m,
             pick: 0,
             guards: guards_on(1, n, 2, m),
         };
     }
     Way {
         split: true,
-        node: Node(n),
+        node: n,
         pick: 0,
-        guards: guards_on(2, n, 0, 0),
+        guards: guards_on(2, n, 0, Node(0)),
     }
 }
 
@@ -181,7 +181,7 @@ pub fn way_at(v: Looked, j: u8) -> Way
     ensures { λ r. ⌜ IsWay (viewIn v) j r ⌝ }
 {
     if v.second < 0xfe {
-        return double_way(v.first, v.second, j);
+        return double_way(Node(v.first), Node(v.second), j);
     }
     single_way(v.first, j)
 }

@@ -9,13 +9,13 @@ returns : tie.Need-returns
 returns c =
     let a = c .before .before .args in
     let g = c .guards-on in
-    pair-way (a .n) (a .m) (g .result) (a .j) (c .before .if1 .taken) (g .ensures .0) (g .ensures .1)
+    pair-way (a .n .0) (a .m .0) (g .result) (a .j) (c .before .if1 .taken) (g .ensures .0) (g .ensures .1)
 
 returns-2 : tie.Need-returns-2
 returns-2 c =
     let a = c .before .before .before .args in
     let g = c .guards-on2 in
-    second-way (a .n) (a .m) (g .result) (a .j) (c .before .if2 .taken) (g .ensures .0) (g .ensures .1)
+    second-way (a .n .0) (a .m .0) (g .result) (a .j) (c .before .if2 .taken) (g .ensures .0) (g .ensures .1)
 
 returns-3 : tie.Need-returns-3
 returns-3 c =
@@ -23,7 +23,7 @@ returns-3 c =
     let g = c .guards-on3 in
     let n = c .before .before .if1 .left in
     let m = c .before .if2 .left in
-    first-way (a .n) (a .m) (g .result) (a .j) (omega arith) (g .ensures .0) (g .ensures .1)
+    first-way (a .n .0) (a .m .0) (g .result) (a .j) (omega arith) (g .ensures .0) (g .ensures .1)
 
 pub double-way-spec : {M : Type 1} → statement M
 double-way-spec =
