@@ -114,14 +114,8 @@ fn guards_on(a: u8, n: Node, b: u8, m: Node) -> Guards
         × (codeIn (r .second) ≡ record { test = b; node = m .0 }) ⌝ }
 {
     Guards {
-        first: Guard {
-            test: a,
-            node: n,
-        },
-        second: Guard {
-            test: b,
-            node: m,
-        },
+        first: Guard { test: a, node: n },
+        second: Guard { test: b, node: m },
     }
 }
 
