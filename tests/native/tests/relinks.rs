@@ -199,7 +199,6 @@ fn listings_agree_where_a_routine_relinks() {
     println!("inputs with a location of a relink: {inputs}");
     assert!(inputs >= 20_000, "only {inputs} inputs with a location of a relink");
     counts.at_least(100, &EVERY);
-    assert!(!counts.0.contains_key("3 goes"));
 }
 
 /// The relink on an image, by the sentence: w's next into u's cell.

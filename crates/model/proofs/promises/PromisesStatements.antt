@@ -12,7 +12,7 @@ use Rattle.model.specs.Machine.{Entry, Fault, Source, Stmt, atUndef, fau
 use Rattle.model.specs.Notions.{Canon, LooksBad, worth}
 use Rattle.model.specs.Shape.{counters, shape}
 use Rattle.model.proofs.expansion.Facts.{heap-closed, heap-kept}
-use Rattle.model.proofs.ways.RelinkEdges.{fault-edge, long-leaks, relink-faults, relink-goes, relink-leaks, relink-same, same-counters, same-edge, three-edges}
+use Rattle.model.proofs.ways.RelinkEdges.{fault-edge, long-leaks, relink-faults, relink-goes, relink-same, same-counters, same-edge, three-edges}
 use Rattle.model.proofs.ways.Tests.{faults-test, test-edge, test-false, test-faults, test-true}
 
 -- ==== tests: 02, job 2
@@ -79,8 +79,8 @@ pub relinks-go : RelinkGoes
 relinks-go st e h x u w c d o p q =
     let k = ap kind o in
     let cl = heap-closed h x in (
-      relink-goes st u w k e h cl c d p q,
-      relink-leaks st u w k e h cl c d p q,
+      relink-goes st u w k e h cl c d p q true,
+      relink-goes st u w k e h cl c d p q false,
       λ z. relink-same st u w k e h cl (x .isKept) c p (q ∙ ap cell (sym z)),
     )
 

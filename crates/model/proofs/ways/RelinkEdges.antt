@@ -1,7 +1,7 @@
 -- A relink, step by step and edge by edge: its faults, the cell that both pointers hold, and its three edges.
 use Prim.Native.Nat.{_≤_, ℕ}
 use mathlib.Core.Path.{_∙_, _≡_, ap, refl, sym}
-use mathlib.Core.Bool.{cond, false, true}
+use mathlib.Core.Bool.{Bool, cond, true}
 use mathlib.Core.List.{List, [], _∷_, _++_, map, map-map}
 use native.Mathlib.Omega.{arith}
 use lib.ListN.{getD, length}
@@ -51,14 +51,10 @@ module _ (st : Stmt) (u w : ℕ) (k : kind (st .op) ≡ acts (splice u w)) where
           ∙ ap (λ s. answerOf st 0 (keep (done (putSlot c s h)))) (ap (λ s. holds (held s)) (n .1) ∙ sym (n .1))
 
       -- the test for lost cells
-      pub relink-goes : kept (putSlot c (next h d) h) ≡ true → step st e h ≡ went 0 (st .firstTarget)
-          (putSlot c (next h d) h)
-      relink-goes t =
-          relink-done ∙ ap (λ b. answerOf st 0 (cond b (done (putSlot c (next h d) h)) (fault leak))) t
-
-      pub relink-leaks : kept (putSlot c (next h d) h) ≡ false → step st e h ≡ faulted leak
-      relink-leaks t =
-          relink-done ∙ ap (λ b. answerOf st 0 (cond b (done (putSlot c (next h d) h)) (fault leak))) t
+      pub relink-goes : (b : Bool) → kept (putSlot c (next h d) h) ≡ b
+          → step st e h ≡ answerOf st 0 (cond b (done (putSlot c (next h d) h)) (fault leak))
+      relink-goes b t =
+          relink-done ∙ ap (λ x. answerOf st 0 (cond x (done (putSlot c (next h d) h)) (fault leak))) t
 
     -- nothing changes where both hold one cell
     pub relink-same : ClosedHeap h → kept h ≡ true → (c : ℕ) → ptr h u ≡ cell c → ptr h w ≡ cell c

@@ -1,7 +1,7 @@
 -- `way::double_way` meets its contract: whole, then the second split, then the first.
 use native.Mathlib.Omega.{arith}
 use borrow.Author.Needs.{needs}
-use Rattle.way.proofs.Through.{first-way, pair-way, second-way}
+use Rattle.way.proofs.Numbered.{first-way, pair-way, second-way}
 use Rattle.way.proofs.double_way.Statement.{statement}
 use Rattle.way.proofs.double_way.Tie as tie
 

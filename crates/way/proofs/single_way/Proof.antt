@@ -1,7 +1,7 @@
 -- `way::single_way` meets its contract: through a node, whole and then split, with the guards = 1 and ≥ 2; else by
 -- pick j.
 use borrow.Author.Needs.{needs}
-use Rattle.way.proofs.Through.{node-way, plain-way}
+use Rattle.way.proofs.Numbered.{node-way, plain-way}
 use Rattle.way.proofs.single_way.Statement.{statement}
 use Rattle.way.proofs.single_way.Tie as tie
 

@@ -1,6 +1,6 @@
 -- `way::way_at` meets its contract: through two nodes, or through one value.
 use borrow.Author.Needs.{needs}
-use Rattle.way.proofs.Through.{way-first, way-second}
+use Rattle.way.proofs.Numbered.{way-first, way-second}
 use Rattle.way.proofs.way_at.Statement.{statement}
 use Rattle.way.proofs.way_at.Tie as tie
 
