@@ -65,20 +65,59 @@ impl Location {
 /// On the counter of a node.
 #[derive(Clone, Copy, PartialEq, Eq, Debug)]
 pub enum Guard {
-    Always,
     IsOne(usize),
     AtLeastTwo(usize),
+    /// What the layout of a record does not have. It never holds.
+    Damaged,
 }
 
 impl Guard {
+    /// Of a kind and a node as they stand in a record, on one of so many nodes.
+    fn read(kind: u8, node: u8, count: usize) -> Option<Guard> {
+        match (kind, node as usize) {
+            (0, 0) => None,
+            (1, node) if node < count => Some(Guard::IsOne(node)),
+            (2, node) if node < count => Some(Guard::AtLeastTwo(node)),
+            _ => Some(Guard::Damaged),
+        }
+    }
+
     pub fn holds(self, counters: &[u64]) -> bool {
         let counter = |node: usize| counters.get(node).copied().unwrap_or(0);
         match self {
-            Guard::Always => true,
             Guard::IsOne(node) => counter(node) == 1,
             Guard::AtLeastTwo(node) => counter(node) >= 2,
+            Guard::Damaged => false,
         }
     }
+}
+
+/// Byte 1 of an edge in its parts: the branch, and the kind and node of the second guard.
+#[derive(Clone, Copy, PartialEq, Eq, Debug)]
+pub struct ByteOne {
+    pub branch: u8,
+    pub kind: u8,
+    pub node: u8,
+    /// Bit 7, which no edge uses.
+    pub spare: bool,
+}
+
+impl ByteOne {
+    pub fn read(byte: u8) -> ByteOne {
+        ByteOne { branch: byte & 1, kind: byte >> 1 & 3, node: byte >> 3 & 15, spare: byte >> 7 == 1 }
+    }
+}
+
+/// The guards of an edge that leaves a shape with so many nodes, at most two. A second one needs a first.
+fn guards(record: &[u8], count: usize) -> Vec<Guard> {
+    let ByteOne { kind, node, spare, .. } = ByteOne::read(record[1]);
+    let first = Guard::read(record[6], record[7], count);
+    let second = match (first, Guard::read(kind, node, count)) {
+        (None, Some(_)) => Some(Guard::Damaged),
+        _ if spare => Some(Guard::Damaged),
+        (_, second) => second,
+    };
+    first.into_iter().chain(second).collect()
 }
 
 /// A new counter: a constant and the old counters that are added to it.
@@ -107,23 +146,24 @@ pub struct Edge {
     pub branch: u8,
     pub from: usize,
     pub to: usize,
-    pub guard: Guard,
+    /// At most two. The edge is enabled when all hold.
+    pub guards: Vec<Guard>,
     /// One for each node of the target.
     pub updates: Vec<Update>,
 }
 
 impl Edge {
-    /// How many updates it has, its target tells.
+    /// Which nodes its guards may be on, the location that it leaves tells; how many updates it has, its target.
     pub fn read(record: &[u8], locations: &[Location]) -> Edge {
         let pair = |at: usize| u16::from_le_bytes([record[at], record[at + 1]]);
-        let (to, node) = (pair(4) as usize, record[7] as usize);
-        let guard = match record[6] {
-            0 => Guard::Always,
-            1 => Guard::IsOne(node),
-            _ => Guard::AtLeastTwo(node),
-        };
+        let (from, to) = (pair(2) as usize, pair(4) as usize);
+        let guards = guards(record, locations.get(from).map_or(0, |location| location.shape.count));
         let updates = (0..locations[to].shape.count).map(|i| Update::read(pair(8 + 2 * i))).collect();
-        Edge { branch: record[1], from: pair(2) as usize, to, guard, updates }
+        Edge { branch: ByteOne::read(record[1]).branch, from, to, guards, updates }
+    }
+
+    pub fn enabled(&self, counters: &[u64]) -> bool {
+        self.guards.iter().all(|guard| guard.holds(counters))
     }
 }
 

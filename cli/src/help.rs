@@ -29,7 +29,8 @@ const TRANSLATE: &str = "\
 currantplane translate FILE [--hex | --dot | --svg OUT] [--locations N] [--edges N]
 
 Prints the automaton of a routine: each location with its statement and its shape, each edge with
-its condition and its updates, the faults, and totals.
+its condition and its updates, the faults, and totals. Where two guards are given, an edge is
+enabled when both hold.
 
   --hex            exactly what the program `translate` prints: a record a line, locations then
                    edges, or `refused NUMBER PLACE`. As the program does, it judges the first 4,096
@@ -47,8 +48,9 @@ currantplane show FILE location NUMBER
 currantplane show FILE edge NUMBER
 
 Prints one record of the automaton: in hex, as it stands in its table, and in words. A location is
-shown with the edges that leave it, an edge with the locations at its ends. Numbers are those of the
-listing, from 0; one that is not in use is refused (17), with the numbers that are.
+shown with the edges that leave it, an edge with the locations at its ends and, where it has a
+second guard, with the bits of byte 1. Numbers are those of the listing, from 0; one that is not in
+use is refused (17), with the numbers that are.
 ";
 
 const RUN: &str = "\

@@ -62,7 +62,7 @@ impl Configuration {
     /// Takes the enabled edge of this branch and gives its number; there must be exactly one.
     pub fn follow(&mut self, automaton: &Automaton, branch: u8) -> Result<usize, String> {
         let enabled: Vec<_> =
-            automaton.leaving(self.location).filter(|(_, e)| e.branch == branch && e.guard.holds(&self.counters)).collect();
+            automaton.leaving(self.location).filter(|(_, e)| e.branch == branch && e.enabled(&self.counters)).collect();
         let [(number, edge)] = enabled[..] else {
             return Err(format!("{} edges of branch {branch} are enabled at location {}", enabled.len(), self.location));
         };

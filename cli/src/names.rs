@@ -19,51 +19,84 @@ pub fn statement(s: &Statement) -> String {
         Op::TestEqual => format!("test p{u} = p{w}"),
         Op::Choose => "choose".into(),
         Op::Skip => "skip".into(),
+        Op::Relink => format!("p{u}.next := p{w}.next"),
     }
 }
 
-/// The pointers that a statement goes through or looks at, each once.
+/// The pointers that a statement goes through or looks at, each once and in this order.
 fn looked_at(s: &Statement) -> Vec<u8> {
     match s.op {
         Op::ReadNext => vec![s.w],
         Op::WriteNull | Op::WriteNext | Op::Free | Op::TestNull => vec![s.u],
-        Op::TestEqual if s.u == s.w => vec![s.u],
+        Op::TestEqual | Op::Relink if s.u == s.w => vec![s.u],
         Op::TestEqual => vec![s.u, s.w],
+        Op::Relink => vec![s.w, s.u],
         _ => Vec::new(),
     }
 }
 
-/// Those of them that hold what the fault is about.
+/// Those of them that hold what the fault is about. A relink goes no further than the first that leads to no cell.
 fn blamed(fault: u8, s: &Statement, pointers: &[u8; POINTERS]) -> Vec<u8> {
     let bad = if fault == 1 { NULL } else { UNDEFINED };
-    looked_at(s).into_iter().filter(|&p| pointers[p as usize] == bad).collect()
+    let mut met = looked_at(s);
+    if s.op == Op::Relink {
+        let first = met.iter().position(|&p| pointers[p as usize] >= NULL);
+        met.truncate(first.map_or(0, |at| at + 1));
+    }
+    met.into_iter().filter(|&p| pointers[p as usize] == bad).collect()
 }
 
-/// The pointers to blame, and whether these are several: those that are to blame however the fault is reached, or else one or
-/// another.
-fn culprits(fault: u8, s: &Statement, reached: &[[u8; POINTERS]]) -> (String, bool) {
-    let each: Vec<Vec<u8>> = reached.iter().map(|pointers| blamed(fault, s, pointers)).collect();
-    let named = |by: &dyn Fn(&u8) -> bool| looked_at(s).into_iter().filter(by).map(|p| format!("p{p}")).collect::<Vec<_>>();
-    let always = named(&|p| each.iter().all(|blamed| blamed.contains(p)));
-    let ever = named(&|p| each.iter().any(|blamed| blamed.contains(p)));
-    match (always.len(), ever.len()) {
-        // only where a heap does not match its location
-        (_, 0) => ("a pointer".into(), false),
-        (0, _) => (ever.join(" or "), false),
-        (n, _) => (always.join(" and "), n > 1),
+/// The pointers to blame: those that are to blame however the fault is reached, or else one or another.
+struct Culprits {
+    pointers: Vec<u8>,
+    always: bool,
+}
+
+impl Culprits {
+    fn of(fault: u8, s: &Statement, reached: &[[u8; POINTERS]]) -> Culprits {
+        let each: Vec<Vec<u8>> = reached.iter().map(|pointers| blamed(fault, s, pointers)).collect();
+        let named = |by: &dyn Fn(&u8) -> bool| looked_at(s).into_iter().filter(by).collect::<Vec<u8>>();
+        let always = named(&|p| each.iter().all(|blamed| blamed.contains(p)));
+        let ever = named(&|p| each.iter().any(|blamed| blamed.contains(p)));
+        match always.is_empty() || ever.is_empty() {
+            true => Culprits { pointers: ever, always: false },
+            false => Culprits { pointers: always, always: true },
+        }
+    }
+
+    fn names(&self) -> String {
+        let names: Vec<String> = self.pointers.iter().map(|p| format!("p{p}")).collect();
+        match (names.len(), self.always) {
+            // only where a heap does not match its location
+            (0, _) => "a pointer".into(),
+            (_, false) => names.join(" or "),
+            (_, true) => names.join(" and "),
+        }
+    }
+
+    /// Whether all of several are to blame.
+    fn several(&self) -> bool {
+        self.always && self.pointers.len() > 1
+    }
+
+    /// What the statement does to them.
+    fn done(&self, s: &Statement) -> &'static str {
+        match s.op {
+            Op::ReadNext => "reads through",
+            Op::Free => "frees",
+            Op::TestNull | Op::TestEqual => "looks at",
+            Op::Relink if self.pointers == [s.w] => "reads through",
+            Op::Relink if self.pointers != [s.u] => "goes through",
+            _ => "writes through",
+        }
     }
 }
 
 /// What went wrong at a statement that was reached with these pointers, in parts that a line may be broken between.
 pub fn fault(fault: u8, s: &Statement, reached: &[[u8; POINTERS]]) -> Vec<String> {
-    let done = match s.op {
-        Op::ReadNext => "reads through",
-        Op::Free => "frees",
-        Op::TestNull | Op::TestEqual => "looks at",
-        _ => "writes through",
-    };
-    let (who, several) = culprits(fault, s, reached);
-    match (fault, several) {
+    let culprits = Culprits::of(fault, s, reached);
+    let (done, who) = (culprits.done(s), culprits.names());
+    match (fault, culprits.several()) {
         (1, _) => vec![format!("{done} {who}, which is null")],
         (2, false) => vec![format!("{done} {who}, which is undefined:"), "its cell was freed, or it never had one".into()],
         (2, true) => {
@@ -75,10 +108,11 @@ pub fn fault(fault: u8, s: &Statement, reached: &[[u8; POINTERS]]) -> Vec<String
 
 /// The same in short, for one edge or one step: `p0 is null`
 pub fn cause(fault: u8, s: &Statement, pointers: &[u8; POINTERS]) -> String {
-    match (fault, culprits(fault, s, &[*pointers])) {
-        (1, (who, _)) => format!("{who} is null"),
-        (2, (who, false)) => format!("{who} is undefined"),
-        (2, (who, true)) => format!("{who} are undefined"),
+    let culprits = Culprits::of(fault, s, &[*pointers]);
+    match (fault, culprits.several()) {
+        (1, _) => format!("{} is null", culprits.names()),
+        (2, false) => format!("{} is undefined", culprits.names()),
+        (2, true) => format!("{} are undefined", culprits.names()),
         _ => fault_kind(fault).into(),
     }
 }
@@ -93,22 +127,32 @@ pub fn a_fault(fault: u8) -> &'static str {
     ["none", "a null pointer", "an undefined pointer", "a leak"][fault.min(3) as usize]
 }
 
-pub fn guard(guard: Guard) -> Option<String> {
+fn guard(guard: Guard) -> String {
     match guard {
-        Guard::Always => None,
-        Guard::IsOne(node) => Some(format!("if c{node} = 1")),
-        Guard::AtLeastTwo(node) => Some(format!("if c{node} >= 2")),
+        Guard::IsOne(node) => format!("c{node} = 1"),
+        Guard::AtLeastTwo(node) => format!("c{node} >= 2"),
+        Guard::Damaged => "never (damaged guard)".into(),
     }
 }
 
-/// When an edge to that location is taken: its guard, or its branch where the statement has two. A test that faults is neither
+/// `if c0 = 1 and c2 >= 2`; nothing where there is no guard.
+pub fn guards(guards: &[Guard]) -> String {
+    let each: Vec<String> = guards.iter().map(|&g| guard(g)).collect();
+    match each.len() {
+        0 => String::new(),
+        _ => format!("if {}", each.join(" and ")),
+    }
+}
+
+/// When an edge to that location is taken: its guards, or its branch where the statement has two. A test that faults is neither
 /// true nor false.
 pub fn condition(edge: &Edge, s: &Statement, to: &Location) -> String {
     match s.op {
+        _ if edge.guards.contains(&Guard::Damaged) => guard(Guard::Damaged),
         Op::Choose => format!("pick {}", edge.branch),
         Op::TestNull | Op::TestEqual if to.fault != 0 => String::new(),
         Op::TestNull | Op::TestEqual => if edge.branch == 0 { "true" } else { "false" }.into(),
-        _ => guard(edge.guard).unwrap_or_default(),
+        _ => guards(&edge.guards),
     }
 }
 

@@ -23,19 +23,21 @@ pub enum Op {
     TestEqual,
     Choose,
     Skip,
+    Relink,
 }
 
 use Op::*;
 
 impl Op {
-    pub const ALL: [Op; 12] = [Stop, SetNull, Copy, ReadNext, WriteNull, WriteNext, New, Free, TestNull, TestEqual, Choose, Skip];
+    pub const ALL: [Op; 13] =
+        [Stop, SetNull, Copy, ReadNext, WriteNull, WriteNext, New, Free, TestNull, TestEqual, Choose, Skip, Relink];
 
     pub fn uses_u(self) -> bool {
         !matches!(self, Stop | Choose | Skip)
     }
 
     pub fn uses_w(self) -> bool {
-        matches!(self, Copy | ReadNext | WriteNext | TestEqual)
+        matches!(self, Copy | ReadNext | WriteNext | TestEqual | Relink)
     }
 
     pub fn uses_first(self) -> bool {

@@ -17,7 +17,7 @@ const MEANINGS: [(&str, &str); 17] = [
         "a record is neither S nor H, or an S stands after an H",
         "put statements (byte 0 is 0x53) first and starting shapes (byte 0 is 0x48) after them",
     ),
-    ("the op of a statement is above 11", "use an op from 0 (stop) to 11 (skip)"),
+    ("the op of a statement is above 12", "use an op from 0 (stop) to 12 (u.next := w.next)"),
     (
         "a pointer that the statement uses is above 5, or a byte that it does not use is not zero",
         "use pointers 0 to 5, and set all other bytes to zero",

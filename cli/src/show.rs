@@ -1,9 +1,10 @@
 //! One record of an automaton, as the proved library hands it back out of the two tables: in hex and in words.
 
-use crate::automaton::{Edge, Location, Tables};
+use crate::automaton::{ByteOne, Edge, Location, Tables};
 use crate::listing::{idle_note, Listing};
 use crate::refusal;
 use crate::source::{Failure, REFUSED};
+use crate::style::{fill, with_commas};
 
 /// Which table is meant.
 #[derive(Clone, Copy, PartialEq, Eq, Debug)]
@@ -76,8 +77,31 @@ impl Show<'_> {
                 let edge = Edge::read(record, locations);
                 let ends = if edge.from == edge.to { vec![edge.from] } else { vec![edge.from, edge.to] };
                 let drawn = ends.iter().map(|&end| listing.location(end, &locations[end]));
-                listing.edge(number, &edge) + &drawn.collect::<String>()
+                byte_one(record[1]) + &listing.edge(number, &edge) + &drawn.collect::<String>()
             }
         }
     }
+}
+
+/// Byte 1 of an edge by its bits, where it holds more than the branch.
+fn byte_one(byte: u8) -> String {
+    let ByteOne { branch, kind, node, spare } = ByteOne::read(byte);
+    if byte == branch {
+        return String::new();
+    }
+    let second = match kind {
+        0 => "no second guard",
+        1 => "second guard = 1",
+        2 => "second guard >= 2",
+        _ => "second guard 3, which there is not",
+    };
+    let mut pieces = vec![
+        format!("0x{byte:02x}: branch {branch} (bit 0)"),
+        format!("{second} (bits 1 and 2)"),
+        format!("its node {node} (bits 3 to 6)"),
+    ];
+    if spare {
+        pieces.push("bit 7 is set".into());
+    }
+    fill(&format!("{:<15}", "byte 1"), 15, &with_commas(&pieces))
 }

@@ -3,9 +3,12 @@
 mod common;
 
 use common::{example, Draw, EXAMPLES};
-use tool::automaton::{check, tables, Places, ALL_PLACES};
+use tool::automaton::{check, tables, Automaton, Places, Tables, ALL_PLACES};
 use tool::commands::{perform, Screen};
-use tool::record::Routine;
+use tool::listing::Listing;
+use tool::record::{Routine, SIZE};
+use tool::run::{End, Options, Run};
+use tool::show::{Kind, Show};
 use tool::source::Source;
 use tool::style::Style;
 use tool::text::{assemble, disassemble};
@@ -105,6 +108,90 @@ fn damaged_records() {
         }
     }
     assert!(met[1..].iter().all(|&n| n > 10), "{met:?}");
+}
+
+/// What the tool says of the tables of unlink with one byte of an edge changed.
+struct Changed {
+    source: Source,
+    routine: Routine,
+    tables: Tables,
+}
+
+impl Changed {
+    fn new(edge: usize, bytes: &[(usize, u8)]) -> Changed {
+        let source = Source::of_bytes("unlink", example("unlink").into_bytes()).unwrap();
+        let (routine, mut tables) = (source.routine().unwrap(), tables(&source.records, ALL_PLACES).unwrap());
+        bytes.iter().for_each(|&(at, byte)| tables.edges[SIZE * edge + at] = byte);
+        Changed { source, routine, tables }
+    }
+
+    /// What `show` says of the edge, the listing, the graph, and how a run on three cells ends.
+    fn said(&self, edge: usize) -> (String, String, String, End) {
+        let Changed { source, routine, tables } = self;
+        let automaton = &Automaton::read(tables);
+        let listing = Listing { source, routine, automaton, style: Style::PLAIN };
+        let whole = listing.text();
+        let shown = Show { tables, listing }.record(Kind::Edge, edge).unwrap();
+        let options = Options { heap: vec![3], shape: 0, picks: Vec::new(), steps: 200 };
+        let ran = Run { source, routine, automaton, style: Style::PLAIN }.go(&options).unwrap();
+        (shown, whole, tool::graph::dot(source, routine, automaton), ran.end)
+    }
+}
+
+/// Whether an edge that leaves a shape with so many nodes has guards as the layout of its record allows them.
+fn right_guards(record: &[u8], count: u8) -> bool {
+    let right = |kind: u8, node: u8| (kind, node) == (0, 0) || matches!(kind, 1 | 2) && node < count;
+    let (kind, node) = (record[1] / 2 % 4, record[1] / 8 % 16);
+    record[1] < 0x80 && right(record[6], record[7]) && right(kind, node) && (kind == 0 || record[6] != 0)
+}
+
+/// Every value of bytes 1, 6 and 7 of each edge of a relink, and of two others: the tool answers, says which guards are damaged,
+/// and takes no such edge.
+#[test]
+fn damaged_guards() {
+    let (mut good, mut bad) = (0, 0);
+    for edge in [0, 2, 6, 7, 8] {
+        for (at, byte) in [1, 6, 7].into_iter().flat_map(|at| (0..=255).map(move |byte| (at, byte))) {
+            let changed = Changed::new(edge, &[(at, byte)]);
+            let record = &changed.tables.edges[SIZE * edge..][..SIZE];
+            let count = changed.tables.locations[SIZE * record[2] as usize + 3];
+            let right = right_guards(record, count);
+            let (shown, listing, graph, end) = changed.said(edge);
+            for (said, mark) in [(&shown, "  never (damaged guard)  to "), (&listing, " never (damaged guard) ")] {
+                assert_eq!(said.contains(mark), !right, "{said}");
+            }
+            assert_eq!(graph.contains(">never (damaged guard)<"), !right, "{graph}");
+            assert_eq!(shown.contains(&format!("\nbyte 1         0x{:02x}: branch ", record[1])), record[1] > 1, "{shown}");
+            assert!(shown.lines().chain(listing.lines()).all(|l| l.chars().count() <= 100), "{shown}{listing}");
+            // three cells pass edge 0, where the test is false, and edge 7
+            if !right && (edge == 0 || edge == 7) {
+                let (branch, location) = (u8::from(edge == 0), record[2]);
+                assert_eq!(end, End::Mismatch(format!("0 edges of branch {branch} are enabled at location {location}")));
+            }
+            good += usize::from(right);
+            bad += usize::from(!right);
+        }
+    }
+    assert!(good > 40 && bad > 3000, "{good} good, {bad} bad");
+}
+
+/// Byte 1 by its bits where it breaks the layout.
+#[test]
+fn damaged_bytes_in_words() {
+    let cases: [(&[(usize, u8)], &str); 6] = [
+        (&[(1, 0x8c)], "0x8c: branch 0 (bit 0), second guard >= 2 (bits 1 and 2), its node 1 (bits 3 to 6), bit 7 is set"),
+        (&[(1, 0x80)], "0x80: branch 0 (bit 0), no second guard (bits 1 and 2), its node 0 (bits 3 to 6), bit 7 is set"),
+        (&[(1, 0x0e)], "0x0e: branch 0 (bit 0), second guard 3, which there is not (bits 1 and 2), its node 1 (bits 3 to 6)"),
+        (&[(1, 0x08)], "0x08: branch 0 (bit 0), no second guard (bits 1 and 2), its node 1 (bits 3 to 6)"),
+        (&[(1, 0x13)], "0x13: branch 1 (bit 0), second guard = 1 (bits 1 and 2), its node 2 (bits 3 to 6)"),
+        (&[(6, 0), (7, 0)], "0x0c: branch 0 (bit 0), second guard >= 2 (bits 1 and 2), its node 1 (bits 3 to 6)"),
+    ];
+    for (bytes, expected) in cases {
+        let (shown, ..) = Changed::new(7, bytes).said(7);
+        let flat = shown.replace("\n               ", " ");
+        assert!(flat.contains(&format!("\nbyte 1         {expected}\nedge 7 ")), "{expected} is not in\n{shown}");
+        assert!(flat.contains("edge 7         from location 7  never (damaged guard)  to location 9: "), "{shown}");
+    }
 }
 
 #[test]

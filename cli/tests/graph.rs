@@ -92,6 +92,36 @@ fn the_box_of_a_test_that_faults() {
     assert_eq!(arrows, ["l0 -> l2 [label=\"\"]", "l1 -> l2 [label=\"\"]"]);
 }
 
+/// The arrows of a relink, with both guards, and the box of its fault.
+#[test]
+fn the_arrows_of_a_relink() {
+    let graph = |chains: &str| {
+        let body = format!("p0.next := p1.next\nstop\nshape\n{chains}\n");
+        text(&printed(&["translate", "-", "--dot"], body.as_bytes()))
+    };
+    let arrow = |to: usize, lines: &[&str]| {
+        let lines: Vec<String> = lines.iter().map(|l| l.to_string()).collect();
+        let table = format!("<<TABLE BORDER=\"0\" CELLPADDING=\"3\"><TR><TD>{}</TD></TR></TABLE>>", said(&lines));
+        format!("  l0 -> l{to} [label={}]\n", if lines.is_empty() { "\"\"".into() } else { table })
+    };
+    let two_nodes = arrow(1, &["if c0 = 1 and c1 = 1"])
+        + &arrow(2, &["if c0 = 1 and c1 >= 2", "c0' = c0", "c1' = c1 - 1", "c2' = 1"])
+        + &arrow(3, &["if c0 >= 2"]);
+    let shown = graph("p0 -> a -> b -> null\np1 -> b");
+    assert!(shown.ends_with(&format!("{two_nodes}}}\n")), "{shown}");
+    assert!(shown.contains("  l0 [label=<<B>location 0, start</B><BR ALIGN=\"LEFT\"/>0: p0.next := p1.next<BR "), "{shown}");
+    for (chains, words) in [
+        ("p0 -> undefined", Some("reads through p1, which is null")),
+        ("p1 -> a", Some("writes through p0, which is null")),
+        ("p0, p1 -> a", None),
+    ] {
+        let shown = graph(chains);
+        assert!(shown.ends_with(&format!("{}}}\n", arrow(1, &[]))), "{shown}");
+        let lines = words.map_or(Vec::new(), |w| vec!["0: p0.next := p1.next".to_string(), w.into()]);
+        assert!(shown.contains(&said(&lines)), "{lines:?} is not in {shown}");
+    }
+}
+
 #[test]
 fn without_graphviz_nothing_is_written() {
     let file = folder("no-graphviz").join("picture.svg");

@@ -27,11 +27,18 @@ fn changed(record: usize, byte: usize, to: u8) -> Vec<u8> {
     records
 }
 
+/// The same, where statement 0 is a relink.
+fn relinked(byte: usize, to: u8) -> Vec<u8> {
+    let mut records = changed(0, 1, 12);
+    records[byte] = to;
+    records
+}
+
 #[test]
 fn records_that_are_refused() {
     let whole = assemble(SMALL).unwrap().records;
     let many = |statements: usize, shapes: usize| [whole[..32].repeat(statements), whole[96..128].repeat(shapes)].concat();
-    let cases: [(Vec<u8>, u8, &str); 22] = [
+    let cases: [(Vec<u8>, u8, &str); 26] = [
         (Vec::new(), 1, "here:    it has 0 bytes"),
         (whole[..95].to_vec(), 1, "here:    it has 95 bytes"),
         (many(65, 1), 2, "here:    there are 65"),
@@ -41,9 +48,13 @@ fn records_that_are_refused() {
         (changed(1, 0, 0x54), 4, "at record 1\n  record:  540a0000"),
         (changed(1, 0, 0x54), 4, "here:    byte 0 is 0x54"),
         (changed(4, 0, 0x53), 4, "here:    an S record stands after an H record"),
-        (changed(1, 1, 12), 5, "at record 1, which is statement 1\n"),
-        (changed(1, 1, 12), 5, "here:    the op is 12"),
+        (changed(1, 1, 13), 5, "at record 1, which is statement 1\n"),
+        (changed(1, 1, 13), 5, "here:    the op is 13"),
+        (changed(1, 1, 13), 5, "meaning: the op of a statement is above 12\n"),
+        (changed(1, 1, 13), 5, "change:  use an op from 0 (stop) to 12 (u.next := w.next)\n"),
         (changed(0, 3, 6), 6, "here:    pointer w (byte 3) is 6"),
+        (relinked(3, 6), 6, "here:    pointer w (byte 3) is 6"),
+        (changed(1, 1, 12), 6, "here:    op 12 does not use byte 5, and it is 2"),
         (changed(2, 4, 1), 6, "here:    op 0 does not use byte 4, and it is 1"),
         (changed(1, 5, 3), 7, "here:    the second target (byte 5) is 3, and the statements are 0 to 2"),
         (changed(3, 1, 1), 8, "at record 3, which is starting shape 0\n"),

@@ -32,7 +32,7 @@ fn options(d: &mut Draw, routine: &Routine, most: usize) -> Options {
 #[test]
 fn random_runs_match() {
     let mut d = Draw::new(3);
-    let (mut runs, mut steps, mut faults, mut stops) = (0, 0, [0; 4], 0);
+    let (mut runs, mut steps, mut faults, mut stops, mut two_guards) = (0, 0, [0; 4], 0, 0);
     for round in 0..1500 {
         let source = Source::of_bytes("a", d.routine(if round % 4 == 0 { 40 } else { 9 })).unwrap();
         let Ok(automaton) = source.automaton(ALL_PLACES) else { continue };
@@ -48,6 +48,7 @@ fn random_runs_match() {
             assert_eq!(told, faulted, "{}", ran.text);
             runs += 1;
             steps += ran.steps;
+            two_guards += ran.text.lines().filter(|l| l.starts_with("  edge ") && l.contains(" and c")).count();
             match ran.end {
                 End::Fault(fault) => faults[fault as usize] += 1,
                 End::Stop => stops += 1,
@@ -57,9 +58,11 @@ fn random_runs_match() {
     }
     assert!(runs > 5000 && steps > 20_000 && stops > 100, "{runs} runs, {steps} steps, {stops} stops");
     assert!(faults[1..].iter().all(|&n| n > 50), "{faults:?}");
+    assert!(two_guards > 100, "{two_guards} edges with two guards taken");
 }
 
-/// The examples that are right never fault, from any starting shape; the three that are wrong always do.
+/// The examples that are right never fault, from any starting shape; those that are wrong always do, the one that unlinks from
+/// three cells on.
 #[test]
 fn examples_do_what_they_say() {
     let mut d = Draw::new(4);
@@ -70,6 +73,7 @@ fn examples_do_what_they_say() {
             let ran = go(&source, &routine, &automaton, &options);
             let expected = match name {
                 "leak" => vec![End::Fault(3)],
+                "unlink-leak" if options.heap[0] >= 3 => vec![End::Fault(3)],
                 "freed" | "compared" => vec![End::Fault(2)],
                 "ring" => vec![End::Stop, End::NoPick, End::NoMoreSteps],
                 _ => vec![End::Stop],
@@ -85,6 +89,7 @@ fn what_mends_the_examples() {
     let mut d = Draw::new(10);
     for (name, wrong, right) in [
         ("leak", &["        p1 := null\n"][..], &["        free p1\n        p1 := null\n"][..]),
+        ("unlink-leak", &["        p1 := p1.next               # one too far\n"], &[""]),
         ("freed", &["p0 := p0.next goto loop"], &["p0 := p1 goto loop"]),
         (
             "compared",
@@ -104,6 +109,34 @@ fn what_mends_the_examples() {
             let ran = go(&source, &routine, &automaton, &Options { steps: 1000, ..options(&mut d, &routine, most) });
             assert_eq!(ran.end, End::Stop, "{name}: {}", ran.text);
         }
+    }
+}
+
+/// On every list of up to 239 cells, and on none: one cell less where there is a second, and never a fault.
+#[test]
+fn unlink_takes_the_second_cell() {
+    let (source, routine, automaton) = open("unlink");
+    for cells in 1..240 {
+        let ran = go(&source, &routine, &automaton, &Options { heap: vec![cells], shape: 0, picks: Vec::new(), steps: 200 });
+        let left = format!("\n  match      location 6 at statement 6 (done), c0 = {}\n\n", (cells - 1).max(1));
+        assert!(ran.end == End::Stop && ran.text.contains(&left), "{}", ran.text);
+        let edge = ["if c0 = 1 and c1 = 1: counters kept\n", "if c0 = 1 and c1 >= 2: c0' = c0, c1' = c1 - 1, c2' = 1\n"];
+        assert!(cells == 1 || ran.text.contains(edge[usize::from(cells > 2)]), "{}", ran.text);
+    }
+    let none = go(&source, &routine, &automaton, &Options { heap: Vec::new(), shape: 1, picks: Vec::new(), steps: 200 });
+    assert_eq!((none.end, none.steps), (End::Stop, 1));
+}
+
+/// Where the wrong example leaks: never past the relink, and there by the edge for two or more cells.
+#[test]
+fn unlink_leak_loses_the_cell_between() {
+    let (source, routine, automaton) = open("unlink-leak");
+    for cells in 1..240 {
+        let ran = go(&source, &routine, &automaton, &Options { heap: vec![cells], shape: 0, picks: Vec::new(), steps: 200 });
+        let lost =
+            "\nstep 6       statement 5: p0.next := p1.next\n  edge 11    if c0 >= 2\n  routine    FAULT 3 at statement 5: leak;";
+        assert_eq!((ran.end == End::Fault(3), ran.text.contains(lost)), (cells > 2, cells > 2), "{}", ran.text);
+        assert!(ran.text.contains("c0 = 2, c1 = ") == (cells > 2) && !ran.text.contains(": free p1"), "{}", ran.text);
     }
 }
 
@@ -149,8 +182,9 @@ fn a_changed_automaton_is_told() {
         told(&|a| a.locations[to].statement = (a.locations[to].statement + 1) % 8, "statement");
         told(&|a| a.locations[to].shape.pointers[5] = 0xff, "shape");
     }
-    told(&|a| a.edges[5].guard = Guard::IsOne(0), "guard");
-    told(&|a| a.edges[8].guard = Guard::AtLeastTwo(1), "guard");
+    told(&|a| a.edges[5].guards = vec![Guard::IsOne(0)], "guard");
+    told(&|a| a.edges[8].guards = vec![Guard::AtLeastTwo(1)], "guard");
+    told(&|a| a.edges[5].guards.push(Guard::IsOne(0)), "a second guard");
     told(&|a| a.locations[0].shape.pointers[4] = 0xff, "start");
     let added = |a: &mut Automaton, from: usize| a.edges.push(tool::automaton::Edge { from, ..a.edges[0].clone() });
     told(&|a| added(a, 12), "an edge more, from the stop");
@@ -255,7 +289,155 @@ fn the_routine_speaks_for_itself() {
 fn guards_hold_of_their_own_counter() {
     for (counters, one, more) in [([0, 5], false, false), ([1, 5], true, false), ([2, 0], false, true), ([40, 1], false, true)] {
         assert_eq!((Guard::IsOne(0).holds(&counters), Guard::AtLeastTwo(0).holds(&counters)), (one, more));
-        assert!(Guard::Always.holds(&counters));
+        assert!(!Guard::Damaged.holds(&counters));
+    }
+}
+
+/// An edge is enabled when each of its guards holds, and where it has none.
+#[test]
+fn both_guards_must_hold() {
+    let (_, _, automaton) = open("unlink");
+    let edge = |guards: &[Guard]| tool::automaton::Edge { guards: guards.to_vec(), ..automaton.edges[0].clone() };
+    for counters in [[1, 1], [1, 2], [2, 1], [3, 7]] {
+        assert!(edge(&[]).enabled(&counters));
+        for first in [Guard::IsOne(0), Guard::AtLeastTwo(0)] {
+            assert_eq!(edge(&[first]).enabled(&counters), first.holds(&counters));
+            assert!(!edge(&[first, Guard::Damaged]).enabled(&counters));
+            for second in [Guard::IsOne(1), Guard::AtLeastTwo(1)] {
+                assert_eq!(edge(&[first, second]).enabled(&counters), first.holds(&counters) && second.holds(&counters));
+            }
+        }
+    }
+}
+
+/// A second guard that is left out, turned round or put on the other node, where the run passes it.
+#[test]
+fn a_changed_second_guard_is_told() {
+    let (source, routine, whole) = open("unlink");
+    let told = |cells: u32, change: &dyn Fn(&mut Automaton)| {
+        let mut changed = whole.clone();
+        change(&mut changed);
+        let ran = go(&source, &routine, &changed, &Options { heap: vec![cells], shape: 0, picks: Vec::new(), steps: 200 });
+        matches!(ran.end, End::Mismatch(_))
+    };
+    assert_eq!(whole.edges[6].guards, [Guard::IsOne(0), Guard::IsOne(1)]);
+    assert_eq!(whole.edges[7].guards, [Guard::IsOne(0), Guard::AtLeastTwo(1)]);
+    assert_eq!(whole.edges[8].guards, [Guard::AtLeastTwo(0)]);
+    // without its second guard an edge is enabled beside the other one
+    for (edge, cells) in [(6, 3), (7, 2)] {
+        assert!(told(cells, &|a| a.edges[edge].guards.truncate(1)) && !told(5 - cells, &|a| a.edges[edge].guards.truncate(1)));
+    }
+    for cells in [2, 3] {
+        assert!(!told(cells, &|_| {}));
+        assert!(told(cells, &|a| a.edges[6].guards[1] = Guard::AtLeastTwo(1)));
+        assert!(told(cells, &|a| a.edges[7].guards[1] = Guard::IsOne(1)));
+        assert!(told(cells, &|a| a.edges[8].guards = vec![Guard::IsOne(0)]));
+    }
+    assert!(told(3, &|a| a.edges[6].guards[1] = Guard::IsOne(0)));
+    assert!(told(3, &|a| a.edges[7].guards[1] = Guard::AtLeastTwo(0)));
+}
+
+/// A relink from each of these shapes.
+const RELINKED: &str = "\
+p0.next := p1.next
+stop
+shape                       # 0: p1's cells follow those of p0
+p0 -> a -> b -> null
+p1 -> b
+shape                       # 1: the same cell
+p0, p1 -> a -> null
+shape                       # 2: p1 null, p0 undefined
+p0 -> undefined
+shape                       # 3: p1 undefined, p0 null
+p1 -> undefined
+shape                       # 4: p0 null
+p1 -> a -> null
+shape                       # 5: p0 undefined
+p0 -> undefined
+p1 -> a -> null
+shape                       # 6: both null
+shape                       # 7: both undefined
+p0, p1 -> undefined
+shape                       # 8: a ring that nothing but p0 reaches
+p0 -> a -> c -> c
+p1 -> b
+";
+
+/// The first step of a run from one of them, and how the run ends.
+fn relinked(shape: usize, heap: &[u32]) -> (String, End) {
+    let source = Source::of_bytes("a", RELINKED.into()).unwrap();
+    let (routine, automaton) = (source.routine().unwrap(), source.automaton(ALL_PLACES).unwrap());
+    let ran = go(&source, &routine, &automaton, &Options { heap: heap.to_vec(), shape, picks: Vec::new(), steps: 200 });
+    assert!(ran.matched && ran.steps == 1, "{}", ran.text);
+    let step = ran.text.split("\nstep 1       statement 0: p0.next := p1.next\n").nth(1).expect("a step");
+    (step.split("\n\n").next().unwrap().to_string(), ran.end)
+}
+
+#[test]
+fn relinks_that_lose_nothing() {
+    let cases: [(usize, &[u32], &str); 4] = [
+        (
+            0,
+            &[1, 1],
+            "  edge 0     if c0 = 1 and c1 = 1: counters kept
+  heap       p0 -> 0 -> null
+             p1 -> 1 -> null
+  match      location 9 at statement 1, c0 = 1, c1 = 1",
+        ),
+        (
+            0,
+            &[1, 3],
+            "  edge 1     if c0 = 1 and c1 >= 2: c0' = c0, c1' = c1 - 1, c2' = 1
+  heap       p0 -> 0 -> 2 -> 3 -> null
+             p1 -> 1 -> 2
+  match      location 10 at statement 1, c0 = 1, c1 = 2, c2 = 1",
+        ),
+        (
+            1,
+            &[1],
+            "  edge 3     counters kept
+  heap       p0, p1 -> 0 -> null
+  match      location 12 at statement 1, c0 = 1",
+        ),
+        (
+            1,
+            &[4],
+            "  edge 3     counters kept
+  heap       p0, p1 -> 0 -> 1 -> 2 -> 3 -> null
+  match      location 12 at statement 1, c0 = 4",
+        ),
+    ];
+    for (shape, heap, expected) in cases {
+        assert_eq!(relinked(shape, heap), (expected.into(), End::Stop), "shape {shape}, heap {heap:?}");
+    }
+}
+
+/// The routine's side and the automaton's blame the same pointer: p1 where it leads to no cell, whatever p0 holds, else p0.
+#[test]
+fn relinks_that_fault() {
+    let none: &[u32] = &[];
+    let lost = "a cell is lost (leak):\n                 no pointer reaches it any more";
+    let freed = "which is undefined:\n                 its cell was freed, or it never had one";
+    let cases = [
+        (0, &[2, 1][..], "if c0 >= 2", 3, "leak", lost.to_string()),
+        (0, &[3, 5], "if c0 >= 2", 3, "leak", lost.into()),
+        (8, &[1, 1, 1], "if c0 = 1 and c2 = 1", 3, "leak", lost.into()),
+        (8, &[1, 4, 2], "if c0 = 1 and c2 >= 2", 3, "leak", lost.into()),
+        (2, none, "", 1, "p1 is null", "reads through p1, which is null".into()),
+        (3, none, "", 2, "p1 is undefined", format!("reads through p1, {freed}")),
+        (4, &[2], "", 1, "p0 is null", "writes through p0, which is null".into()),
+        (5, &[2], "", 2, "p0 is undefined", format!("writes through p0, {freed}")),
+        (6, none, "", 1, "p1 is null", "reads through p1, which is null".into()),
+        (7, none, "", 2, "p1 is undefined", format!("reads through p1, {freed}")),
+    ];
+    for (shape, heap, condition, fault, cause, words) in cases {
+        let (step, end) = relinked(shape, heap);
+        assert_eq!(end, End::Fault(fault), "{step}");
+        let edge = step.lines().next().unwrap();
+        assert_eq!(edge.get(13..).unwrap_or(""), condition, "{step}");
+        let side = format!("\n  routine    FAULT {fault} at statement 0: {cause}; branch 0, the heap stays\n");
+        assert!(step.contains(&side), "{side} is not in\n{step}");
+        assert!(step.ends_with(&format!(": FAULT {fault} at statement 0, {words}")), "{words} is not in\n{step}");
     }
 }
 
@@ -264,8 +446,8 @@ fn guards_hold_of_their_own_counter() {
 fn a_guard_on_the_sum_is_told() {
     let (source, routine, mut automaton) = open("two-lists");
     // 41 cells in all: by the sum, only the edge for two or more is open
-    automaton.edges.retain(|e| e.from != 4 || e.guard != Guard::IsOne(0));
-    automaton.edges.iter_mut().filter(|e| e.from == 4).for_each(|e| e.guard = Guard::AtLeastTwo(1));
+    automaton.edges.retain(|e| e.from != 4 || e.guards != [Guard::IsOne(0)]);
+    automaton.edges.iter_mut().filter(|e| e.from == 4).for_each(|e| e.guards = vec![Guard::AtLeastTwo(1)]);
     let ran = go(&source, &routine, &automaton, &Options { heap: vec![1, 40], shape: 0, picks: Vec::new(), steps: 200 });
     assert!(matches!(ran.end, End::Mismatch(_)), "{}", ran.text);
     assert!(ran.text.contains("\n  MISMATCH   location 6 at statement 5, c0 = 1, c1 = 0, c2 = 40\n"), "{}", ran.text);
@@ -294,9 +476,13 @@ fn how_runs_end() {
         0,
         "4 steps and 4 edges, each pair matched. The run could go on",
     );
-    for (file, words) in [("leak", "fault 3, a leak"), ("freed", "fault 2, an undefined pointer")] {
+    for (file, cells, words) in [
+        ("leak", "2", "fault 3, a leak"),
+        ("unlink-leak", "3", "fault 3, a leak"),
+        ("freed", "2", "fault 2, an undefined pointer"),
+    ] {
         let expected = format!("The run ends with {words}, and no edge leaves the location.");
-        ends(&["run", &format!("examples/{file}.txt"), "--heap", "2"], 0, &expected);
+        ends(&["run", &format!("examples/{file}.txt"), "--heap", cells], 0, &expected);
     }
     let null = go_text("p1 := p0.next\nstop\nshape\n");
     assert!(null.contains("The run ends with fault 1, a null pointer, and no edge leaves the location."), "{null}");

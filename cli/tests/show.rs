@@ -14,7 +14,7 @@ use tool::style::Style;
 /// Every location and every edge of the examples: the record is that of the table, and its words are the listing's.
 #[test]
 fn every_record_of_the_examples() {
-    let mut edges = 0;
+    let (mut edges, mut two_guards) = (0, 0);
     for name in EXAMPLES {
         let source = Source::of_bytes(name, example(name).into_bytes()).unwrap();
         let (tables, routine) = (tables(&source.records, ALL_PLACES).unwrap(), source.routine().unwrap());
@@ -29,8 +29,12 @@ fn every_record_of_the_examples() {
         }
         for (number, record) in tables.edges.chunks(SIZE).enumerate() {
             let shown = show.record(Kind::Edge, number).unwrap();
-            let (head, words) = shown.split_once(&format!("{}\n", hex(record))).expect("the record in hex");
+            let (head, mut words) = shown.split_once(&format!("{}\n", hex(record))).expect("the record in hex");
             assert!(head.starts_with(&format!("{name}: edge {number}; the edges are 0 to ")), "{head}");
+            if let Some((bits, rest)) = words.strip_prefix("byte 1 ").and_then(|w| w.split_once('\n')) {
+                assert!(bits.contains(&format!(" 0x{:02x}: branch ", record[1])), "{bits}");
+                (words, two_guards) = (rest, two_guards + 1);
+            }
             let from = automaton.edges[number].from;
             let start = format!("{:<15}from location {from}  ", format!("edge {number}"));
             let (line, ends) = words.split_once("\nlocation ").expect("the locations at its ends");
@@ -44,6 +48,7 @@ fn every_record_of_the_examples() {
         }
     }
     assert!(edges > 100, "only {edges} edges");
+    assert_eq!(two_guards, 4, "of the two examples that unlink");
 }
 
 #[test]
@@ -72,6 +77,59 @@ fn an_edge_to_a_fault() {
     assert!(said("1").ends_with(end), "{}", said("1"));
     let location = text(&printed(&["show", "-", "location", "0"], body));
     assert!(location.ends_with("\n  edge 0       to location 2, FAULT 2: p1 is undefined\n"), "{location}");
+}
+
+/// The edges of a relink: both guards in hex, by the bits of byte 1 and in words. An edge with one guard has no line for byte 1.
+#[test]
+fn an_edge_with_two_guards() {
+    let body = b"p0.next := p1.next\nstop\nshape\np0 -> a -> c -> null\np2 -> b -> c\np1 -> c\n";
+    let said = |number: &str| text(&printed(&["show", "-", "edge", number], body));
+    let zeros = |n: usize| "0".repeat(n);
+    // c1 is p1's, since nodes are numbered from p0 along successors
+    let first = format!(
+        "record         450a000001000100{}{}
+byte 1         0x0a: branch 0 (bit 0), second guard = 1 (bits 1 and 2), its node 1 (bits 3 to 6)
+edge 0         from location 0  if c0 = 1 and c1 = 1  to location 1: counters kept
+location 0     start, statement 0: p0.next := p1.next\n",
+        "011002100410",
+        zeros(36)
+    );
+    assert!(said("0").contains(&first), "{}", said("0"));
+    let second = format!(
+        "record         450c000002000100{}{}
+byte 1         0x0c: branch 0 (bit 0), second guard >= 2 (bits 1 and 2), its node 1 (bits 3 to 6)
+edge 1         from location 0  if c0 = 1 and c1 >= 2  to location 2: ",
+        "0110020000200410",
+        zeros(32)
+    );
+    assert!(said("1").contains(&second), "{}", said("1"));
+    let third = format!(
+        "record         4500000003000200{}
+edge 2         from location 0  if c0 >= 2  to location 3, FAULT 3: leak\nlocation 0     start, ",
+        zeros(48)
+    );
+    assert!(said("2").contains(&third), "{}", said("2"));
+    assert!(said("1").lines().all(|l| l.chars().count() <= 100), "{}", said("1"));
+}
+
+/// Ten nodes, the second guard on the last: its number takes all of its four bits.
+#[test]
+fn a_second_guard_on_node_9() {
+    let body = b"p4.next := p5.next\nstop\nshape\np0 -> a -> j -> k -> l -> m -> null
+p1 -> b -> j\np2 -> c -> k\np3 -> d -> l\np4 -> e -> m\np5 -> f -> null\n";
+    let said = |number: &str| text(&printed(&["show", "-", "edge", number], body));
+    // m is no longer core, so its counter is added to that of l
+    let updates = "0110021004101810201040108010 00110012".replace(' ', "");
+    let first = format!(
+        "record         454a000001000108{updates}{}
+byte 1         0x4a: branch 0 (bit 0), second guard = 1 (bits 1 and 2), its node 9 (bits 3 to 6)
+edge 0         from location 0  if c8 = 1 and c9 = 1  to location 1: c0' = c0, ",
+        "0".repeat(48 - updates.len())
+    );
+    assert!(said("0").contains(&first), "{}", said("0"));
+    let bits = "\nbyte 1         0x4c: branch 0 (bit 0), second guard >= 2 (bits 1 and 2), its node 9 (bits 3 to 6)\n";
+    assert!(said("1").contains("record         454c000002000108") && said("1").contains(bits), "{}", said("1"));
+    assert!(said("2").contains("record         4500000003000208"), "{}", said("2"));
 }
 
 /// A number that is not in use is refused by the library, and explained with those that are.

@@ -60,6 +60,33 @@ fn errors_in_statements() {
 }
 
 #[test]
+fn errors_in_relinks() {
+    let once = "found `.`, expected at most one `.next` on a side of `:=`";
+    let cases = [
+        ("p0.next := p1.next.next\nshape\n", format!("f:1:19: {once}")),
+        ("p0.next.next := p1.next\nshape\n", format!("f:1:8: {once}")),
+        ("p0.next.next := p1\nshape\n", format!("f:1:8: {once}")),
+        ("p0 := p1.next.next\nshape\n", format!("f:1:14: {once}")),
+        ("p0.next := p1 p2\nshape\n", "f:1:15: found `p2`, expected `.next`, `goto` or the end of the line".into()),
+        ("p0.next := p1.nxt\nshape\n", "f:1:15: found `nxt`, expected `next`".into()),
+        ("p0.next := p1.\nshape\n", "f:1:15: found the end of the line, expected `next`".into()),
+        ("p0.next := p6.next\nshape\n", "f:1:12: found `p6`, expected `null` or a pointer, p0 to p5".into()),
+        ("p0.next := next\nshape\n", "f:1:12: found `next`, expected `null` or a pointer, p0 to p5".into()),
+        ("p0.next := null.next\nshape\n", "f:1:16: found `.`, expected `goto` or the end of the line".into()),
+        ("p0.next = p1.next\nshape\n", "f:1:9: found `=`, expected `:=`".into()),
+        ("p0.next := p1.next p2\nshape\n", "f:1:20: found `p2`, expected `goto` or the end of the line".into()),
+        ("a: p0.next := p1.next else a\nshape\n", "f:1:23: found `else`, expected `goto` or the end of the line".into()),
+        (
+            "p0.next := p1.next # last\nshape\n",
+            "f:1:19: found the end of the line, expected `goto` and a label, since no statement follows".into(),
+        ),
+    ];
+    for (body, expected) in cases {
+        assert_eq!(message(body), expected, "{body}");
+    }
+}
+
+#[test]
 fn errors_in_shapes() {
     let cases = [
         ("p0\n", "f:3:3: found the end of the line, expected `->` or `,`"),
@@ -158,6 +185,22 @@ fn records_come_back() {
         let made = assemble(&body).unwrap_or_else(|e| panic!("{}", e.show("text", &body)));
         assert_eq!(made.records, records, "{body}");
         assert_eq!(disassemble(&Routine::read(&made.records)), body);
+    }
+}
+
+#[test]
+fn a_relink_both_ways() {
+    for (u, w) in (0..6u8).flat_map(|u| (0..6u8).map(move |w| (u, w))) {
+        let body = format!("      skip\nL1:   p{u}.next := p{w}.next goto L1\n\nshape\n");
+        let made = assemble(&body).unwrap();
+        let mut expected = [0; 32];
+        expected[..5].copy_from_slice(&[0x53, 12, u, w, 1]);
+        assert_eq!(made.records[32..64], expected, "{body}");
+        assert_eq!(disassemble(&Routine::read(&made.records)), body);
+        for same in ["p{u} . next:=p{w}\t.next", "p{u}.next  :=  p{w}. next"] {
+            let spaced = same.replace("{u}", &u.to_string()).replace("{w}", &w.to_string());
+            assert_eq!(assemble(&format!("skip\na: {spaced} goto a\nshape\n")).unwrap().records, made.records, "{spaced}");
+        }
     }
 }
 

@@ -98,6 +98,12 @@ fn location_record(block: &[String]) -> [u8; 32] {
     record
 }
 
+/// The kind and the node of a guard in words.
+fn guard_bytes(guard: &str) -> (u8, u8) {
+    assert!(guard.ends_with(" = 1") || guard.ends_with(" >= 2"), "{guard}");
+    (if guard.ends_with(" = 1") { 1 } else { 2 }, number(guard))
+}
+
 /// The E record that a line of the listing tells of.
 fn edge_record(line: &str, from: usize, old: u8, new: u8) -> [u8; 32] {
     let (condition, rest) = line[15..].split_once("to location ").unwrap();
@@ -108,10 +114,10 @@ fn edge_record(line: &str, from: usize, old: u8, new: u8) -> [u8; 32] {
     record[2..4].copy_from_slice(&(from as u16).to_le_bytes());
     let to: u16 = rest.split(|c: char| !c.is_ascii_digit()).next().unwrap().parse().unwrap();
     record[4..6].copy_from_slice(&to.to_le_bytes());
-    if let Some(guard) = condition.strip_prefix("if ") {
-        record[6] = if guard.ends_with(" = 1") { 1 } else { 2 };
-        assert!(guard.ends_with(" = 1") || guard.ends_with(" >= 2"), "{line}");
-        record[7] = number(guard);
+    if let Some(guards) = condition.strip_prefix("if ") {
+        let each: Vec<(u8, u8)> = guards.split(" and ").map(guard_bytes).collect();
+        (record[6], record[7]) = each[0];
+        each[1..].iter().for_each(|(kind, node)| record[1] |= kind << 1 | node << 3);
     }
     if rest.contains("FAULT") {
         assert!(condition.is_empty() || condition.starts_with("if "), "{line}");
@@ -139,25 +145,34 @@ fn edge_record(line: &str, from: usize, old: u8, new: u8) -> [u8; 32] {
     record
 }
 
-/// The pointers that a location's statement goes through or looks at, by its words.
+/// The pointers that a location's statement goes through or looks at, by its words; a relink looks at the right one first.
 fn looked_at(block: &[String]) -> Vec<&str> {
     let words = || block[0].rsplit_once(": ").unwrap().1.split(' ');
-    let mut pointers = match words().find_map(|w| w.strip_suffix(".next")) {
-        Some(through) => vec![through],
-        None => words().filter(|w| w.starts_with('p')).collect(),
-    };
+    let mut pointers: Vec<&str> = words().rev().filter_map(|w| w.strip_suffix(".next")).collect();
+    if pointers.is_empty() {
+        pointers = words().filter(|w| w.starts_with('p')).collect();
+    }
     pointers.dedup();
     pointers
 }
 
+/// Those that hold the value of a fault. A relink goes no further than the first that leads to no cell.
+fn holding(block: &[String], value: u8) -> Vec<&str> {
+    let location = location_record(block);
+    let holds = |p: &&str| location[4 + number(p) as usize];
+    let looked = looked_at(block).into_iter();
+    match block[0].matches(".next").count() {
+        2 => looked.skip_while(|p| holds(p) < 0xfe).take(1).filter(|p| holds(p) == value).collect(),
+        _ => looked.filter(|p| holds(p) == value).collect(),
+    }
+}
+
 /// Where the edges of a block lead to fault 1 or 2, each with the pointers to blame, by the shape that is drawn; and that they say so.
 fn blamed(block: &[String]) -> Vec<(usize, Vec<&str>)> {
-    let location = location_record(block);
     let mut out = Vec::new();
     for (lead, said) in block.iter().filter_map(|line| line.split_once(", FAULT ")) {
         let fault = number(said);
-        let held = if fault == 1 { 0xfe } else { 0xff };
-        let who: Vec<&str> = looked_at(block).into_iter().filter(|p| location[4 + number(p) as usize] == held).collect();
+        let who = holding(block, if fault == 1 { 0xfe } else { 0xff });
         let what = match (fault, &who[..]) {
             (1, [one]) => format!("{one} is null"),
             (2, [one]) => format!("{one} is undefined"),
@@ -221,8 +236,8 @@ fn no_long_lines(shown: &str) {
 #[test]
 fn listings_tell_the_whole_tables() {
     let mut d = Draw::new(2);
-    let (mut seen, mut large, mut faults) = (0, 0, [0; 3]);
-    for round in 0..2400 {
+    let (mut seen, mut large, mut faults, mut two_guards) = (0, 0, [0; 3], 0);
+    for round in 0..4800 {
         let records = d.routine(if round % 2 == 0 { 64 } else { 9 });
         let source = Source::of_bytes("a", records).unwrap();
         if let Some((shown, tables)) = listing(&source) {
@@ -231,12 +246,14 @@ fn listings_tell_the_whole_tables() {
             assert!(locations == tables.locations && edges == tables.edges, "{shown}");
             let more = faults_name_their_pointers(&shown);
             faults = [0, 1, 2].map(|kind| faults[kind] + more[kind]);
+            two_guards += edges.chunks(32).filter(|record| record[1] > 1).count();
             seen += 1;
             large += usize::from(locations.len() > 200 * 32);
         }
     }
-    assert!(seen > 1000 && large > 30, "{seen} listings, {large} large ones");
+    assert!(seen > 2000 && large > 30, "{seen} listings, {large} large ones");
     assert!(faults.iter().all(|&n| n > 10), "{faults:?}");
+    assert!(two_guards > 1000, "{two_guards} edges with two guards");
 }
 
 #[test]
@@ -285,6 +302,46 @@ fn shelf_cases_in_words() {
     }
 }
 
+/// The edges of a relink: three where its pointers are at two nodes, with u's guard first, else one without a guard.
+#[test]
+fn the_edges_of_a_relink() {
+    let relink = "p0.next := p1.next";
+    let split = "if c0 = 1 and c1 = 1   to location 1: counters kept
+  edge 1       if c0 = 1 and c1 >= 2  to location 2: c0' = c0, c1' = c1 - 1, c2' = 1
+  edge 2       if c0 >= 2             to location 3, FAULT 3: leak";
+    let other_way = "if c1 = 1 and c0 = 1   to location 1: counters kept
+  edge 1       if c1 = 1 and c0 >= 2  to location 2: c0' = 1, c1' = c0 - 1, c2' = c1
+  edge 2       if c1 >= 2             to location 3, FAULT 3: leak";
+    let lost = "if c0 = 1 and c2 = 1   to location 1, FAULT 3: leak
+  edge 1       if c0 = 1 and c2 >= 2  to location 1, FAULT 3: leak
+  edge 2       if c0 >= 2             to location 1, FAULT 3: leak";
+    let cases = [
+        (relink, "p0 -> a -> b -> null\np1 -> b", split),
+        (relink, "p1 -> a -> b -> null\np0 -> b", split),
+        ("p1.next := p0.next", "p0 -> a\np1 -> b", other_way),
+        (relink, "p0 -> a -> c -> c\np1 -> b", lost),
+        (relink, "p0, p1 -> a -> null", "to location 1: counters kept"),
+        (relink, "p0, p1 -> a -> a", "to location 1: counters kept"),
+        ("p0.next := p0.next", "p0 -> a -> undefined", "to location 1: counters kept"),
+        (relink, "", "to location 1, FAULT 1: p1 is null"),
+        (relink, "p0 -> undefined", "to location 1, FAULT 1: p1 is null"),
+        (relink, "p1 -> undefined", "to location 1, FAULT 2: p1 is undefined"),
+        (relink, "p0, p1 -> undefined", "to location 1, FAULT 2: p1 is undefined"),
+        (relink, "p1 -> a", "to location 1, FAULT 1: p0 is null"),
+        (relink, "p0 -> undefined\np1 -> a", "to location 1, FAULT 2: p0 is undefined"),
+    ];
+    for (statement, chains, expected) in cases {
+        let body = format!("{statement}\nstop\nshape\n{chains}\n");
+        let (shown, _) = listing(&Source::of_bytes("a", body.into_bytes()).unwrap()).unwrap();
+        let first = shown.split("\n\n").nth(1).unwrap();
+        assert!(first.starts_with(&format!("location 0     start, statement 0: {statement}\n")), "{shown}");
+        assert_eq!(first.split_once("\n  edge 0       ").unwrap().1, expected, "{statement}: {chains}");
+        // a pointer that a relink names is drawn, also where it is null
+        let idle = if statement.contains("p1") { "p2, p3, p4, p5" } else { "p1, p2, p3, p4, p5" };
+        assert!(shown.contains(&format!("\nNot drawn: {idle}, which are null throughout.\n")), "{shown}");
+    }
+}
+
 #[test]
 fn faults_in_words() {
     let cases = [
@@ -305,22 +362,59 @@ fn faults_in_words() {
         ),
     ];
     for (statement, chains, expected) in cases {
-        let body = format!("{statement}\nstop\nshape\n{chains}\n");
-        let (shown, _) = listing(&Source::of_bytes("a", body.into_bytes()).unwrap()).unwrap();
-        assert!(
-            shown.contains(&format!("at statement 0: {statement}\n               {expected}\n")),
-            "{expected} is not in\n{shown}"
-        );
-        assert!(shown.contains("(1 start, 0 stops, 1 fault), 1 edge\nLocations with a fault: 1\n"), "{shown}");
-        let fault = number(shown.split_once(", FAULT ").unwrap().1);
-        let kind = ["null pointer", "undefined pointer", "leak"][fault as usize - 1];
-        assert!(shown.contains(&format!("\n    FAULT {fault}, {kind}: 1\n")), "{shown}");
+        a_fault_is_told(statement, chains, expected);
     }
     let (shown, _) = listing(&of_text("two-lists")).unwrap();
     assert!(
         shown.ends_with("\nNo location has a fault: no run from the starting shapes faults, however long the lists are.\n"),
         "{shown}"
     );
+}
+
+/// The first statement faults from this shape, and the fault's words are these.
+fn a_fault_is_told(statement: &str, chains: &str, expected: &str) {
+    let body = format!("{statement}\nstop\nshape\n{chains}\n");
+    let (shown, _) = listing(&Source::of_bytes("a", body.into_bytes()).unwrap()).unwrap();
+    assert!(
+        shown.contains(&format!("at statement 0: {statement}\n               {expected}\n")),
+        "{expected} is not in\n{shown}"
+    );
+    assert!(shown.contains("(1 start, 0 stops, 1 fault), 1 edge\nLocations with a fault: 1\n"), "{shown}");
+    let fault = number(shown.split_once(", FAULT ").unwrap().1);
+    let kind = ["null pointer", "undefined pointer", "leak"][fault as usize - 1];
+    assert!(shown.contains(&format!("\n    FAULT {fault}, {kind}: 1\n")), "{shown}");
+}
+
+/// A relink reads through w first and then writes through u.
+#[test]
+fn faults_of_a_relink_in_words() {
+    let (relink, freed) = ("p0.next := p1.next", "which is undefined: its cell was freed, or it never had one");
+    a_fault_is_told(relink, "", "reads through p1, which is null");
+    a_fault_is_told(relink, "p0 -> undefined", "reads through p1, which is null");
+    a_fault_is_told(relink, "p1 -> undefined", &format!("reads through p1, {freed}"));
+    a_fault_is_told(relink, "p0, p1 -> undefined", &format!("reads through p1, {freed}"));
+    a_fault_is_told(relink, "p1 -> a", "writes through p0, which is null");
+    a_fault_is_told(relink, "p0 -> undefined\np1 -> a", &format!("writes through p0, {freed}"));
+    a_fault_is_told("p2.next := p2.next", "", "reads through p2, which is null");
+}
+
+/// A relink blames the pointer that it stopped at, so both are named only where the locations before the fault differ in it.
+#[test]
+fn one_pointer_of_a_relink_or_the_other() {
+    let (null, undefined) = ("which is null", "which is undefined: its cell was freed, or it never had one");
+    let cases = [
+        (1, "", "p1 -> a", format!("goes through p1 or p0, {null}")),
+        (1, "", "p0 -> undefined", format!("reads through p1, {null}")),
+        (1, "p1 -> a", "p1 -> a\np2 -> undefined", format!("writes through p0, {null}")),
+        (2, "p1 -> undefined", "p0 -> undefined\np1 -> a", format!("goes through p1 or p0, {undefined}")),
+        (2, "p1 -> undefined", "p0, p1 -> undefined", format!("reads through p1, {undefined}")),
+    ];
+    for (fault, first, second, expected) in cases {
+        let body = format!("p0.next := p1.next\nstop\nshape\n{first}\nshape\n{second}\n");
+        let (shown, _) = listing(&Source::of_bytes("a", body.into_bytes()).unwrap()).unwrap();
+        let block = format!("\nlocation 2     FAULT {fault} at statement 0: p0.next := p1.next\n               {expected}\n\n");
+        assert!(shown.contains(&block), "{expected} is not in\n{shown}");
+    }
 }
 
 /// Where the locations before a fault differ in the pointer that is undefined, its words name either; where they agree, all.

@@ -1,7 +1,7 @@
 //! The automaton read back from the bytes of the two tables.
 
 use crate::fold::Counters;
-use crate::records::{Record, EDGE, LOCATION, NODES, NO_GUARD, ONE, RECORD, TWO_OR_MORE};
+use crate::records::{Guard, Record, EDGE, LOCATION, NODES, NO_GUARD, ONE, RECORD, TWO_OR_MORE};
 
 /// An edge as its record tells it.
 #[derive(Clone, Copy, PartialEq, Eq, Debug)]
@@ -9,8 +9,8 @@ pub struct Edge {
     pub branch: u8,
     pub from: usize,
     pub to: usize,
-    pub guard: u8,
-    pub node: usize,
+    /// The first guard and the second.
+    pub guards: [Guard; 2],
     pub updates: [u16; NODES],
 }
 
@@ -37,24 +37,35 @@ fn read_edge(record: &Record) -> Result<Edge, String> {
     for (number, update) in updates.iter_mut().enumerate() {
         *update = two_bytes(record, 8 + 2 * number);
     }
+    let first = Guard { kind: record[6], node: usize::from(record[7]) };
+    let second = Guard { kind: record[1] >> 1 & 3, node: usize::from(record[1] >> 3 & 15) };
     let edge = Edge {
-        branch: record[1],
+        branch: record[1] & 1,
         from: usize::from(two_bytes(record, 2)),
         to: usize::from(two_bytes(record, 4)),
-        guard: record[6],
-        node: usize::from(record[7]),
+        guards: [first, second],
         updates,
     };
     let sound = record[0] == EDGE
-        && edge.branch <= 1
-        && edge.guard <= TWO_OR_MORE
-        && edge.node < NODES
-        && (edge.guard != NO_GUARD || edge.node == 0)
+        && record[1] & 0x80 == 0
+        && edge.guards.iter().all(is_guard)
         && updates.iter().all(|&update| update >> 12 <= 2);
     if sound {
         Ok(edge)
     } else {
         Err(format!("a record that is no edge: {record:02x?}"))
+    }
+}
+
+fn is_guard(guard: &Guard) -> bool {
+    guard.kind <= TWO_OR_MORE && guard.node < NODES && (guard.kind != NO_GUARD || guard.node == 0)
+}
+
+fn holds(guard: &Guard, counters: &Counters) -> bool {
+    match guard.kind {
+        NO_GUARD => true,
+        ONE => counters[guard.node] == 1,
+        _ => counters[guard.node] >= 2,
     }
 }
 
@@ -84,19 +95,14 @@ impl Automaton {
         &self.leaving[location]
     }
 
-    /// Whether the edge of this number may be taken.
+    /// Whether the edge of this number may be taken: it leaves the location
+    /// and both guards hold.
     pub fn enabled(&self, at: &Configuration, number: u64) -> bool {
         if number >= self.edges.len() as u64 {
             return false;
         }
         let edge = &self.edges[number as usize];
-        let counter = at.counters[edge.node];
-        let holds = match edge.guard {
-            NO_GUARD => true,
-            ONE => counter == 1,
-            _ => counter >= 2,
-        };
-        edge.from == at.location && holds
+        edge.from == at.location && edge.guards.iter().all(|guard| holds(guard, &at.counters))
     }
 
     /// Takes the edge of this number, or answers false and changes nothing.
@@ -136,4 +142,54 @@ fn used_records(table: &[u8], count: usize) -> Result<Vec<Record>, String> {
     }
     let as_record = |bytes: &[u8]| Record::try_from(bytes).expect("32 bytes");
     Ok(used.chunks(RECORD).map(as_record).collect())
+}
+
+#[cfg(test)]
+mod tests {
+    use super::*;
+
+    /// An edge from location 0 to itself with these bytes 1, 6 and 7.
+    fn edge(byte_1: u8, kind: u8, node: u8) -> Record {
+        let mut record = [0; RECORD];
+        record[..2].copy_from_slice(&[EDGE, byte_1]);
+        record[6..8].copy_from_slice(&[kind, node]);
+        record
+    }
+
+    #[test]
+    fn every_byte_1() {
+        for byte in 0..=255u8 {
+            let (kind, node) = (byte / 2 % 4, usize::from(byte / 8 % 16));
+            let sound = byte < 128 && kind < 3 && node < 12 && (kind != 0 || node == 0);
+            match read_edge(&edge(byte, 2, 11)) {
+                Ok(read) => {
+                    assert!(sound, "{byte:08b}");
+                    assert_eq!(read.branch, byte % 2);
+                    assert_eq!(read.guards, [Guard { kind: 2, node: 11 }, Guard { kind, node }]);
+                }
+                Err(_) => assert!(!sound, "{byte:08b}"),
+            }
+        }
+    }
+
+    #[test]
+    fn both_guards_are_looked_at() {
+        // A location with two nodes; the second guard is that of node 1.
+        let mut place = [0; RECORD];
+        place[..4].copy_from_slice(&[LOCATION, 0, 0, 2]);
+        let kinds = [(0, 0), (1, 0), (2, 0), (0, 1), (1, 1), (1, 2), (2, 1), (2, 2)];
+        let byte_1 = |kind: u8| if kind == 0 { 0 } else { kind << 1 | 1 << 3 };
+        let edges: Vec<u8> = kinds.iter().flat_map(|&(first, second)| edge(byte_1(second), first, 0)).collect();
+        let automaton = Automaton::read(&place, 1, &edges, kinds.len()).expect("sound tables");
+        for (one, other) in [(1, 1), (1, 2), (2, 1), (2, 2), (5, 9)] {
+            let mut at = Configuration { location: 0, counters: [0; NODES] };
+            at.counters[..2].copy_from_slice(&[one, other]);
+            let fits = |kind: u8, counter: u64| kind == 0 || (kind == 1) == (counter == 1);
+            for (number, &(first, second)) in kinds.iter().enumerate() {
+                let due = fits(first, one) && fits(second, other);
+                assert_eq!(automaton.enabled(&at, number as u64), due, "{first} {second} at {one} {other}");
+                assert_eq!(automaton.feed(&mut at.clone(), number as u64), due);
+            }
+        }
+    }
 }

@@ -34,6 +34,23 @@ pub fn fold_heap(heap: &Heap) -> (Record, Counters) {
     (record, counters)
 }
 
+/// The node of each cell of such a heap, by cell number; none for a cell that
+/// is not in use.
+pub fn nodes_of_cells(heap: &Heap) -> Vec<Option<usize>> {
+    let core = core_cells(heap);
+    let mut nodes = vec![None; heap.cells.len()];
+    for (node, head) in number_heads(heap, &core).into_iter().enumerate() {
+        let (length, _) = walk_segment(heap, &core, head);
+        let mut at = Value::Cell(head);
+        for _ in 0..length {
+            let Value::Cell(cell) = at else { break };
+            nodes[cell] = Some(node);
+            at = heap.next(cell);
+        }
+    }
+    nodes
+}
+
 /// For each cell, whether a pointer holds it or the next of two or more cells.
 fn core_cells(heap: &Heap) -> Vec<bool> {
     let mut holders = vec![0usize; heap.cells.len()];
@@ -119,5 +136,7 @@ mod tests {
         assert_eq!(record[4..10], [UNDEFINED, 0, NULL, NULL, 2, NULL]);
         assert_eq!(record[10..14], [1, 1, 1, 0]);
         assert_eq!(counters[..4], [2, 3, 1, 0]);
+        let nodes = [Some(2), None, None, Some(0), None, Some(1), Some(1), Some(1), None, Some(0)];
+        assert_eq!(nodes_of_cells(&heap), nodes);
     }
 }

@@ -105,7 +105,7 @@ usage: reference selftest [--seed NUMBER] [--routines NUMBER]
 Tests random routines, heaps and runs, from a fixed seed unless another one is
 given. Prints what was counted. Fails, with exit status 1, if anything differs,
 if some refusal from 1 to 17 or fault from 1 to 3 was never met, or if tests of
-undefined pointers came too seldom: each kind that is printed is to be met once
-and once more for every 100 routines. A few hundred routines are enough to meet
-them all. The default is 12,000 routines.
+undefined pointers or relinks came too seldom: each kind that is printed is to
+be met once and once more for every 100 routines. A few hundred routines are
+enough to meet them all. The default is 12,000 routines.
 ";

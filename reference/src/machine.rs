@@ -64,6 +64,7 @@ fn effect(heap: &mut Heap, statement: &Statement, fresh: usize) -> Result<(), u8
             let cell = cell_of(heap, u)?;
             heap.cells[cell] = Some(heap.pointers[w]);
         }
+        Op::Relink => relink(heap, u, w)?,
         Op::New => {
             heap.bring(fresh);
             heap.pointers[u] = Value::Cell(fresh);
@@ -81,6 +82,14 @@ fn effect(heap: &mut Heap, statement: &Statement, fresh: usize) -> Result<(), u8
             look_at(heap, w)?;
         }
     }
+    Ok(())
+}
+
+/// "Looking at w comes first, for null and for undefined, then u."
+fn relink(heap: &mut Heap, u: usize, w: usize) -> Result<(), u8> {
+    let next = heap.next(cell_of(heap, w)?);
+    let cell = cell_of(heap, u)?;
+    heap.cells[cell] = Some(next);
     Ok(())
 }
 
@@ -134,6 +143,14 @@ mod tests {
             (Op::TestEqual, 2, 2, THROUGH_UNDEFINED),
             (Op::TestEqual, 2, 3, THROUGH_UNDEFINED),
             (Op::TestEqual, 0, 2, THROUGH_UNDEFINED),
+            (Op::Relink, 0, 3, THROUGH_NULL),
+            (Op::Relink, 0, 2, THROUGH_UNDEFINED),
+            (Op::Relink, 3, 0, THROUGH_NULL),
+            (Op::Relink, 2, 0, THROUGH_UNDEFINED),
+            (Op::Relink, 2, 3, THROUGH_NULL),
+            (Op::Relink, 3, 2, THROUGH_UNDEFINED),
+            (Op::Relink, 3, 3, THROUGH_NULL),
+            (Op::Relink, 2, 2, THROUGH_UNDEFINED),
             (Op::SetNull, 0, 0, LEAK),
             (Op::Copy, 0, 1, LEAK),
             (Op::New, 0, 0, LEAK),
@@ -249,6 +266,71 @@ mod tests {
         assert_eq!(heap, freed);
         run(&mut heap, &statement(Op::SetNull, 4, 0), 0, 0);
         assert_eq!(run(&mut heap, &statement(Op::TestNull, 4, 0), 0, 0), decided(false, true));
+    }
+
+    /// Relinks pointer u by w and wants this next at the cell of u, or a fault
+    /// that leaves the heap.
+    fn check_relink(heap: &Heap, (u, w): (usize, usize), due: Result<Value, u8>) {
+        let mut changed = heap.clone();
+        let outcome = run(&mut changed, &statement(Op::Relink, u, w), 1, 9);
+        let mut after = heap.clone();
+        let wanted = match (due, heap.pointers[u]) {
+            (Ok(next), Value::Cell(cell)) => {
+                after.cells[cell] = Some(next);
+                Outcome::Moved { branch: 0, next: 4 }
+            }
+            (due, _) => Outcome::Fault(due.expect_err("a fault, as u is at no cell")),
+        };
+        assert_eq!((outcome, changed), (wanted, after), "{u} {w}");
+    }
+
+    #[test]
+    fn relinks_of_every_pairing() {
+        for first in HELD {
+            for second in HELD {
+                let heap = holding(0, first, 1, second);
+                // Cell 1 leads to cell 0, whose next is undefined. If cell 1 lets
+                // go of cell 0, w still holds it.
+                let due = match (second, first) {
+                    (Value::Null, _) => Err(1),
+                    (Value::Undefined, _) => Err(2),
+                    (_, Value::Null) => Err(1),
+                    (_, Value::Undefined) => Err(2),
+                    (Value::Cell(0), _) => Ok(Value::Undefined),
+                    (Value::Cell(_), _) => Ok(Value::Cell(0)),
+                };
+                check_relink(&heap, (0, 1), due);
+            }
+            let itself = match first {
+                Value::Cell(cell) => Ok(holding(0, first, 0, first).next(cell)),
+                Value::Null => Err(1),
+                Value::Undefined => Err(2),
+            };
+            check_relink(&holding(0, first, 0, first), (0, 0), itself);
+        }
+    }
+
+    #[test]
+    fn relinks_and_lost_cells() {
+        // Pointer 0 at 0, 1, 2 and pointer 1 at 3, 2: both lead to cell 2.
+        let mut heap = Heap::empty();
+        heap.cells = [1, 2, 4, 2].map(|next| Some(Value::Cell(next))).to_vec();
+        heap.cells.push(Some(Value::Null));
+        heap.pointers[0] = Value::Cell(0);
+        heap.pointers[1] = Value::Cell(3);
+        check_relink(&heap, (0, 1), Err(LEAK));
+        // The other way round cell 3 comes before cell 1, and none is lost.
+        check_relink(&heap, (1, 0), Ok(Value::Cell(1)));
+        heap.pointers[2] = Value::Cell(1);
+        check_relink(&heap, (0, 1), Ok(Value::Cell(2)));
+        // Cell 2 by itself, then with what follows it.
+        check_relink(&heap, (2, 1), Ok(Value::Cell(2)));
+        heap.pointers[3] = Value::Cell(2);
+        check_relink(&heap, (2, 3), Ok(Value::Cell(4)));
+        check_relink(&heap, (3, 2), Err(LEAK));
+        heap.pointers[4] = Value::Cell(4);
+        check_relink(&heap, (3, 2), Ok(Value::Cell(2)));
+        check_relink(&heap, (3, 4), Ok(Value::Null));
     }
 
     #[test]

@@ -113,6 +113,26 @@ fn many_nodes(random: &mut Random, most: usize) -> Heap {
     heap
 }
 
+/// Pointer 0 leads into a ring, most often over one cell, and pointer 1 is at a
+/// list, which seldom leads there as well. The others are null or at that list.
+pub fn ring_and_list(random: &mut Random) -> Heap {
+    let mut heap = Heap::empty();
+    let stem = if random.chance(75) { 1 } else { 2 };
+    let ring = random.between(1, 3);
+    let list = random.between(1, 3);
+    let cells = stem + ring + list;
+    heap.cells = (1..=cells).map(|next| Some(Value::Cell(next))).collect();
+    heap.cells[stem + ring - 1] = Some(Value::Cell(stem));
+    heap.cells[cells - 1] = Some(random_value(random, cells, 20));
+    for pointer in 1..POINTERS {
+        if pointer == 1 || random.chance(20) {
+            heap.pointers[pointer] = Value::Cell(stem + ring);
+        }
+    }
+    heap.pointers[0] = Value::Cell(0);
+    heap
+}
+
 /// Takes the cells away that are not reachable.
 pub fn drop_lost_cells(heap: &mut Heap) {
     let met = heap.reachable();

@@ -26,10 +26,20 @@ pub const UNDEFINED: u8 = 0xff;
 /// The mark of a cell that is not in use, in heap images only.
 pub const UNUSED: u8 = 0xfd;
 
-/// Guard numbers of an edge.
+/// The kinds of a guard.
 pub const NO_GUARD: u8 = 0;
 pub const ONE: u8 = 1;
 pub const TWO_OR_MORE: u8 = 2;
+
+/// A guard of an edge: its kind, and the node whose counter it looks at.
+#[derive(Clone, Copy, PartialEq, Eq, Debug)]
+pub struct Guard {
+    pub kind: u8,
+    pub node: usize,
+}
+
+/// The guard that is absent.
+pub const ABSENT: Guard = Guard { kind: NO_GUARD, node: 0 };
 
 /// Offsets within H and L records.
 pub const POINTERS_AT: usize = 4;
@@ -67,6 +77,12 @@ pub fn byte_value(byte: u8) -> Value {
         UNDEFINED => Value::Undefined,
         number => Value::Cell(usize::from(number)),
     }
+}
+
+/// Byte 1 of an E record: bit 0 is the branch, bits 1 and 2 are the second
+/// guard, bits 3 to 6 its node.
+pub fn branch_byte(branch: u8, second: Guard) -> u8 {
+    branch | second.kind << 1 | (second.node as u8) << 3
 }
 
 /// Whether a record is no H record by its layout alone (refusal 8).
@@ -131,6 +147,14 @@ mod tests {
             record[at] = byte;
             assert!(breaks_layout(&record), "byte {at} set to {byte}");
         }
+    }
+
+    #[test]
+    fn byte_1_of_an_edge() {
+        let byte = |branch, kind, node| branch_byte(branch, Guard { kind, node });
+        assert_eq!([branch_byte(0, ABSENT), branch_byte(1, ABSENT)], [0, 1]);
+        assert_eq!([byte(0, ONE, 0), byte(0, TWO_OR_MORE, 0)], [0b10, 0b100]);
+        assert_eq!([byte(0, ONE, 1), byte(1, TWO_OR_MORE, 11)], [0b1010, 0b101_1101]);
     }
 
     #[test]

@@ -2,7 +2,7 @@
 
 use crate::fold::fold_heap;
 use crate::heap::{Heap, Value, POINTERS};
-use crate::random::{drop_lost_cells, random_heap, Random};
+use crate::random::{drop_lost_cells, random_heap, ring_and_list, Random};
 use crate::records::{Record, RECORD, STATEMENT};
 use crate::statement::OPS;
 
@@ -18,13 +18,17 @@ impl Drawn {
     }
 }
 
+/// How often each op is drawn.
+pub type Weights = [usize; OPS.len()];
+
 /// A routine that passes all checks. Most are short; some are as long as may
-/// be, some are made so that their listings grow large, and some so that they
-/// compare what they freed.
+/// be, some are made so that their listings grow large, some so that they
+/// compare what they freed, and some so that they relink.
 pub fn random_routine(random: &mut Random) -> Drawn {
     match random.below(100) {
         0..=3 => return ring_walk(random),
         4..=13 => return free_and_compare(random),
+        14..=31 => return relink_often(random),
         _ => {}
     }
     let (statements, shapes) = match random.below(100) {
@@ -38,15 +42,14 @@ pub fn random_routine(random: &mut Random) -> Drawn {
     Drawn { statements, shapes: random_shapes(random, shapes) }
 }
 
-/// How often each op is drawn: all kinds, few that leak, many that read and
-/// write.
-const OP_WEIGHTS: [[usize; 12]; 3] =
-    [[1, 2, 4, 5, 2, 4, 3, 2, 3, 3, 4, 1], [1, 0, 1, 1, 0, 1, 1, 1, 3, 4, 5, 2], [1, 1, 5, 9, 1, 7, 4, 3, 2, 2, 4, 1]];
+/// All kinds, few that leak, many that read and write.
+const OP_WEIGHTS: [Weights; 3] =
+    [[1, 2, 4, 5, 2, 4, 3, 2, 3, 3, 4, 1, 2], [1, 0, 1, 1, 0, 1, 1, 1, 3, 4, 5, 2, 1], [1, 1, 5, 9, 1, 7, 4, 3, 2, 2, 4, 1, 5]];
 
 /// Pointers that wander over rings by choice: they seldom fault, and stand to
 /// each other in very many ways.
 fn ring_walk(random: &mut Random) -> Drawn {
-    const WEIGHTS: [usize; 12] = [0, 0, 1, 8, 0, 1, 0, 0, 1, 1, 6, 1];
+    const WEIGHTS: Weights = [0, 0, 1, 8, 0, 1, 0, 0, 1, 1, 6, 1, 0];
     let count = random.between(3, 12);
     // The last pointer keeps all cells reachable and is never moved.
     let pointers = random.between(2, POINTERS - 1);
@@ -65,9 +68,9 @@ fn ring_walk(random: &mut Random) -> Drawn {
 /// Few pointers, most of them at one node, which is freed and then compared:
 /// many tests look at undefined pointers.
 fn free_and_compare(random: &mut Random) -> Drawn {
-    const FREE: [usize; 12] = [0, 0, 0, 0, 0, 0, 0, 1, 0, 0, 0, 0];
-    const TEST: [usize; 12] = [0, 0, 0, 0, 0, 0, 0, 0, 1, 4, 0, 0];
-    const ANY: [usize; 12] = [1, 1, 5, 0, 0, 0, 3, 3, 3, 9, 5, 1];
+    const FREE: Weights = [0, 0, 0, 0, 0, 0, 0, 1, 0, 0, 0, 0, 0];
+    const TEST: Weights = [0, 0, 0, 0, 0, 0, 0, 0, 1, 4, 0, 0, 0];
+    const ANY: Weights = [1, 1, 5, 0, 0, 0, 3, 3, 3, 9, 5, 1, 0];
     let count = random.between(3, 12);
     let pointers = random.between(2, 4);
     let weights = |number| [&FREE, &TEST, &ANY][usize::min(number, 2)];
@@ -80,8 +83,55 @@ fn free_and_compare(random: &mut Random) -> Drawn {
     Drawn { statements, shapes: vec![fold_heap(&heap).0] }
 }
 
+/// Few pointers over few cells: they relink, and then move and relink.
+fn relink_often(random: &mut Random) -> Drawn {
+    const WEIGHTS: Weights = [1, 1, 4, 5, 0, 1, 1, 1, 0, 0, 4, 1, 12];
+    let count = random.between(2, 12);
+    let pointers = random.between(2, 4);
+    let mut statements: Vec<Record> =
+        (0..count).map(|number| random_statement(random, number, count, pointers, &WEIGHTS)).collect();
+    let most = random.between(2, 9);
+    let heap = random_heap(random, most);
+    let (heap, first) = any_relink(random, &heap);
+    statements[0] = first;
+    statements[0][4] = random.below(count) as u8;
+    Drawn { statements, shapes: vec![fold_heap(&heap).0] }
+}
+
+/// A relink of two pointers to statement 0, and the heap with both at cells,
+/// if there are any, or with one of them at none. Some take the only way into
+/// a ring away, on a heap of their own.
+pub fn any_relink(random: &mut Random, heap: &Heap) -> (Heap, Record) {
+    let kind = random.below(8);
+    if kind < 2 {
+        return (ring_and_list(random), relink(0, 1));
+    }
+    let u = random.below(POINTERS);
+    let w = (u + random.between(1, POINTERS - 1)) % POINTERS;
+    let mut changed = heap.clone();
+    let used: Vec<usize> = (0..heap.cells.len()).filter(|&cell| heap.in_use(cell)).collect();
+    if !used.is_empty() {
+        changed.pointers[u] = Value::Cell(used[random.below(used.len())]);
+        changed.pointers[w] = Value::Cell(used[random.below(used.len())]);
+    }
+    let none = [Value::Null, Value::Undefined][random.below(2)];
+    match kind {
+        2 => changed.pointers[w] = none,
+        3 | 4 => changed.pointers[u] = none,
+        _ => {}
+    }
+    drop_lost_cells(&mut changed);
+    (changed, relink(u, w))
+}
+
+fn relink(u: usize, w: usize) -> Record {
+    let mut record = [0; RECORD];
+    record[..4].copy_from_slice(&[STATEMENT, 12, u as u8, w as u8]);
+    record
+}
+
 /// A statement that passes all checks, at this number of so many.
-pub fn random_statement(random: &mut Random, number: usize, statements: usize, pointers: usize, weights: &[usize; 12]) -> Record {
+pub fn random_statement(random: &mut Random, number: usize, statements: usize, pointers: usize, weights: &Weights) -> Record {
     let mut record = [0; RECORD];
     record[0] = STATEMENT;
     let op = random.weighted(weights);

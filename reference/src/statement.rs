@@ -17,10 +17,11 @@ pub enum Op {
     TestEqual,
     Choose,
     Skip,
+    Relink,
 }
 
 /// The ops by their number.
-pub const OPS: [Op; 12] = [
+pub const OPS: [Op; 13] = [
     Op::Stop,
     Op::SetNull,
     Op::Copy,
@@ -33,6 +34,7 @@ pub const OPS: [Op; 12] = [
     Op::TestEqual,
     Op::Choose,
     Op::Skip,
+    Op::Relink,
 ];
 
 impl Op {
@@ -41,7 +43,7 @@ impl Op {
     }
 
     pub fn uses_w(self) -> bool {
-        matches!(self, Op::Copy | Op::LoadNext | Op::StoreNext | Op::TestEqual)
+        matches!(self, Op::Copy | Op::LoadNext | Op::StoreNext | Op::TestEqual | Op::Relink)
     }
 
     pub fn uses_first(self) -> bool {
@@ -69,12 +71,14 @@ pub struct Statement {
 }
 
 impl Statement {
-    /// The pointer that the statement reads, writes or frees through.
-    pub fn through(&self) -> Option<usize> {
+    /// The pointers that the statement reads, writes or frees through, in the
+    /// order in which they are looked at.
+    pub fn through(&self) -> Vec<usize> {
         match self.op {
-            Op::LoadNext => Some(self.w),
-            Op::CutNext | Op::StoreNext | Op::Free => Some(self.u),
-            _ => None,
+            Op::LoadNext => vec![self.w],
+            Op::CutNext | Op::StoreNext | Op::Free => vec![self.u],
+            Op::Relink => vec![self.w, self.u],
+            _ => Vec::new(),
         }
     }
 }
@@ -143,7 +147,12 @@ mod tests {
 
     #[test]
     fn the_lowest_number_comes_first() {
-        assert_eq!(read_statement(&record([12, 9, 9, 9, 9]), 1), Err(5));
+        for op in 13..=255 {
+            assert_eq!(read_statement(&record([op, 9, 9, 9, 9]), 1), Err(5));
+        }
+        assert_eq!(read_statement(&record([12, 9, 9, 9, 9]), 1), Err(6));
+        assert_eq!(read_statement(&record([12, 5, 5, 9, 0]), 1), Err(7));
+        assert!(read_statement(&record([12, 5, 5, 0, 0]), 1).is_ok());
         assert_eq!(read_statement(&record([2, 0, 6, 9, 0]), 1), Err(6));
         assert_eq!(read_statement(&record([2, 0, 0, 9, 1]), 1), Err(6));
         assert_eq!(read_statement(&record([2, 0, 0, 9, 0]), 1), Err(7));

@@ -4,7 +4,7 @@ use std::collections::HashMap;
 
 use crate::input::{read_routine, refuse, Refusal, Routine};
 use crate::probe::{find_edges, Found};
-use crate::records::{location, Record, EDGE, RECORD};
+use crate::records::{branch_byte, location, Record, EDGE, RECORD};
 
 /// The most locations and edges, however long the lent tables are.
 pub const LOCATIONS: usize = 1024;
@@ -105,13 +105,14 @@ impl Listing {
 }
 
 fn edge_record(found: &Found, from: usize, to: usize) -> Record {
+    let [first, second] = found.guards;
     let mut record = [0; RECORD];
     record[0] = EDGE;
-    record[1] = found.branch;
+    record[1] = branch_byte(found.branch, second);
     record[2..4].copy_from_slice(&(from as u16).to_le_bytes());
     record[4..6].copy_from_slice(&(to as u16).to_le_bytes());
-    record[6] = found.guard;
-    record[7] = found.node;
+    record[6] = first.kind;
+    record[7] = first.node as u8;
     for (bytes, update) in record[8..].chunks_exact_mut(2).zip(found.updates) {
         bytes.copy_from_slice(&update.to_le_bytes());
     }

@@ -135,6 +135,10 @@ fn step_in_text() {
     for test in [s(8, 4, 0, 7, 9), s(9, 4, 4, 7, 9), s(9, 0, 4, 7, 9), s(9, 4, 1, 7, 9)] {
         check(&["step"], &with(test, ""), 0, &format!("fault 2\n{stays}"));
     }
+    for (relink, fault) in [(s(12, 0, 1, 7, 0), 1), (s(12, 0, 4, 7, 0), 2), (s(12, 4, 1, 7, 0), 1), (s(12, 1, 4, 7, 0), 2)] {
+        check(&["step"], &with(relink, ""), 0, &format!("fault {fault}\n{stays}"));
+    }
+    check(&["step"], &with(s(12, 0, 0, 7, 0), ""), 0, &format!("moved 0 7\n{stays}"));
     let test = with(s(9, 0, 1, 7, 9), "");
     check(&["step"], &test, 0, &format!("moved 1 9\n{stays}"));
 }
@@ -148,12 +152,14 @@ fn step_refuses() {
         let due = format!("refused {number} 0\n");
         check(&["step"], text.as_bytes(), 1, &due);
     };
-    refused("0 1", s(12, 9, 9, 99, 99), 13);
+    refused("0 1", s(13, 9, 9, 99, 99), 13);
     refused("0 2 null null null 1", [0; 32], 13);
     refused("0 null null null null null", [0; 32], 14);
     let sound = "null null null null 1 0";
     refused(sound, [0; 32], 4);
-    refused(sound, s(12, 9, 9, 99, 99), 5);
+    refused(sound, s(13, 9, 9, 99, 99), 5);
+    refused(sound, s(12, 9, 9, 99, 99), 6);
+    refused(sound, s(12, 5, 5, 99, 0), 7);
     refused(sound, s(10, 0, 1, 99, 99), 6);
     refused(sound, s(10, 0, 0, 63, 99), 7);
     refused(sound, s(10, 0, 0, 63, 63), 16);

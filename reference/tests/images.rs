@@ -196,6 +196,13 @@ fn steps_that_stay() {
     assert_eq!(step_on(&s(9, 2, 2, 63, 5), 0, 0).0, Stepped::Fault(2));
     assert_eq!(step_on(&s(9, 2, 3, 63, 5), 0, 0).0, Stepped::Fault(2));
     assert_eq!(step_on(&s(9, 1, 2, 63, 5), 0, 0).0, Stepped::Fault(2));
+    // In a relink w is looked at first, then u.
+    assert_eq!(step_on(&s(12, 0, 1, 63, 0), 0, 0).0, Stepped::Fault(1));
+    assert_eq!(step_on(&s(12, 0, 2, 63, 0), 0, 0).0, Stepped::Fault(2));
+    assert_eq!(step_on(&s(12, 1, 0, 63, 0), 0, 0).0, Stepped::Fault(1));
+    assert_eq!(step_on(&s(12, 2, 0, 63, 0), 0, 0).0, Stepped::Fault(2));
+    assert_eq!(step_on(&s(12, 2, 1, 63, 0), 0, 0).0, Stepped::Fault(1));
+    assert_eq!(step_on(&s(12, 1, 2, 63, 0), 0, 0).0, Stepped::Fault(2));
     assert_eq!(step_on(&s(1, 3, 0, 0, 0), 0, 0).0, Stepped::Fault(3));
     assert_eq!(step_on(&s(6, 3, 0, 0, 0), 0, 3).0, Stepped::Fault(3));
 }
@@ -210,7 +217,13 @@ fn refusals_of_a_step() {
     assert_eq!(refused(&[0x53; 31], 0, 0), 4);
     assert_eq!(refused(&[0x53; 33], 0, 0), 4);
     assert_eq!(refused(&h(NULLS, &[]), 0, 0), 4);
-    assert_eq!(refused(&s(12, 9, 9, 99, 99), 9, 9), 5);
+    for op in 13..=255 {
+        assert_eq!(refused(&s(op, 9, 9, 99, 99), 9, 9), 5);
+    }
+    assert_eq!(refused(&s(12, 0, 6, 99, 0), 9, 9), 6);
+    assert_eq!(refused(&s(12, 6, 0, 99, 0), 9, 9), 6);
+    assert_eq!(refused(&s(12, 0, 0, 99, 1), 9, 9), 6);
+    assert_eq!(refused(&s(12, 0, 0, 64, 0), 9, 9), 7);
     assert_eq!(refused(&s(6, 6, 0, 99, 0), 9, 9), 6);
     assert_eq!(refused(&s(6, 0, 1, 99, 0), 9, 9), 6);
     assert_eq!(refused(&s(6, 0, 0, 64, 0), 9, 9), 7);

@@ -123,6 +123,32 @@ fn no_more_than_1024_locations_however_long_the_table() {
     check_refused(&just, 11, got.answer.place);
 }
 
+/// 64 relinks in a circle that keep their shape: two lists that meet, with so
+/// many ways for the other pointers. Each shape has three edges at each
+/// statement, the third of which leads to the statement's own fault.
+fn relinks(shapes: u8) -> Vec<u8> {
+    let mut records: Vec<Record> = (1..=64).map(|next| s(12, 0, 1, next % 64, 0)).collect();
+    for number in 0..shapes {
+        let other = |bit: u8| if number >> bit & 1 == 1 { UNDEF } else { NULL };
+        records.push(h([0, 2, other(0), other(1), other(2), other(3)], &[1, NULL, 1]));
+    }
+    input(&records)
+}
+
+#[test]
+fn no_more_than_2048_edges_however_long_the_table() {
+    // Ten shapes fit: 640 locations and 64 faults, 1,920 edges.
+    let got = into_tables(&relinks(10), 32 * 1024, 32 * 2048);
+    assert_eq!((got.answer.refusal, got.answer.locations, got.answer.edges), (0, 704, 1920));
+    // Of eleven shapes the 683rd location takes the edges past 2,048. Those of
+    // statement 62 begin after 11 and 61 times 12 others, faults included.
+    for bytes in [32 * 2048, 32 * 2048 + 31, 32 * 5000] {
+        check_refused(&into_tables(&relinks(11), 32 * 1024, bytes), 12, 11 + 61 * 12);
+    }
+    let got = into_tables(&relinks(16), 32 * 1024, 32 * 2048);
+    assert_eq!(got.answer.refusal, 12);
+}
+
 #[test]
 fn counters_and_cells() {
     let record = h(pointers(&[0, 1]), &[NULL, NULL]);

@@ -61,23 +61,27 @@ fn the_count_2_comes_before_3() {
     check_refusal(&input(&vec![shape(); 17]), 2, 0);
     check_refusal(&input(&[skip()]), 3, 0);
     // Counts come before single records.
-    check_refusal(&input(&[s(12, 0, 0, 0, 0)]), 3, 0);
+    check_refusal(&input(&[s(13, 0, 0, 0, 0)]), 3, 0);
 }
 
 #[test]
 fn statements_5_6_7() {
     let at_1 = |record: Record| input(&[skip(), record, shape()]);
-    for op in 12..=255 {
+    for op in 13..=255 {
         check_refusal(&at_1(s(op, 0, 0, 0, 0)), 5, 1);
     }
     check_refusal(&at_1(s(1, 6, 0, 0, 0)), 6, 1);
     check_refusal(&at_1(s(2, 5, 6, 0, 0)), 6, 1);
     check_refusal(&at_1(s(0, 0, 0, 1, 0)), 6, 1);
     check_refusal(&at_1(s(11, 0, 0, 0, 1)), 6, 1);
+    check_refusal(&at_1(s(12, 6, 0, 0, 0)), 6, 1);
+    check_refusal(&at_1(s(12, 0, 6, 0, 0)), 6, 1);
+    check_refusal(&at_1(s(12, 0, 0, 0, 1)), 6, 1);
     for at in 6..32 {
         check_refusal(&at_1(with_byte(skip(), at, 1)), 6, 1);
     }
     check_refusal(&at_1(s(11, 0, 0, 2, 0)), 7, 1);
+    check_refusal(&at_1(s(12, 5, 5, 2, 0)), 7, 1);
     check_refusal(&at_1(s(10, 0, 0, 0, 2)), 7, 1);
     check_refusal(&at_1(s(10, 0, 0, 0, 255)), 7, 1);
 }
@@ -85,7 +89,7 @@ fn statements_5_6_7() {
 #[test]
 fn lowest_number_first_within_a_record() {
     let at_1 = |record: Record| input(&[skip(), record, shape()]);
-    check_refusal(&at_1(s(12, 9, 9, 9, 9)), 5, 1);
+    check_refusal(&at_1(s(13, 9, 9, 9, 9)), 5, 1);
     check_refusal(&at_1(s(2, 9, 0, 9, 0)), 6, 1);
     check_refusal(&at_1(with_byte(s(11, 0, 0, 9, 0), 31, 1)), 6, 1);
     // A shape that breaks the layout and would not be one either.
@@ -96,7 +100,7 @@ fn lowest_number_first_within_a_record() {
 #[test]
 fn input_order_across_records() {
     let bad_target = s(11, 0, 0, 9, 0);
-    let bad_op = s(12, 0, 0, 0, 0);
+    let bad_op = s(13, 0, 0, 0, 0);
     check_refusal(&input(&[bad_target, bad_op, shape()]), 7, 0);
     check_refusal(&input(&[bad_op, bad_target, shape()]), 5, 0);
     let broken = with_byte(shape(), 1, 1);

@@ -15,21 +15,28 @@ fn the_fixed_seed_agrees_and_meets_everything() {
         assert!(tests.iter().all(|&count| count >= 400), "{tests:?}");
     }
     assert!(counts.freed_run >= 1_000);
+    for relinks in [counts.relinks_listed, counts.relinks_run, counts.relinks_stepped] {
+        assert!(relinks.iter().all(|&count| count >= 400), "{relinks:?}");
+    }
 }
 
 #[test]
-fn tests_of_undefined_pointers_that_are_too_few_are_told() {
-    let (each, routines) = ([5; 5], 400);
-    let mut counts = Counts { routines, freed_run: 5, ..Counts::default() };
-    [counts.undefined_listed, counts.undefined_run, counts.undefined_stepped] = [each; 3];
-    assert_eq!(counts.undefined_floor(), 5);
+fn tests_of_undefined_pointers_and_relinks_that_are_too_few_are_told() {
+    let mut counts = Counts { routines: 400, freed_run: 5, ..Counts::default() };
+    [counts.undefined_listed, counts.undefined_run, counts.undefined_stepped] = [[5; 5]; 3];
+    [counts.relinks_listed, counts.relinks_run, counts.relinks_stepped] = [[5; 10]; 3];
+    assert_eq!(counts.floor(), 5);
     assert_eq!(counts.too_few(), None);
     counts.undefined_run[3] = 4;
     let due = "undefined in runs, test u = w with both undefined (4 of 5)";
     assert_eq!(counts.too_few().as_deref(), Some(due));
     counts.freed_run = 0;
     let due = format!("undefined in runs, test of a freed cell (0 of 5), {due}");
-    assert_eq!(counts.too_few(), Some(due));
+    assert_eq!(counts.too_few().as_ref(), Some(&due));
+    counts.relinks_listed[9] = 3;
+    counts.relinks_stepped[6] = 1;
+    let relinks = "relink in listings, u >= 2 (3 of 5), relink in steps, u = 1 and w = 1, leak (1 of 5)";
+    assert_eq!(counts.too_few(), Some(format!("{due}, {relinks}")));
 }
 
 #[test]

@@ -117,6 +117,10 @@ fn effect(held: &mut [u8; 6], cells: &mut Cells, fields: [u8; 3], pick: u64, cel
         3 => held[u] = cells[through(held[w])?],
         4 => cells[through(held[u])?] = NULL,
         5 => cells[through(held[u])?] = held[w],
+        12 => {
+            let next = cells[through(held[w])?];
+            cells[through(held[u])?] = next;
+        }
         6 => {
             cells[usize::from(cell)] = UNDEF;
             held[u] = cell;
@@ -168,7 +172,7 @@ fn all_statements() -> Vec<Record> {
         statements.extend([1, 4, 6, 7].map(|op| s(op, u, 0, 41, 0)));
         statements.push(s(8, u, 0, 41, 42));
         for w in 0..3 {
-            statements.extend([2, 3, 5].map(|op| s(op, u, w, 41, 0)));
+            statements.extend([2, 3, 5, 12].map(|op| s(op, u, w, 41, 0)));
             statements.push(s(9, u, w, 41, 42));
         }
     }
@@ -180,6 +184,7 @@ fn every_statement() {
     let statements = all_statements();
     let mut faults = [0; 4];
     let mut tests = [0; 2];
+    let mut relinks = [0; 4];
     let sound = all_images().into_iter().filter(|(held, cells)| due_refusal(held, cells) == 0);
     for (number, (held, cells)) in sound.enumerate() {
         for statement in &statements {
@@ -191,14 +196,16 @@ fn every_statement() {
             let got = step(&mut to_held, &mut to_cells, statement, pick, cell.into());
             assert_eq!(got, due, "{statement:?} on {held:?} {cells:?}");
             assert_eq!((to_held, to_cells), (due_held, due_cells));
-            if let Stepped::Fault(fault) = got {
-                faults[usize::from(fault)] += 1;
-                if let op @ (8 | 9) = fields[0] {
-                    tests[usize::from(op - 8)] += 1;
-                }
+            let fault = if let Stepped::Fault(fault) = got { fault } else { 0 };
+            faults[usize::from(fault)] += 1;
+            match fields[0] {
+                op @ (8 | 9) if fault != 0 => tests[usize::from(op - 8)] += 1,
+                12 => relinks[usize::from(fault)] += 1,
+                _ => {}
             }
         }
     }
     assert!(faults[1..].iter().all(|&count| count > 500), "{faults:?}");
     assert!(tests.iter().all(|&count| count > 500), "{tests:?}");
+    assert!(relinks.iter().all(|&count| count > 100), "{relinks:?}");
 }

@@ -83,11 +83,14 @@ impl Parser {
         }
     }
 
+    /// `next`, and no `.next` after it.
     fn expect_next(&mut self) -> Result<(), Error> {
-        if self.accept_keyword("next") {
-            Ok(())
-        } else {
-            self.wrong("`next`")
+        if !self.accept_keyword("next") {
+            return self.wrong("`next`");
+        }
+        match self.peek().kind {
+            Kind::Sign(".") => self.wrong("at most one `.next` on a side of `:=`"),
+            _ => Ok(()),
         }
     }
 
@@ -169,7 +172,8 @@ impl Parser {
             if self.accept_keyword("null") {
                 return Ok((Op::WriteNull, u, 0, then));
             }
-            return Ok((Op::WriteNext, u, self.pointer("`null` or a pointer, p0 to p5")?, then));
+            let w = self.pointer("`null` or a pointer, p0 to p5")?;
+            return self.right_side(u, w, Op::WriteNext, Op::Relink);
         }
         if !self.accept_sign(":=") {
             return self.wrong("`:=` or `.next`");
@@ -181,11 +185,16 @@ impl Parser {
             return Ok((Op::New, u, 0, then));
         }
         let w = self.pointer("`null`, `new` or a pointer, p0 to p5")?;
-        if self.accept_sign(".") {
-            self.expect_next()?;
-            return Ok((Op::ReadNext, u, w, then));
+        self.right_side(u, w, Op::Copy, Op::ReadNext)
+    }
+
+    /// The one op where the pointer on the right stands alone, the other where `.next` follows it.
+    fn right_side(&mut self, u: u8, w: u8, alone: Op, through: Op) -> Result<(Op, u8, u8, &'static str), Error> {
+        if !self.accept_sign(".") {
+            return Ok((alone, u, w, "`.next`, `goto` or the end of the line"));
         }
-        Ok((Op::Copy, u, w, "`.next`, `goto` or the end of the line"))
+        self.expect_next()?;
+        Ok((through, u, w, "`goto` or the end of the line"))
     }
 
     fn line(&mut self, labels: Vec<Label>) -> Result<Line, Error> {

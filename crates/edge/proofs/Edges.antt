@@ -1,26 +1,27 @@
 -- An edge by its way: the step that the way stands for, the edge of a fault, and the edge of a run that is done.
 use Prim.Native.Nat.{ℕ, zero, suc, _≤_}
-use mathlib.Core.Path.{_≡_, refl, sym, ap, ap₂, _∙_}
+use mathlib.Core.Path.{_≡_, refl, sym, ap, ap₂, subst, _∙_}
 use mathlib.Core.Bool.{true}
 use mathlib.Core.List.{List, [], _∷_, head-eq-of-cons-eq, map, map-map}
 use native.Mathlib.Omega.{arith}
 use lib.ListN.{List·getD-eq-default, drop, length, length-map, take}
 use lib.Seq.{length-take-le}
 use borrow.Author.Tests.{ne-eqb}
-use Rattle.model.specs.Edges.{Edge, Way, Weight, at, edgeBy, failed, splitHeap, stepBy, updateOf}
+use Rattle.model.specs.Edges.{Edge, Guard, Way, Weight, at, edgeBy, failed, splitHeap, stepBy, updateOf}
 use Rattle.model.specs.Heap.{Heap, next, unused}
 use Rattle.model.specs.Machine.{Answer, Fault, action, answerOf, atNull, atUndef, branch, branchBy, carryOut, entry, fault, faultNumber, faulted, kind, leak, target, went}
-use Rattle.model.specs.Notions.{Used}
-use Rattle.model.specs.Records.{byte, guardBytes, locRecord, updateCode}
+use Rattle.model.specs.Notions.{Used, Views}
+use Rattle.model.specs.Records.{byte, locRecord, updateCode}
 use Rattle.model.specs.Shape.{segments, shape}
-use Rattle.model.specs.Structs.{guardsBytes, opIn, stmtIn}
+use Rattle.model.specs.Structs.{Coded, opIn, stmtIn}
 use Rattle.model.specs.declared.Decoded.{Decoded}
 use Rattle.model.specs.declared.EdgeMade.{EdgeMade}
+use Rattle.model.specs.declared.Guards.{Guards}
 use Rattle.model.proofs.expansion.Splits.{tail-used}
 use Rattle.model.proofs.expansion.Step.{step-go}
 use Rattle.model.proofs.lists.Logic.{bool-case}
 use Rattle.model.proofs.ways.Picks.{accept-room, room-of}
-use Rattle.model.proofs.ways.Ways.{view-acts, view-looks, view-split}
+use Rattle.model.proofs.ways.Views.{view-acts, view-looks, view-split}
 use Rattle.effect.specs.Effect.{effectOf}
 use Rattle.machine.specs.Run.{Bytes}
 use Rattle.record.specs.Written.{faultBytes}
@@ -50,6 +51,10 @@ pub went-edge : (s k : ℕ) (y : Way) (b t : ℕ) (h : Heap) (a : Answer) (E : E
       updates = map (updateOf k (y .weight)) (segments h);
     } ≡ E
 went-edge s k y b t h a E e q = head-eq-of-cons-eq (sym (ap (edgeBy s k y) e) ∙ q)
+
+-- the same guards, in numbers
+pub guards-as : {gs fs : List Guard} {g f : Guards} → gs ≡ fs → g ≡ f → Coded fs f → Coded gs g
+guards-as p q c = rw (p, q) c
 
 -- the fault that a number is
 fault-of : (f : ℕ) → (f ≡ 0 → ⊥) → f ≤ 3 → (x : Fault) × (faultNumber x ≡ f) × ((g : Heap) → effectOf f g ≡ fault x)
@@ -82,7 +87,7 @@ module _ {l : List ℕ} {d : Decoded} {s : ℕ} {h : Heap} {y : declared.Way} (R
       (room-of (action (opIn d)) h k (List·getD-eq-default (h .slots) unused (omega arith)))
       (λ q. R .pick))))
 
-  pub guards-is : guardBytes (wayIn y h .guards) ≡ guardsBytes (y .guards)
+  pub guards-is : Coded (wayIn y h .guards) (y .guards)
   guards-is = bool-case (y .split) (λ e. rw e (R .guards)) (λ e. rw e (R .guards))
 
   pub weight-way : wayIn y h .weight ≡ weightBy (y .split) (y .node .0) k
@@ -107,7 +112,7 @@ fault-leaves {l = l} {d = d} {y = y} {us = us} F m s h R E e =
     let q = fault-edge s k w (x .0) (stepBy st k w) E step e in
     record {
       branch = m .0 ∙ ap (λ (z : Edge). z .branchNo) q;
-      guards = ap (λ (z : Edge). guardBytes (z .guards)) (sym q) ∙ guards-is R ∙ ap guardsBytes (sym (m .1));
+      guards = guards-as (ap (λ (z : Edge). z .guards) (sym q)) (m .1) (guards-is R);
       target = m .3 ∙ ap₂ faultBytes (statement-is R) (sym (x .1)) ∙ ap (λ (z : Edge). locRecord (z .to)) q;
       number = m .2 ∙ ap (λ (z : Edge). length (z .updates)) q;
       few = omega (arith, m .2);
@@ -134,7 +139,8 @@ module _ {l : List ℕ} {d : Decoded} {y : declared.Way} {image : Bytes} {visit 
         let v = y .node .0 in
         let below = node-below R e in
         let is = nodes-is R in
-        rw is (tail-used (opIn d) k v k h left (view-split (action (opIn d)) v k h ∙ R .isNode e)
+        rw is (tail-used (opIn d) k v k h left
+        (subst (λ x. Views x v) (sym (view-split (action (opIn d)) v k h)) (R .isNode e))
         (ne-eqb k v (λ q. omega arith)) (node-used R e)
         (sym (ap (λ (x : Heap). carryOut (opIn d) k x) (let q : wayIn y h .heap ≡ splitHeap v k h = rw e in q))
         ∙ outcome-is ∙ ap (λ i. effectOf i left) z))
@@ -194,7 +200,7 @@ module _ {l : List ℕ} {d : Decoded} {y : declared.Way} {image : Bytes} {visit 
       ∙ ap (codes k) (sym (weight-way R)) in
       record {
         branch = ap (λ (i : Edge). i .branchNo) q;
-        guards = ap (λ (i : Edge). guardBytes (i .guards)) (sym q) ∙ guards-is R;
+        guards = guards-as (ap (λ (i : Edge). i .guards) (sym q)) refl (guards-is R);
         target = te ∙ L .target a ∙ ap (λ i. locRecord (at i (shape left))) ae ∙ ap (λ (i : Edge). locRecord (i .to)) q;
         number = L .number ∙ sym (length-map (segments left) (updateOf k (yy .weight)))
             ∙ ap (λ (i : Edge). length (i .updates)) q;

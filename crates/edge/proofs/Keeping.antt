@@ -2,19 +2,20 @@
 -- the run would be done with the heap as it is, which is its own shape, and each counter is carried.
 use Prim.Native.Nat.{ℕ, _+_, _^_, _≤_, _<_}
 use mathlib.Core.Path.{_≡_, refl, subst, sym, ap, ap₂, _∙_}
-use mathlib.Core.Bool.{true, false, cond}
+use mathlib.Core.Bool.{_&&_, true, false, cond}
 use mathlib.Core.List.{List, [], _∷_, map, map-map}
 use native.Mathlib.Omega.{arith}
+use lib.Dec.{leb}
 use lib.ListN.{drop, getD, length, length-map, set, take}
 use lib.Seq.{getD-take, length-take-le}
-use borrow.Author.Tests.{eq-eqb, lt-leb, ne-eqb}
+use borrow.Author.Tests.{eq-eqb, ne-eqb}
 use Rattle.model.specs.Base.{numbers}
 use Rattle.model.specs.Edges.{Edge, at, stepBy, updateOf}
 use Rattle.model.specs.Heap.{Heap}
 use Rattle.model.specs.Image.{heapOf}
 use Rattle.model.specs.Machine.{action, answerOf, branch, carryOut, done, effect, fault, keep, kind, leak, target}
-use Rattle.model.specs.Notions.{Canon}
-use Rattle.model.specs.Records.{byte, guardBytes, locRecord, shapeOf, updateCode}
+use Rattle.model.specs.Notions.{Canon, Views}
+use Rattle.model.specs.Records.{byte, locRecord, shapeOf, updateCode}
 use Rattle.model.specs.Shape.{Seg, segments}
 use Rattle.model.specs.Structs.{keepsAt, opIn, stmtIn}
 use Rattle.model.specs.declared.Decoded.{Decoded}
@@ -24,7 +25,6 @@ use Rattle.model.proofs.lists.Logic.{bool-case, clash}
 use Rattle.model.proofs.lists.Numbers.{in-numbers, length-numbers, read-all}
 use Rattle.model.proofs.records.Ops.{op-stops}
 use Rattle.model.proofs.shapes.Canon.{canon-fold, canon-segments, single}
-use Rattle.model.proofs.ways.Ways.{no-view}
 use Rattle.effect.proofs.Laws.{answer-fault}
 use Rattle.effect.specs.Effect.{TestFault, effectOf}
 use Rattle.cell_sum.proofs.Codes.{segment-update}
@@ -35,7 +35,7 @@ use Rattle.way.proofs.Through.{view-keeps}
 use Rattle.way.specs.Way.{wayIn}
 use Rattle.way.specs.declared.Way.{Way}
 use Rattle.edge.specs.Edge.{KeepsShape, LeavesBy}
-use Rattle.edge.proofs.Edges.{Faults, guards-is, step-way, went-edge}
+use Rattle.edge.proofs.Edges.{Faults, guards-as, guards-is, step-way, went-edge}
 use Rattle.shape_run.proofs.Running.{branch-pointers}
 
 -- ---- ops that are not run
@@ -46,7 +46,8 @@ module _ {l : List ℕ} {d : Decoded} {s : ℕ} {h : Heap} {y : Way} (R : WayRea
   still-whole : y .split ≡ false
   still-whole =
       bool-case (y .split)
-      (λ q. no-view (view-keeps (d .op) (d .u .0) (d .w .0) h (R .statement .known) stays ∙ R .isNode q))
+      (λ q. absurd (subst (λ x. Views x (y .node .0))
+      (sym (view-keeps (d .op) (d .u .0) (d .w .0) h (R .statement .known) stays)) (R .isNode q)))
       (λ q. q)
 
   still-heap : wayIn y h .heap ≡ h
@@ -122,7 +123,7 @@ keep-leaves {l = l} {d = d} {y = y} t us a b le keeps room be ae te codes s h R 
     length-map (segments h) update ∙ ap length ss ∙ length-map (numbers 0 k) single ∙ length-numbers 0 k in
     record {
       branch = ap (λ (x : Edge). x .branchNo) q;
-      guards = ap (λ (x : Edge). guardBytes (x .guards)) (sym q) ∙ guards-is R;
+      guards = guards-as (ap (λ (x : Edge). x .guards) (sym q)) refl (guards-is R);
       target = te ∙ ap (λ x. set x 1 a) (R .isRecord)
           ∙ ap₂ (λ i x. locRecord (at i x)) ae (sym (canon-fold h (R .isShape)))
           ∙ ap (λ (x : Edge). locRecord (x .to)) q;
@@ -135,9 +136,9 @@ keep-leaves {l = l} {d = d} {y = y} t us a b le keeps room be ae te codes s h R 
     }
 
 -- any other op that goes may change the heap
-pub changes-op : {l : List ℕ} {s : ℕ} {h : Heap} {y : Way} (d : Decoded) → WayReady l d s h y → d .op < 8
-    → keepsAt (d .op) ≡ false
-changes-op d R lt =
+pub changes-op : {l : List ℕ} {s : ℕ} {h : Heap} {y : Way} (d : Decoded) → WayReady l d s h y
+    → leb 8 (d .op) && leb (d .op) 11 ≡ false → keepsAt (d .op) ≡ false
+changes-op d R n =
     let z : d .op ≡ 0 → ⊥ = λ e. clash (op-stops (d .op) (d .u .0) (d .w .0) (R .statement .known)
     ∙ eq-eqb (d .op) 0 e) (R .goes) in
-    rw (ne-eqb (d .op) 0 z, lt-leb 8 (d .op) lt)
+    rw (ne-eqb (d .op) 0 z, n)

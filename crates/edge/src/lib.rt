@@ -160,7 +160,7 @@ pub fn one_edge(
     requires { ⌜ EdgeReady (now location) d way (now target) (now updates) ⌝ }
     ensures { λ r. ⌜ LeavesBy (now (location .entry)) d way (now (target .exit)) (now (updates .exit)) r ⌝ }
 {
-    if 8 <= d.op {
+    if (8 <= d.op) & (d.op <= 11) {
         still_edge(location, d, way, target, updates)
     } else if loss::surely_lost(location, d, way) {
         fault_edge(location, 3, way.guards, target)

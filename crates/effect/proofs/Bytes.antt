@@ -22,7 +22,7 @@ use Rattle.model.proofs.lists.Lists.{getD-map, map-set}
 use Rattle.model.proofs.expansion.Writes.{slot-clash}
 use Rattle.branch.proofs.Bytes.{ptr-byte}
 use Rattle.model.specs.declared.Decoded.{Decoded}
-use Rattle.effect.specs.Effect.{Access, EffectReady, Named, HasEffect, assigned, loaded, stored, wipeByte}
+use Rattle.effect.specs.Effect.{Access, EffectReady, Named, HasEffect, assigned, loaded, relinked, stored, wipeByte}
 
 -- ---- reading
 
@@ -125,14 +125,14 @@ access-cell v p q = record { faults = λ z. absurd (z refl); notNull = λ z. p; 
 -- a fault leaves the image
 pub load-fault : (ps cs : List ℕ) (u v r : ℕ) → Access v r → (r ≡ 0 → ⊥) → HasEffect (loaded u (valOf v)) ps cs r ps cs
 load-fault ps cs u v r a z = record {
-  outcome = a .faults z (heapOf ps cs) (λ c. setPtr u (held (next (heapOf ps cs) c)) (heapOf ps cs));
+  outcome = a .faults z (heapOf ps cs) (λ c. done (setPtr u (held (next (heapOf ps cs) c)) (heapOf ps cs)));
   stays = λ y. (refl, refl);
 }
 
 pub store-fault : (ps cs : List ℕ) (a v r : ℕ) → Access a r → (r ≡ 0 → ⊥)
     → HasEffect (stored (valOf a) (valOf v)) ps cs r ps cs
 store-fault ps cs a v r b z = record {
-  outcome = b .faults z (heapOf ps cs) (λ c. putSlot c (holds (valOf v)) (heapOf ps cs));
+  outcome = b .faults z (heapOf ps cs) (λ c. done (putSlot c (holds (valOf v)) (heapOf ps cs)));
   stays = λ y. (refl, refl);
 }
 
@@ -163,6 +163,23 @@ store-cell ps cs a v f b z n y =
           (put-byte cs a v (n p q .0) ∙ ap (put (map cellSlot cs) a) (used-slot v y)));
       stays = λ o. absurd (o refl);
     }
+
+-- a relink: the fault of its reading, or a store of the byte that is read
+pub relink-fault : (ps cs : List ℕ) (a v r : ℕ) → Access v r → (r ≡ 0 → ⊥)
+    → HasEffect (relinked (valOf a) (valOf v)) ps cs r ps cs
+relink-fault ps cs a v r b z = record {
+  outcome = b .faults z (heapOf ps cs) (λ d. stored (valOf a) (held (next (heapOf ps cs) d)) (heapOf ps cs));
+  stays = λ y. (refl, refl);
+}
+
+pub relink-cell : (ps cs : List ℕ) (a v f r : ℕ) (qs ds : List ℕ) → Access v f → f ≡ 0 → Named cs v
+    → HasEffect (stored (valOf a) (valOf (getD cs v 0))) ps cs r qs ds
+    → HasEffect (relinked (valOf a) (valOf v)) ps cs r qs ds
+relink-cell ps cs a v f r qs ds b z n x =
+    let p = b .notNull z in
+    let q = b .notUndef z in
+    let k = n p q in
+    as-effect x (rw (val-cell v p q, next-byte ps cs v (k .0), used-slot (getD cs v 0) (k .1)))
 
 -- ---- a freed cell
 

@@ -15,12 +15,11 @@ use Rattle.model.specs.Records.{valByte, valOf, slotByte}
 use Rattle.model.specs.Image.{cellSlot, heapOf, pastEnd}
 use Rattle.model.proofs.lists.Logic.{bool-case, mem-here, mem-one}
 use Rattle.model.proofs.records.Bytes.{byte-back}
-use Rattle.model.specs.Notions.{ClosedHeap, seg, Alike, Expansion, Room, both-bad, both-ok, img, sg-after, Alone}
+use Rattle.model.specs.Notions.{ClosedHeap, seg, Alike, Expansion, Room, both-bad, both-ok, img, sg-after}
 use Rattle.model.proofs.expansion.Effects.{effect-alike}
 use Rattle.model.proofs.expansion.Facts.{test-closed, closed-test}
 use Rattle.model.proofs.lists.Lists.{map-back}
 use Rattle.effect.specs.Effect.{effectOf}
-use Rattle.model.specs.Edges.{View, view, oneNode, noNode}
 use Rattle.model.proofs.expansion.Kinds.{leaves-no-leak, effect-leaves, SlotsAre, leaves-slots}
 
 -- ---- bytes
@@ -65,17 +64,12 @@ alike-closed : (sg : ℕ → Seg) (a b : Effect) → Alike sg a b → (g : Heap)
 alike-closed sg a b both-bad g e = done-fault e refl
 alike-closed sg a b (both-ok {W = W} X) g e = subst ClosedHeap (done-inj e) (X .closed, X .body .closed)
 
--- each node of it is one cell
-alone-id : (y : View) → Alone y (λ i. seg i [])
-alone-id noNode = tt
-alone-id (oneNode n) = refl
-
 pub effect-closed : (a : Action) (n : ℕ) (h g : Heap) → closed h ≡ true → Room a h n → perform a n h ≡ done g
     → closed g ≡ true
 effect-closed a n h g c r e =
     closed-test g
     (alike-closed (sg-after a n n (λ i. seg i [])) (perform a n h) (perform a n h)
-    (effect-alike h (λ i. seg i []) h (itself h (test-closed h c)) a n n (alone-id (view a h)) r r) g e)
+    (effect-alike h (λ i. seg i []) h (itself h (test-closed h c)) a n n (λ i q. refl) r r) g e)
 
 -- ---- the number of slots
 

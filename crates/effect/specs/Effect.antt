@@ -41,7 +41,7 @@ Named cs b = (b ≡ 0xfe → ⊥) → (b ≡ 0xff → ⊥) → (b < length cs) �
 
 -- r is the fault of reading or writing through the byte v, 0 where that is a cell
 pub record Access (v r : ℕ) : Type 0 where
-  pub faults : (r ≡ 0 → ⊥) → (h : Heap) (k : ℕ → Heap) → effectOf r h ≡ through (valOf v) k
+  pub faults : (r ≡ 0 → ⊥) → (h : Heap) (k : ℕ → Effect) → effectOf r h ≡ through (valOf v) k
   pub notNull : r ≡ 0 → v ≡ 0xfe → ⊥
   pub notUndef : r ≡ 0 → v ≡ 0xff → ⊥
 
@@ -65,11 +65,15 @@ assigned u v h = done (setPtr u v h)
 
 -- pointer u becomes the next of the cell v
 abbrev pub loaded : ℕ → Val → Heap → Effect
-loaded u v h = through v (λ c. setPtr u (held (next h c)) h)
+loaded u v h = through v (λ c. done (setPtr u (held (next h c)) h))
 
 -- the next of the cell a becomes v
 abbrev pub stored : Val → Val → Heap → Effect
-stored a v h = through a (λ c. putSlot c (holds v) h)
+stored a v h = through a (λ c. done (putSlot c (holds v) h))
+
+-- the next of the cell a becomes the next of the cell b, which is looked at first
+abbrev pub relinked : Val → Val → Heap → Effect
+relinked a b h = through b (λ d. stored a (held (next h d)) h)
 
 -- a value's byte once cell c is freed
 abbrev pub wipeByte : ℕ → ℕ → ℕ

@@ -10,7 +10,7 @@ ghost use Rattle.model.specs.Base.{mostCells};
 ghost use Rattle.model.specs.Machine.{effect, freeVal, make, perform};
 ghost use Rattle.model.specs.Records.{valOf};
 ghost use Rattle.model.specs.Structs.{opIn};
-ghost use Rattle.effect.specs.Effect.{EffectReady, Access, Compares, Named, HasEffect, TestFault, TestReady, assigned, loaded, stored, wipeByte};
+ghost use Rattle.effect.specs.Effect.{EffectReady, Access, Compares, Named, HasEffect, TestFault, TestReady, assigned, loaded, relinked, stored, wipeByte};
 
 // Reading or writing through the value v: fault 1 through null, 2 through undefined, else 0.
 fn access_fault(v: u8) -> u8
@@ -63,6 +63,22 @@ fn store_through(at: u8, v: u8, cells: &mut [u8]) -> u8
     let c = at as usize;
     cells[c] = v;
     0
+}
+
+// The successor of the cell that the value at names becomes that of the cell that the value from names, which is looked
+// at first.
+fn relink_through(at: u8, from: u8, cells: &mut [u8]) -> u8
+    requires { ⌜ Named (now cells) at × Named (now cells) from ⌝ }
+    ensures { λ r. ⌜ ((ps : List ℕ) → HasEffect (relinked (valOf at) (valOf from)) ps (now (cells .entry))
+        r ps (now (cells .exit))) ⌝ }
+{
+    let fault = access_fault(from);
+    if fault != 0 {
+        return fault;
+    }
+    let c = from as usize;
+    let successor = cells[c];
+    store_through(at, successor, cells)
 }
 
 // The pointer u holds the cell x, whose successor is undefined.
@@ -155,6 +171,7 @@ pub fn run_effect(d: Decoded, x: usize, pointers: &mut [u8], cells: &mut [u8]) -
         5 => store_through(at, v, cells),
         6 => new_cell(d.u, x, pointers, cells),
         7 => free_at(at, pointers, cells),
+        12 => relink_through(at, v, cells),
         _ => test_fault(d, &pointers[..]),
     }
 }

@@ -8,12 +8,13 @@ use lib.Dec.{ltb}
 use Rattle.model.specs.Records.{byte, fieldsS, targetsS, refusalS, checksS, opCount}
 use Rattle.model.proofs.records.Checks.{given-failed, pass-none}
 
-pub or-four : (a b c d : Bool) → ((a || b) || c) || d ≡ a || (b || (c || (d || false)))
-or-four true b c d = refl
-or-four false true c d = refl
-or-four false false true d = refl
-or-four false false false true = refl
-or-four false false false false = refl
+pub or-five : (a b c d e : Bool) → (((a || b) || c) || d) || e ≡ a || (b || (c || (d || (e || false))))
+or-five true b c d e = refl
+or-five false true c d e = refl
+or-five false false true d e = refl
+or-five false false false true e = refl
+or-five false false false false true = refl
+or-five false false false false false = refl
 
 module _ (n : ℕ) (r : List ℕ) where
   pub refusal-5 : ltb (byte r 1) opCount ≡ false → 5 ≡ refusalS n r

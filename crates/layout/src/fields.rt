@@ -46,13 +46,13 @@ pub fn all_values(bytes: &[u8], k: u8) -> bool
 pub fn uses_u(op: u8) -> bool
     ensures { λ r. ⌜ r ≡ usesU op ⌝ }
 {
-    (1 <= op) & (op <= 9)
+    ((1 <= op) & (op <= 9)) | (op == 12)
 }
 
 pub fn uses_w(op: u8) -> bool
     ensures { λ r. ⌜ r ≡ usesW op ⌝ }
 {
-    (op == 2) | (op == 3) | (op == 5) | (op == 9)
+    (op == 2) | (op == 3) | (op == 5) | (op == 9) | (op == 12)
 }
 
 pub fn uses_first(op: u8) -> bool

@@ -9,12 +9,13 @@ use lib.ListN.{length}
 use borrow.Author.Tests.{le-ltb, lt-ltb, ltb-false}
 use Rattle.model.specs.Base.{mostEdges, mostLocations, placeOf}
 use Rattle.model.specs.Edges.{Loc, Edge, sameLoc, at, failed}
-use Rattle.model.specs.Records.{locRecord, byte}
+use Rattle.model.specs.Notions.{SmallGuards}
+use Rattle.model.specs.Records.{GuardCode, locRecord, byte}
 use Rattle.model.specs.Translate.{Link, Listing, linkRecord, places, grown}
-use Rattle.model.proofs.records.EdgeBack.{edge-length}
+use Rattle.model.proofs.records.EdgeBack.{code-low, edge-length}
 use Rattle.model.specs.Listings.{WritableLoc}
 use Rattle.model.proofs.records.ReadBack.{record-length}
-use Rattle.record.specs.Written.{edgeBytes, placed}
+use Rattle.record.specs.Written.{BranchFits, edgeBytes, placed}
 use Rattle.record.proofs.Bytes.{edge-record}
 use Rattle.search.specs.Search.{foundAt}
 use Rattle.search.proofs.Found.{found-location}
@@ -160,3 +161,14 @@ location-tag (failed s f) = refl
 
 pub target-tag : {e : Edge} {r us : List ℕ} {m : EdgeMade} → IsEdge e r us m → byte r 0 ≡ 0x4c
 target-tag {e} B = ap (λ x. byte x 0) (B .target) ∙ location-tag (e .to)
+
+-- branch and second guard fit byte 1
+pub branch-fits : {e : Edge} {r us : List ℕ} {m : EdgeMade} → IsEdge e r us m → e .branchNo ≤ 1
+    → SmallGuards 12 (e .guards) → BranchFits (m .branch) (m .guards .second)
+branch-fits {e} B b G =
+    let l = code-low (e .guards) (λ g i. omega (arith, G .known g i)) 1 in
+    let s = B .guards .1 in (
+      omega (arith, B .branch),
+      omega (arith, l .0, ap (λ (x : GuardCode). x .test) s),
+      omega (arith, l .1, ap (λ (x : GuardCode). x .node) s),
+    )

@@ -11,7 +11,7 @@ use Rattle.model.specs.Records.{locRecord}
 use Rattle.model.specs.Structs.{IsEdge}
 use Rattle.model.specs.Translate.{Link, Listing, linkRecord, tableOf, places, grown}
 use Rattle.model.specs.Listings.{WritableLoc}
-use Rattle.model.specs.Notions.{In}
+use Rattle.model.specs.Notions.{In, SmallGuards}
 use Rattle.model.specs.declared.Counts.{Counts}
 use Rattle.model.specs.declared.EdgeMade.{EdgeMade}
 use Rattle.listing.specs.declared.Grown.{Grown}
@@ -34,6 +34,8 @@ pub record GrowReady (ls es : List ℕ) (c : Counts) (i : ℕ) (m : EdgeMade) (r
   pub held : Holds list ls es c
   pub edge : Edge
   pub good : WritableLoc (edge .to)
+  pub branch : edge .branchNo ≤ 1
+  pub guarded : SmallGuards mostNodes (edge .guards)
   pub bytes : IsEdge edge r us m
   pub low : i < 65536
   pub wide : length r ≡ recordSize

@@ -8,15 +8,14 @@ use mathlib.Core.Bool.{Bool, true, false, cond}
 use mathlib.Core.List.{List, [], _∷_, _++_, map}
 use native.Mathlib.Omega.{arith}
 use native.Mathlib.Numerals.{add-one}
-use lib.ListN.{List·getD-eq-default, drop, drop-of-length-le, getElem?, length, length-map}
+use lib.ListN.{List·getD-eq-default, drop, drop-of-length-le, getElem?, length}
 use Rattle.model.specs.Base.{joined}
 use Rattle.model.specs.Heap.{Heap, next, unused}
-use Rattle.model.specs.Machine.{Effect, Kind, accepts, action, acts, answerOf, branch, carryOut, done, entry, fault, halts, tests, isStop, kind, picks}
-use Rattle.model.specs.Edges.{Edge, Loc, View, Way, at, edgeBy, edgesAt, failed, noNode, oneNode, picksOf, splitHeap, stepBy, view, viewVal, ways, waysOf, whole}
+use Rattle.model.specs.Machine.{Effect, accepts, action, answerOf, branch, carryOut, done, entry, fault, isStop, kind}
+use Rattle.model.specs.Edges.{Edge, Loc, Way, at, edgeBy, edgesAt, failed, splitHeap, stepBy, view, ways}
 use Rattle.model.specs.Listings.{GoodLoc, WritableLoc}
 use Rattle.model.specs.Notions.{In}
-use Rattle.model.specs.Records.{valOf}
-use Rattle.model.specs.Structs.{Writes, opIn, stmtIn}
+use Rattle.model.specs.Structs.{opIn, stmtIn}
 use Rattle.model.specs.declared.Decoded.{Decoded}
 use Rattle.model.proofs.expansion.Step.{step-go}
 use Rattle.model.proofs.lists.Lists.{joined-in, map-in, some-inj, some-none}
@@ -25,9 +24,9 @@ use Rattle.model.proofs.listings.Reached.{shape-edge}
 use Rattle.model.proofs.records.ReadBack.{canon-writable}
 use Rattle.model.proofs.shapes.Same.{elem-in}
 use Rattle.model.proofs.ways.Picks.{accept-room, room-of}
-use Rattle.model.proofs.ways.Ways.{view-looks}
+use Rattle.model.proofs.ways.Views.{view-looks}
 use Rattle.way.specs.Ready.{WayReady}
-use Rattle.way.specs.Way.{IsWay, wayBy, wayIn}
+use Rattle.way.specs.Way.{IsWay, IsWayOf, viewIn, wayBy, wayIn}
 use Rattle.way.specs.declared.Way as declared
 use Rattle.location_edges.specs.declared.Ways.{Ways}
 use Rattle.location_edges.specs.Added.{LocOk}
@@ -98,16 +97,6 @@ drop-elem [] j x e = some-none e
 drop-elem (a ∷ l) zero x e = ap (λ b. b ∷ l) (some-inj e)
 drop-elem (a ∷ l) (suc j) x e = drop-elem l j x e
 
-picks-few : (k : Kind) → length (picksOf k) ≤ 2
-picks-few halts = omega arith
-picks-few (acts a) = omega arith
-picks-few (tests u s) = omega arith
-picks-few picks = omega arith
-
-ways-few : (k : Kind) (v : View) (h : Heap) → length (waysOf k v h) ≤ 2
-ways-few k noNode h = omega (arith, picks-few k, length-map (picksOf k) (λ p. whole [] p h))
-ways-few k (oneNode n) h = omega arith
-
 module _ (s : ℕ) (d : Decoded) (h : Heap) where
   stop-makes : isStop (kind (opIn d)) ≡ true → (y : Way) → made s d h y ≡ []
   stop-makes e y =
@@ -145,12 +134,6 @@ module _ (s : ℕ) (d : Decoded) (h : Heap) where
 
 -- ---- way j of a location
 
--- y is way j, as `way_at` gives it
-abbrev pub WayAt : ℕ → ℕ → declared.Way → Type 0
-WayAt v j y =
-    IsWay v j y
-    × ((j ≤ 1 → (y .pick ≤ 1) × Writes (y .guards)) × (y .split ≡ true → viewVal (valOf v) ≡ oneNode (y .node .0)))
-
 -- it makes an edge, to a good location, and the edges from way j on begin with that
 pub record Next (l : List ℕ) (d : Decoded) (n s : ℕ) (h : Heap) (j : ℕ) (y : declared.Way) : Type 0 where
   pub edge : Edge
@@ -167,11 +150,11 @@ loc-writable n (at s h) g = canon-writable h (g .0 .0) (g .0 .1)
 loc-writable n (failed s f) g = tt
 
 module _ {l : List ℕ} {d : Decoded} {n s : ℕ} {h : Heap} (A : AtShape l d n s h) (w : Ways) (C : Counted d h w)
-    (j : ℕ) (lt : j < w .count) (y : declared.Way) (Y : WayAt (w .value) j y) where
-  few : j ≤ 1
-  few =
-      let most = ways-few (kind (opIn d)) (view (action (opIn d)) h) h in
-      omega (arith, count-is s d h w C, ap length (makers-are s d h w C j lt))
+    (j : ℕ) (lt : j < w .count) (y : declared.Way) (Y : IsWay (viewIn (w .view)) j y) where
+  is-way-of : IsWayOf (view (action (opIn d)) h) j y (kind (opIn d)) h
+  is-way-of =
+      subst (λ v. IsWay v j y) (C .looks) Y (kind (opIn d)) h
+      (omega (arith, count-is s d h w C, ap length (makers-are s d h w C j lt)))
 
   ready : WayReady l d s h y
   ready = record {
@@ -181,17 +164,13 @@ module _ {l : List ℕ} {d : Decoded} {n s : ℕ} {h : Heap} (A : AtShape l d n 
     statement = A .statement .fields;
     low = omega (arith, A .low, A .statement .few);
     goes = goes-on s d h w C j lt;
-    pick = Y .1 .0 few .0;
-    guards = Y .1 .0 few .1;
-    isNode = λ e. sym (C .looks) ∙ Y .1 .1 e;
+    pick = is-way-of .pick;
+    guards = is-way-of .guards;
+    isNode = is-way-of .isNode;
   }
 
   is-way : getElem? (ways (opIn d) h) j ≡ some (wayIn y h)
-  is-way =
-      let k = kind (opIn d) in
-      let below : j < length (ways (opIn d) h) =
-      omega (arith, count-is s d h w C, ap length (makers-are s d h w C j lt)) in
-      subst (λ v. j < length (waysOf k v h) → getElem? (waysOf k v h) j ≡ some (wayIn y h)) (C .looks) (Y .0 k h) below
+  is-way = is-way-of .isWay
 
   pub next-way : Next l d n s h j y
   next-way =
@@ -202,15 +181,25 @@ module _ {l : List ℕ} {d : Decoded} {n s : ℕ} {h : Heap} (A : AtShape l d n 
       joined-in E (made s d h (wayIn y h)) (map (made s d h) all)
       (map-in (made s d h) (wayIn y h) all (elem-in all j (wayIn y h) is-way))
       (rw (M .1) (inl refl)) in
+      let S = shape-edge s (stmtIn d) h (A .isShape) (A .six) E isIn in
       let fine : LocOk n (E .to) =
-      loc-fine n (E .to) (shape-edge s (stmtIn d) h (A .isShape) (A .six) E isIn .1) (M .2) in
+      loc-fine n (E .to) (S .1) (M .2) in
       let m = makers-are s d h w C j lt in
       let from : drop j (makers d h) ≡ wayIn y h ∷ drop (j + 1) (makers d h) =
       ap (drop j) m ∙ drop-elem all j (wayIn y h) is-way
       ∙ ap (λ k. wayIn y h ∷ drop k all) (sym (add-one j)) ∙ ap (λ x. wayIn y h ∷ drop (j + 1) x) (sym m) in
       record {
         edge = E;
-        isEdge = record { ready = ready; made = M .1; good = loc-writable n (E .to) fine };
+        isEdge = record {
+          ready = ready;
+          made = M .1;
+          good = loc-writable n (E .to) fine;
+          branch = S .0 .branch;
+          guarded = record {
+            few = S .0 .guarded .few;
+            known = λ g i. omega (arith, S .0 .guarded .known g i, canon-writable h (A .isShape) (A .six) .few);
+          };
+        };
         fine = fine;
         rest = ap (λ x. joined (map (made s d h) x)) from ∙ ap (λ x. x ++ edgesFrom s d h (j + 1)) (M .1);
       }

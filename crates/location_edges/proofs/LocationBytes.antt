@@ -6,19 +6,19 @@ use mathlib.Core.List.{List}
 use native.Mathlib.Omega.{arith}
 use lib.ListN.{drop, length, replicate, take}
 use Rattle.model.specs.Base.{all}
-use Rattle.model.specs.Edges.{view, viewVal}
+use Rattle.model.specs.Edges.{view}
 use Rattle.model.specs.Heap.{Heap}
 use Rattle.model.specs.Image.{heapOf}
 use Rattle.model.specs.Listings.{Writable}
 use Rattle.model.specs.Machine.{action, kind}
-use Rattle.model.specs.Records.{byte, opOf, shapeOf, valOf, valueByte}
+use Rattle.model.specs.Records.{byte, opOf, shapeOf, valueByte}
 use Rattle.model.specs.Structs.{opIn}
 use Rattle.model.specs.declared.Decoded.{Decoded}
 use Rattle.model.proofs.lists.Logic.{clash}
 use Rattle.model.proofs.records.ReadBack.{canon-writable, location-length, location-shape}
 use Rattle.model.proofs.records.ShapeBack.{values-pass}
 use Rattle.way.proofs.Opened.{ready-heap}
-use Rattle.way.specs.Way.{OpenReady, wayNumber}
+use Rattle.way.specs.Way.{OpenReady, viewIn, wayNumber}
 use Rattle.location_edges.specs.declared.Ways.{Ways}
 use Rattle.location_edges.specs.LocationEdges.{AtShape, Counted}
 
@@ -46,13 +46,13 @@ module _ {l : List ℕ} {d : Decoded} {n s : ℕ} {h : Heap} (A : AtShape l d n 
       ready-heap l (replicate 6 0) (replicate 13 0) 0 0 false open-ready
       ∙ ap shapeOf (A .isRecord) ∙ location-shape s h writable
 
-  -- the value that the six pointers give, and the number of ways by it
+  -- what the six pointers give, and the number of ways by it
   pub counted : (w : Ways)
-      → ((cs : List ℕ) → viewVal (valOf (w .value)) ≡ view (action (opIn d)) (heapOf (take 6 (drop 4 l)) cs))
-      → ((u v : ℕ) (g : Heap) → w .count ≡ wayNumber (kind (opOf (d .op) u v)) (viewVal (valOf (w .value))) g)
+      → ((cs : List ℕ) → viewIn (w .view) ≡ view (action (opIn d)) (heapOf (take 6 (drop 4 l)) cs))
+      → ((u v : ℕ) (g : Heap) → w .count ≡ wayNumber (kind (opOf (d .op) u v)) (viewIn (w .view)) g)
       → Counted d h w
   counted w f g =
-      let looks : viewVal (valOf (w .value)) ≡ view (action (opIn d)) h =
+      let looks : viewIn (w .view) ≡ view (action (opIn d)) h =
       f (take (byte l 3) (drop 10 l)) ∙ ap (view (action (opIn d))) bytes-are in
       record {
         looks = looks;

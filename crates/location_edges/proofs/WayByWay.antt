@@ -11,6 +11,7 @@ use Rattle.model.specs.Structs.{stmtIn}
 use Rattle.model.specs.Translate.{Listing, addEdges, full, places}
 use Rattle.model.specs.declared.Counts.{Counts}
 use Rattle.model.specs.declared.Decoded.{Decoded}
+use Rattle.way.specs.Way.{IsWay, viewIn}
 use Rattle.way.specs.declared.Way.{Way}
 use Rattle.listing.specs.Grow.{GrownTo, Holds}
 use Rattle.listing.specs.declared.Grown.{Grown}
@@ -19,7 +20,7 @@ use Rattle.location_edges.specs.declared.Ways.{Ways}
 use Rattle.location_edges.specs.Added.{LocsOk}
 use Rattle.location_edges.specs.LocationEdges.{AreWays, AtShape, EdgesAdded, ShapeGiven, WayAdded, WayGiven}
 use Rattle.location_edges.proofs.Added.{add-full, add-step, more, more-fine}
-use Rattle.location_edges.proofs.EdgesByWay.{WayAt, edges-all, edges-none, edgesFrom, next-way}
+use Rattle.location_edges.proofs.EdgesByWay.{edges-all, edges-none, edgesFrom, next-way}
 
 -- The listing stands in the tables ls and es; adding all edges to t₀ gives the same as adding those left to it.
 pub record Left (n i cl ce : ℕ) (edges left : List Edge) (t₀ : Listing) (ls es : List ℕ) (c : Counts) : Type 0 where
@@ -52,7 +53,7 @@ module _ (l : List ℕ) (d : Decoded) (ls es : List ℕ) (c : Counts) (i : ℕ) 
         let L = X n s h t A H in
         rw (L .rest, edges-none s d h w (ways n s h A) j hi) (L .held, L .fine O)
 
-    module _ (lt : j < w .count) (y : Way) (Y : WayAt (w .value) j y) where
+    module _ (lt : j < w .count) (y : Way) (Y : IsWay (viewIn (w .view)) j y) where
       -- what is given to way j
       pub way-given : ShapeGiven l d ls es c i → WayGiven l d y ls′ es′ c′ i
       way-given S =

@@ -5,19 +5,19 @@ use mathlib.Core.Path.{_≡_}
 use mathlib.Core.Bool.{false}
 use mathlib.Core.List.{List, [], _∷_}
 use lib.ListN.{length}
-use Rattle.model.specs.Base.{mostStatements, pointerCount}
+use Rattle.model.specs.Base.{mostNodes, mostStatements, pointerCount}
 use Rattle.model.specs.Heap.{Heap}
 use Rattle.model.specs.Machine.{action, branch, isStop, kind, target}
-use Rattle.model.specs.Edges.{Edge, at, edgeBy, edgesAt, stepBy, view, viewVal}
-use Rattle.model.specs.Records.{locRecord, valOf}
+use Rattle.model.specs.Edges.{Edge, at, edgeBy, edgesAt, stepBy, view}
+use Rattle.model.specs.Records.{locRecord}
 use Rattle.model.specs.Structs.{DecodedOk, opIn, stmtIn}
 use Rattle.model.specs.Translate.{Listing}
-use Rattle.model.specs.Notions.{Canon}
+use Rattle.model.specs.Notions.{Canon, SmallGuards}
 use Rattle.model.specs.Listings.{WritableLoc}
 use Rattle.model.specs.declared.Counts.{Counts}
 use Rattle.model.specs.declared.Decoded.{Decoded}
 use Rattle.way.specs.Ready.{WayReady}
-use Rattle.way.specs.Way.{wayIn, wayNumber}
+use Rattle.way.specs.Way.{viewIn, wayIn, wayNumber}
 use Rattle.way.specs.declared.Way.{Way}
 use Rattle.listing.specs.Grow.{Holds, GrownTo}
 use Rattle.listing.specs.declared.Grown.{Grown}
@@ -43,6 +43,8 @@ pub record WayEdge (l : List ℕ) (d : Decoded) (s : ℕ) (h : Heap) (y : Way) (
   pub ready : WayReady l d s h y
   pub made : edgeBy s (length (h .slots)) (wayIn y h) (stepBy (stmtIn d) (length (h .slots)) (wayIn y h)) ≡ E ∷ []
   pub good : WritableLoc (E .to)
+  pub branch : E .branchNo ≤ 1
+  pub guarded : SmallGuards mostNodes (E .guards)
 
 -- the way makes some edge, and some listing is held
 pub record WayGiven (l : List ℕ) (d : Decoded) (y : Way) (ls es : List ℕ) (c : Counts) (i : ℕ) : Type 0 where
@@ -59,9 +61,9 @@ abbrev pub WayAdded : List ℕ → Decoded → Way → List ℕ → List ℕ →
 WayAdded l d y ls es c i ls′ es′ x =
     (s : ℕ) (h : Heap) (E : Edge) (t : Listing) → WayEdge l d s h y E → Holds t ls es c → GrownTo t i E ls′ es′ x
 
--- w has the value that the statement looks at, and the number of its ways
+-- w has what the statement looks at, and the number of its ways
 pub record Counted (d : Decoded) (h : Heap) (w : Ways) : Type 0 where
-  pub looks : viewVal (valOf (w .value)) ≡ view (action (opIn d)) h
+  pub looks : viewIn (w .view) ≡ view (action (opIn d)) h
   pub number : w .count ≡ wayNumber (kind (opIn d)) (view (action (opIn d)) h) h
 
 abbrev pub AreWays : List ℕ → Decoded → Ways → Type 0

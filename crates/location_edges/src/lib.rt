@@ -2,12 +2,13 @@
 use listing::Grown;
 use model::Counts;
 use model::Decoded;
+use way::Looked;
 use way::Way;
 ghost use Rattle.location_edges.specs.LocationEdges.{AreWays, EdgesAdded, ShapeGiven, WayAdded, WayGiven};
 
-// The ways out of a location: the value that its statement looks at, and how many there are.
+// The ways out of a location: what its statement looks at, and how many there are.
 struct Ways {
-    value: u8,
+    view: Looked,
     count: u8,
 }
 
@@ -48,7 +49,7 @@ fn add_ways(
     let mut held = counts;
     let mut j = 0;
     while j < ways.count {
-        let way = way::way_at(ways.value, j);
+        let way = way::way_at(ways.view, j);
         match add_way(d, location, way, locations, edges, held, i) {
             Grown::Added { counts: more } => {
                 held = more;
@@ -73,12 +74,12 @@ pub fn add_edges(
     ensures { λ r. ⌜ EdgesAdded (now (location .entry)) d (now (locations .entry)) (now (edges .entry)) counts i
         (now (locations .exit)) (now (edges .exit)) r ⌝ }
 {
-    let value = way::view(d, &location[4..10]);
-    let count = way::way_count(d.op, value);
+    let view = way::view(d, &location[4..10]);
+    let count = way::way_count(d.op, view);
     add_ways(
         d,
         location,
-        Ways { value, count },
+        Ways { view, count },
         locations,
         edges,
         counts,

@@ -12,22 +12,23 @@ use Rattle.model.specs.Records.{byte, shapeOf, valByte, valOf}
 use Rattle.model.proofs.records.Bytes.{byte-back, val-cell}
 use Rattle.model.proofs.expansion.Effects.{closed-ptr}
 use Rattle.model.proofs.lists.Lists.{getD-map, some-inj, some-none}
-use Rattle.model.proofs.lists.Logic.{clash, bool-case, eq-case}
+use Rattle.model.proofs.lists.Logic.{bool-case, eq-case}
 use Rattle.model.proofs.visits.Order.{used-below}
-use Rattle.model.specs.Notions.{Closed, Used, AllClosed}
-use Rattle.model.proofs.expansion.Writes.{holds-inj}
+use Rattle.model.specs.Notions.{Closed, Used, Views, AllClosed}
+use Rattle.model.proofs.expansion.Writes.{cell-inj, holds-inj}
 use Rattle.model.specs.declared.Decoded.{Decoded}
 use Rattle.way.specs.Ready.{WayReady}
 use Rattle.way.specs.declared.Way.{Way}
-use Rattle.way.proofs.Ready.{location-wide, node-used, nodes-few, nodes-is, shape-is}
+use Rattle.way.proofs.Ready.{location-wide, node-below, node-used, nodes-few, nodes-is, shape-is}
 use Rattle.loss.specs.Loss.{AloneHolds, Leaks, Overwrites, cutsAt}
 use Rattle.loss.proofs.Ops.{Reads, copies, cuts, cuts-op, follows, neither, reads, reads-op, sets, sets-op}
 use mathlib.Core.Option.{some}
-use Rattle.model.specs.Machine.{Source, Action, action, point, keep, valueOf, perform, from, fault, leak, nil, follow, link, held, make, release, compare, stay}
+use Rattle.model.specs.Machine.{Source, Action, action, point, keep, valueOf, perform, from, fault, leak, nil, follow, link, held, make, release, compare, splice, stay}
 use Rattle.model.proofs.expansion.Unheld.{free-leaks, NoNext, split-used, split-none, set-leaks, write-leaks, held-other, new-leaks}
-use Rattle.model.specs.Edges.{view, splitHeap, oneNode}
+use Rattle.model.specs.Edges.{splitHeap, twoNodes, view}
 use Rattle.model.specs.Structs.{keepsAt, opIn}
-use Rattle.model.proofs.expansion.Splits.{view-is}
+use Rattle.model.proofs.expansion.Splits.{pair-is, pair-view, view-is}
+use Rattle.model.proofs.ways.Relinks.{split-leaks}
 
 null-cell : {c : ℕ} → _≡_ {A = Val} null (cell c) → ⊥
 null-cell {c = c} e = let z : _≡_ {A = ℕ} 0 1 = cc in omega arith
@@ -48,22 +49,23 @@ module _ {l : List ℕ} {d : Decoded} {s : ℕ} {h : Heap} {y : Way} (R : WayRea
   abbrev v : ℕ
   v = y .node .0
 
-  -- what a pointer holds before the split it holds after it
-  cut-run : (a : Action) → cuts a ≡ true → view a h ≡ oneNode v → keep (perform a k (splitHeap v k h)) ≡ fault leak
-  cut-run stay c e = clash c refl
-  cut-run (compare u s) c e = clash c refl
-  cut-run (point i x) c e = clash c refl
-  cut-run (follow i j) c e = clash c refl
-  cut-run (link i x) c e =
-      rw (view-is (ptr h i) v e)
+  -- what a pointer holds before the split it holds after it; u holds the node that is split
+  cut-run : (a : Action) (u : ℕ) → cuts a ≡ some u → ptr h u ≡ cell v → Views (view a h) v
+      → keep (perform a k (splitHeap v k h)) ≡ fault leak
+  cut-run stay u c e q = some-none c
+  cut-run (compare i x) u c e q = some-none c
+  cut-run (point i x) u c e q = some-none c
+  cut-run (follow i j) u c e q = some-none c
+  cut-run (link i x) u c e q =
+      rw (view-is (ptr h i) v q)
       (write-leaks h (R .isShape .closed) v (node-used R sp) (valueOf x (splitHeap v k h))
       (value-closed x (splitHeap v k h) h refl (R .isShape .closed .0)))
-  cut-run (make i) c e = clash c refl
-  cut-run (release i) c e = rw (view-is (ptr h i) v e) (free-leaks h (R .isShape .closed) v (node-used R sp))
-
-pub cut-leaks : (l : List ℕ) (d : Decoded) (y : Way) → cutsAt (d .op) ≡ true → y .split ≡ true → Leaks l d y
-cut-leaks l d y c e s h R =
-    rw e (cut-run R e (action (opIn d)) (cuts-op (d .op) (d .u .0) (d .w .0) (R .statement .known) ∙ c) (R .isNode e))
+  cut-run (splice i j) u c e q =
+      let p = pair-is (ptr h i) (ptr h j) v q in
+      let f : p .first ≡ v = cell-inj (sym (p .firstIs) ∙ ap (ptr h) (some-inj c) ∙ e) in
+      split-leaks (splice i j) k v (p .second) h (R .isShape .closed) (pair-view p ∙ ap (λ n. twoNodes n (p .second)) f)
+  cut-run (make i) u c e q = some-none c
+  cut-run (release i) u c e q = rw (view-is (ptr h i) v q) (free-leaks h (R .isShape .closed) v (node-used R sp))
 
 -- ---- the values of a record
 
@@ -84,6 +86,25 @@ module _ (l : List ℕ) (wide : length l ≡ 32) (few : byte l 3 ≤ 12) where
       ∙ ap (λ x. holds (valOf x)) (getD-take (byte l 3) (drop 10 l) b 0 lt ∙ getD-drop 10 l b 0
       ∙ ap (byte l) (omega arith))
 
+-- what a pointer of the record's shape holds
+module _ {l : List ℕ} {d : Decoded} {s : ℕ} {h : Heap} {y : Way} (R : WayReady l d s h y) where
+  pointer-here : (i : ℕ) → i < 6 → ptr h i ≡ valOf (byte l (i + 4))
+  pointer-here i lt = ap (λ (x : Heap). ptr x i) (sym (shape-is R)) ∙ pointer-is l (location-wide R) (nodes-few R) i lt
+
+  held-by : (i : ℕ) → i < 6 → byte l (i + 4) < byte l 3 → ptr h i ≡ cell (byte l (i + 4))
+  held-by i lt q = pointer-here i lt ∙ val-cell (byte l (i + 4)) (λ e. omega (arith, nodes-few R))
+      (λ e. omega (arith, nodes-few R))
+
+-- the tail of the node that u holds goes with its head's next
+pub cut-leaks : (l : List ℕ) (d : Decoded) (y : Way) → cutsAt (d .op) ≡ true
+    → (y .split ≡ true) × (y .node .0 ≡ byte l (d .u .0 + 4)) → Leaks l d y
+cut-leaks l d y c e s h R =
+    let u = d .u .0 in
+    let lt : byte l (u + 4) < byte l 3 = omega (arith, e .1, node-below R (e .0)) in
+    rw (e .0)
+    (cut-run R (e .0) (action (opIn d)) u (cuts-op (d .op) u (d .w .0) (R .statement .known) c)
+    (held-by R u (R .statement .isU) lt ∙ ap cell (sym (e .1))) (R .isNode (e .0)))
+
 -- ---- a node that one pointer alone holds
 
 module _ {l : List ℕ} {d : Decoded} {s : ℕ} {h : Heap} {y : Way} (R : WayReady l d s h y) (A : AloneHolds l (d .u .0))
@@ -94,21 +115,13 @@ module _ {l : List ℕ} {d : Decoded} {s : ℕ} {h : Heap} {y : Way} (R : WayRea
     abbrev a : ℕ
     a = byte l (u + 4)
 
-    pointer-here : (i : ℕ) → i < 6 → ptr h i ≡ valOf (byte l (i + 4))
-    pointer-here i lt = ap (λ (x : Heap). ptr x i) (sym (shape-is R)) ∙ pointer-is l (location-wide R) (nodes-few R) i
-        lt
-
-    held-by : (i : ℕ) → i < 6 → byte l (i + 4) < byte l 3 → ptr h i ≡ cell (byte l (i + 4))
-    held-by i lt q = pointer-here i lt ∙ val-cell (byte l (i + 4)) (λ e. omega (arith, nodes-few R))
-        (λ e. omega (arith, nodes-few R))
-
     alone : (i : ℕ) → i < length (h .ptrs) → ptr h i ≡ cell a → i ≡ u
     alone i lt e =
         let low : i < 6 = omega (arith, R .six) in
         omega (
           arith,
           A .1 (i + 4) (omega arith) (omega arith)
-              (val-is (byte l (i + 4)) a (sym (pointer-here i low) ∙ e)),
+              (val-is (byte l (i + 4)) a (sym (pointer-here R i low) ∙ e)),
         )
 
     none-next : NoNext (next h) a
@@ -120,7 +133,7 @@ module _ {l : List ℕ} {d : Decoded} {s : ℕ} {h : Heap} {y : Way} (R : WayRea
         omega (arith, A .1 (b + 10) (omega arith) (omega arith) (val-is (byte l (b + 10)) a q))
 
     in-use : Used (next h) a
-    in-use = subst (Closed (next h)) (held-by u (R .statement .isU) (A .0))
+    in-use = subst (Closed (next h)) (held-by R u (R .statement .isU) (A .0))
         (closed-ptr (next h) (h .ptrs) u (R .isShape .closed .0))
 
     -- what is read is another value: a pointer that is copied is not u, and one that is followed holds a node
@@ -151,9 +164,10 @@ module _ {l : List ℕ} {d : Decoded} {s : ℕ} {h : Heap} {y : Way} (R : WayRea
       over-run (point i x) e n = rw (set-is e) (set-leaks H u a used only empty (valueOf x H) (source-other x n))
       over-run (follow i w) e n =
           let b = byte l (w + 4) in
-          let at : ptr H w ≡ cell b = ap (λ x. getD x w undef) ps ∙ held-by w (n .1) (n .0) in
+          let at : ptr H w ≡ cell b = ap (λ x. getD x w undef) ps ∙ held-by R w (n .1) (n .0) in
           rw (at, set-is e) (set-leaks H u a used only empty (held (next H b)) (held-other H u a used only empty b))
       over-run (link i x) e n = some-none e
+      over-run (splice i w) e n = some-none e
       over-run (make i) e n =
           rw (set-is e) (new-leaks H u a used only empty (length (h .slots)) (omega (arith, A .0, nodes-is R)))
       over-run (release i) e n = some-none e

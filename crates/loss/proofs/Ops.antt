@@ -1,27 +1,28 @@
 -- What an action cuts, sets and reads, by the op's number.
 use Prim.Native.Nat.{ℕ, _<_}
-use mathlib.Core.Bool.{Bool, true, false, _||_, cond}
+use mathlib.Core.Bool.{true, false, _||_, cond}
 use mathlib.Core.Option.{Option, none, some}
 use mathlib.Core.Path.{_≡_, _∙_, refl}
 use lib.Dec.{eqb}
-use Rattle.model.specs.Machine.{Action, Source, action, follow, from, link, make, nil, point, release, compare, stay}
+use Rattle.model.specs.Machine.{Action, Source, action, follow, from, link, make, nil, point, release, compare, splice, stay}
 use Rattle.model.specs.Records.{opCount, opOf}
 use Rattle.model.proofs.records.Ops.{each-op}
 use Rattle.model.specs.Structs.{keepsAt}
 use Rattle.loss.specs.Loss.{cutsAt}
 
--- the action takes the next of a cell away
-abbrev pub cuts : Action → Bool
-cuts stay = false
-cuts (compare u s) = false
-cuts (point u s) = false
-cuts (follow u w) = false
-cuts (link u s) = true
-cuts (make u) = false
-cuts (release u) = true
+-- the pointer whose cell loses its next by the action
+abbrev pub cuts : Action → Option ℕ
+cuts stay = none
+cuts (compare u s) = none
+cuts (point u s) = none
+cuts (follow u w) = none
+cuts (link u s) = some u
+cuts (splice u w) = some u
+cuts (make u) = none
+cuts (release u) = some u
 
-pub cuts-op : (op u w : ℕ) → op < opCount → cuts (action (opOf op u w)) ≡ cutsAt op
-cuts-op op u w = each-op (λ o. cuts (action o)) cutsAt u w refl op
+pub cuts-op : (op u w : ℕ) → op < opCount → cutsAt op ≡ true → cuts (action (opOf op u w)) ≡ some u
+cuts-op op u w lt c = each-op (λ o. cuts (action o)) (λ n. cond (cutsAt n) (some u) none) u w refl op lt ∙ rw c
 
 -- the pointer that the action sets
 abbrev pub sets : Action → Option ℕ
@@ -30,6 +31,7 @@ sets (compare u s) = none
 sets (point u s) = some u
 sets (follow u w) = some u
 sets (link u s) = none
+sets (splice u w) = none
 sets (make u) = some u
 sets (release u) = none
 
@@ -54,6 +56,7 @@ reads (compare u s) = neither
 reads (point u s) = readsFrom s
 reads (follow u w) = follows w
 reads (link u s) = neither
+reads (splice u w) = neither
 reads (make u) = neither
 reads (release u) = neither
 

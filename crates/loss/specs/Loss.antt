@@ -15,9 +15,9 @@ use Rattle.way.specs.Ready.{WayReady}
 use Rattle.way.specs.Way.{wayIn}
 use Rattle.way.specs.declared.Way.{Way}
 
--- the ops that take the next of a cell away
+-- the ops that take the next of u's cell away
 abbrev pub cutsAt : ℕ → Bool
-cutsAt op = eqb op 4 || (eqb op 5 || eqb op 7)
+cutsAt op = eqb op 4 || eqb op 5 || eqb op 7 || eqb op 12
 
 -- the byte at place a stands at no other place of the pointers and the successors
 abbrev pub StandsOnce : List ℕ → ℕ → Type 0

@@ -11,11 +11,20 @@ ghost use Rattle.model.specs.Base.{mostNodes, recordSize, pointerCount};
 ghost use Rattle.model.specs.Records.{byte};
 ghost use Rattle.loss.specs.Loss.{AloneHolds, Leaks, LossReady, Overwrites, StandsOnce, cutsAt};
 
-// Whether the op takes the next of the cell that it goes through away: u.next := null, u.next := w, free u.
+// Whether the op takes the next of u's cell away: u.next := null, u.next := w, free u, u.next := w.next.
 fn cuts_next(op: u8) -> bool
     ensures { λ r. ⌜ r ≡ cutsAt op ⌝ }
 {
-    op == 4 || (op == 5 || op == 7)
+    (op == 4) | (op == 5) | (op == 7) | (op == 12)
+}
+
+// Whether the way splits the node that pointer u holds.
+fn splits_at(location: &[u8], u: Pointer, way: Way) -> bool
+    requires { ⌜ (length (now location) ≡ recordSize) × (u .0 < pointerCount) ⌝ }
+    ensures { λ r. ⌜ (r ≡ true → (way .split ≡ true) × (way .node .0 ≡ byte (now (location .entry)) (u .0 + 4))) ⌝ }
+{
+    let at = u.0 as usize + 4;
+    way.split & (way.node.0 == location[at])
 }
 
 // Whether the byte at pointer u's place stands at no other place of the six pointers and the nodes' successors.
@@ -70,7 +79,7 @@ pub fn surely_lost(location: &[u8], d: Decoded, way: Way) -> bool
     ensures { λ r. ⌜ (r ≡ true → Leaks (now (location .entry)) d way) ⌝ }
 {
     if cuts_next(d.op) {
-        way.split
+        splits_at(location, d.u, way)
     } else if overwrites(location, d.op, d.u, d.w) {
         alone_holds(location, d.u)
     } else {

@@ -3,7 +3,11 @@ pub mod Weights
 pub mod Sizes
 pub mod Tests
 pub mod Picks
+pub mod Views
 pub mod Ways
+pub mod Relinks
 pub mod Leave
+pub mod Lands
 pub mod Location
 pub mod Guards
+pub mod RelinkEdges

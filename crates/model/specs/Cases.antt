@@ -1,4 +1,4 @@
--- 01, "Shelf cases": the cases marked P, as one table of inputs and outputs. Assumes nothing.
+-- 01, "Shelf cases": the cases marked P, and cases of 02, as one table of inputs and outputs. Assumes nothing.
 use Prim.Native.Nat.{ℕ, zero, suc, _+_, _*_, _/_, _%_, _^_}
 use mathlib.Core.Bool.{Bool, true, false, _&&_}
 use mathlib.Core.List.{List, [], _∷_, _++_, map}
@@ -142,6 +142,90 @@ cases =
       output =
           line 0x4c000000fffffefefefe 44
           ∷ line 0x4c000200 56
+          ∷ line 0x4500000001000000 48
+          ∷ [];
+    }
+    -- ---- relinks, by 02, job 3
+    -- R1: p0 at 0, p1 at 2, 0 and 2 lead to 1; p0.next := p1.next: where c0 ≥ 2 it leaks, though both successor nodes
+    -- are equal
+    ∷ record {
+      input = line 0x530c000101 54 ∷ line 0x53 62 ∷ line 0x480000030002fefefefe01fe01 38 ∷ [];
+      output =
+          line 0x4c0000030002fefefefe01fe01 38
+          ∷ line 0x4c0100030002fefefefe01fe01 38
+          ∷ line 0x4c000300 56
+          ∷ line 0x4512000001000100011002100410 36
+          ∷ line 0x4514000001000100011006000020 36
+          ∷ line 0x4500000002000200 48
+          ∷ [];
+    }
+    -- R2: p0 at 0, p1 at 1, 0 and 1 on one ring; p0.next := p1.next
+    ∷ record {
+      input = line 0x530c000101 54 ∷ line 0x53 62 ∷ line 0x480000020001fefefefe0100 40 ∷ [];
+      output =
+          line 0x4c0000020001fefefefe0100 40
+          ∷ line 0x4c0100020001fefefefe0000 40
+          ∷ line 0x4c0100030002fefefefe010001 38
+          ∷ line 0x4c000300 56
+          ∷ line 0x450a00000100010001100210 40
+          ∷ line 0x450c000002000100011002000020 36
+          ∷ line 0x4500000003000200 48
+          ∷ [];
+    }
+    -- R3: p0 at 0, p1 at 1, whose successor is undefined; p0.next := p1.next copies that
+    ∷ record {
+      input = line 0x530c000101 54 ∷ line 0x53 62 ∷ line 0x480000020001fefefefefeff 40 ∷ [];
+      output =
+          line 0x4c0000020001fefefefefeff 40
+          ∷ line 0x4c0100020001fefefefeffff 40
+          ∷ line 0x4c0100030002fefefefe01ff01 38
+          ∷ line 0x4c000300 56
+          ∷ line 0x450a00000100010001100210 40
+          ∷ line 0x450c000002000100011002000020 36
+          ∷ line 0x4500000003000200 48
+          ∷ [];
+    }
+    -- R4: p0 at 0, then 1, p1 at 1; p0.next := p1.next: where c0 = 1, the first cell of node 1 is unlinked
+    ∷ record {
+      input = line 0x530c000101 54 ∷ line 0x53 62 ∷ line 0x480000020001fefefefe01fe 40 ∷ [];
+      output =
+          line 0x4c0000020001fefefefe01fe 40
+          ∷ line 0x4c0100020001fefefefefefe 40
+          ∷ line 0x4c0100030002fefefefe01fe01 38
+          ∷ line 0x4c000300 56
+          ∷ line 0x450a00000100010001100210 40
+          ∷ line 0x450c000002000100011002000020 36
+          ∷ line 0x4500000003000200 48
+          ∷ [];
+    }
+    -- R5: p0 at 0, p1 at 2, p2 at 3, 0 and 2 lead to 1; p0.next := p2.next: node 1 is no longer core and merges
+    ∷ record {
+      input = line 0x530c000201 54 ∷ line 0x53 62 ∷ line 0x48000004000203fefefe01fe01fe 36 ∷ [];
+      output =
+          line 0x4c000004000203fefefe01fe01fe 36
+          ∷ line 0x4c010003000102fefefefefefe 38
+          ∷ line 0x4c010004000203fefefe01fefe01 36
+          ∷ line 0x4c000300 56
+          ∷ line 0x451a000001000100011006100810 36
+          ∷ line 0x451c0000020001000110080006100020 32
+          ∷ line 0x4500000003000200 48
+          ∷ [];
+    }
+    -- R6: p0 and p1 at node 0; p0.next := p1.next: one edge without a guard, same shape
+    ∷ record {
+      input = line 0x530c000101 54 ∷ line 0x53 62 ∷ line 0x480000010000fefefefefe 42 ∷ [];
+      output =
+          line 0x4c0000010000fefefefefe 42
+          ∷ line 0x4c0100010000fefefefefe 42
+          ∷ line 0x45000000010000000110 44
+          ∷ [];
+    }
+    -- R7: p0 undefined, p1 null; p0.next := p1.next: fault 1, since w is looked at first
+    ∷ record {
+      input = line 0x530c000101 54 ∷ line 0x53 62 ∷ line 0x48000000fffefefefefe 44 ∷ [];
+      output =
+          line 0x4c000000fffefefefefe 44
+          ∷ line 0x4c000100 56
           ∷ line 0x4500000001000000 48
           ∷ [];
     }

@@ -1,4 +1,4 @@
--- 01, "Edges of a location": the plain machine run on the shape. Assumes nothing.
+-- 01, "Edges of a location", as 02 amends it: the plain machine run on the shape. Assumes nothing.
 use Prim.Native.Nat.{ℕ, _+_, _-_}
 use mathlib.Core.Bool.{Bool, true, false, _&&_, cond}
 use mathlib.Core.List.{List, [], _∷_, map}
@@ -7,7 +7,7 @@ use lib.ListN.{length, getD}
 use Rattle.model.specs.Base.{any, count, numbers, joined}
 use Rattle.model.specs.Heap.{Val, cell, null, undef, holds, Heap, ptr, next, sameHeap}
 use Rattle.model.specs.Shape.{Seg, cells, segments, foldBy}
-use Rattle.model.specs.Machine.{Op, stop, Stmt, Action, stay, compare, point, follow, link, make, release, action, Kind, halts, acts, tests, picks, kind, Fault, faultNumber, putSlot, entry, Answer, refused, stopped, faulted, went, step}
+use Rattle.model.specs.Machine.{Op, stop, Stmt, Action, stay, compare, point, follow, link, splice, make, release, action, Kind, halts, acts, tests, picks, kind, Fault, faultNumber, putSlot, entry, Answer, refused, stopped, faulted, went, step}
 
 -- "A location is a statement with a shape, or a statement with a fault."
 pub data Loc : Type 0 where
@@ -98,15 +98,29 @@ split gs n h = record {
   weight = λ c. cond (eqb c n) one (cond (eqb c (length (h .slots))) (less n) (counter c));
 }
 
--- what a statement looks at: no node, or one that it reads, writes or frees through
+-- what a statement looks at: no node; one that it reads, writes or frees through; or two, of which it writes through
+-- the first and reads through the second
 pub data View : Type 0 where
   noNode : View
   oneNode : ℕ → View
+  twoNodes : ℕ → ℕ → View
 
 abbrev pub viewVal : Val → View
 viewVal (cell n) = oneNode n
 viewVal null = noNode
 viewVal undef = noNode
+
+-- 02, job 3: two nodes only where they are different: "If u and w hold the same cell nothing changes and the edge has
+-- no guard."
+abbrev pub viewFrom : ℕ → Val → View
+viewFrom n (cell m) = cond (eqb n m) noNode (twoNodes n m)
+viewFrom n null = noNode
+viewFrom n undef = noNode
+
+abbrev pub viewPair : Val → Val → View
+viewPair (cell n) w = viewFrom n w
+viewPair null w = noNode
+viewPair undef w = noNode
 
 abbrev pub view : Action → Heap → View
 view stay h = noNode
@@ -114,6 +128,7 @@ view (compare u s) h = noNode
 view (point u s) h = noNode
 view (follow u w) h = viewVal (ptr h w)
 view (link u s) h = viewVal (ptr h u)
+view (splice u w) h = viewPair (ptr h u) (ptr h w)
 view (make u) h = noNode
 view (release u) h = viewVal (ptr h u)
 
@@ -124,10 +139,17 @@ picksOf (tests u s) = 0 ∷ []
 picksOf picks = 0 ∷ 1 ∷ []
 
 -- "Ops 3, 4, 5 and 7 on a pointer to a node give two edges: counter = 1, with nothing split, then counter ≥ 2, with
--- the head split off .. Every other statement gives one unguarded edge, except choose"
+-- the head split off .. Every other statement gives one unguarded edge, except choose"; 02, job 3: "three edges: u's
+-- counter = 1 and w's = 1; u's = 1 and w's ≥ 2; u's ≥ 2, which leaks .. u's guard is the first and w's the second,
+-- absent on the third edge"
 abbrev pub waysOf : Kind → View → Heap → List Way
 waysOf k noNode h = map (λ p. whole [] p h) (picksOf k)
 waysOf k (oneNode n) h = whole (oneAt n ∷ []) 0 h ∷ split (moreAt n ∷ []) n h ∷ []
+waysOf k (twoNodes n m) h =
+    whole (oneAt n ∷ oneAt m ∷ []) 0 h
+    ∷ split (oneAt n ∷ moreAt m ∷ []) m h
+    ∷ split (moreAt n ∷ []) n h
+    ∷ []
 
 abbrev pub ways : Op → Heap → List Way
 ways op h = waysOf (kind op) (view (action op) h) h

@@ -10,7 +10,7 @@ use lib.ListN.{getD, length, replicate, take}
 use Rattle.model.specs.Base.{any, count, joined, numbers, placeOf, mostNodes, mostShapes, mostStatements, pointerCount, recordSize}
 use Rattle.model.specs.Edges.{Edge, Loc, at, edgesOf, failed, sameLoc}
 use Rattle.model.specs.Heap.{Heap, Slot, Val, cell, holds, null, order, undef, unused}
-use Rattle.model.specs.Machine.{Op, Stmt, choose, clear, copy, free, isNull, leak, load, new, same, setNull, skip, stop, store}
+use Rattle.model.specs.Machine.{Op, Stmt, choose, clear, copy, free, isNull, leak, load, new, same, setNull, relink, skip, stop, store}
 use Rattle.model.specs.Records.{Refusal, isAccepted, isH, isS, locRecord, refusal, refusalH, refusalS, usesFirst, usesSecond}
 use Rattle.model.specs.Part.{meant, partBytes, recordPart}
 use Rattle.model.specs.Runs.{added}
@@ -209,7 +209,7 @@ abbrev pub GoodLoc : Loc → Type 0
 GoodLoc (at s h) = Canon h × (length (h .ptrs) ≡ pointerCount)
 GoodLoc (failed s f) = Unit {0}
 
--- the number of an op in 01's table, and its pointers u and w, 0 where it has none
+-- the number of an op in 01's table and in 02, and its pointers u and w, 0 where it has none
 pub record OpFields : Type 0 where
   pub number : ℕ
   pub u : ℕ
@@ -231,6 +231,7 @@ opFields (isNull u) = fieldsOf 8 u 0
 opFields (same u w) = fieldsOf 9 u w
 opFields choose = fieldsOf 10 0 0
 opFields skip = fieldsOf 11 0 0
+opFields (relink u w) = fieldsOf 12 u w
 
 -- how a statement is written: "A field that the op doesn't use is zero."
 abbrev pub field : Bool → ℕ → ℕ

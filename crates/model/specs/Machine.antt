@@ -6,7 +6,7 @@ use lib.Dec.{eqb, leb}
 use lib.ListN.{set}
 use Rattle.model.specs.Heap.{Val, cell, null, undef, Slot, unused, holds, Heap, ptr, next, inUse, sameVal, kept}
 
--- the ops of 01's table, with the pointers u and w
+-- the ops of 01's table and of 02, with the pointers u and w
 pub data Op : Type 0 where
   stop : Op  -- 0
   setNull : ℕ → Op  -- 1: u := null
@@ -20,6 +20,7 @@ pub data Op : Type 0 where
   same : ℕ → ℕ → Op  -- 9: test u = w
   choose : Op  -- 10
   skip : Op  -- 11
+  relink : ℕ → ℕ → Op  -- 12: u.next := w.next (02, job 3)
 
 pub record Stmt : Type 0 where
   pub op : Op
@@ -39,6 +40,7 @@ pub data Action : Type 0 where
   point : ℕ → Source → Action  -- pointer u becomes the value
   follow : ℕ → ℕ → Action  -- pointer u becomes the next of the cell that w holds
   link : ℕ → Source → Action  -- the next of the cell that u holds becomes the value
+  splice : ℕ → ℕ → Action  -- the next of the cell that u holds becomes the next of the cell that w holds
   make : ℕ → Action  -- pointer u becomes a new cell
   release : ℕ → Action  -- the cell that u holds goes
 
@@ -62,6 +64,7 @@ kind (isNull u) = tests u nil
 kind (same u w) = tests u (from w)
 kind choose = picks
 kind skip = acts stay
+kind (relink u w) = acts (splice u w)
 
 abbrev pub actionOf : Kind → Action
 actionOf halts = stay
@@ -120,8 +123,8 @@ held unused = undef
 held (holds v) = v
 
 -- reading or writing through a value
-abbrev pub through : Val → (ℕ → Heap) → Effect
-through (cell c) k = done (k c)
+abbrev pub through : Val → (ℕ → Effect) → Effect
+through (cell c) k = k c
 through null k = fault atNull
 through undef k = fault atUndef
 
@@ -147,8 +150,11 @@ abbrev pub perform : Action → ℕ → Heap → Effect
 perform stay n h = done h
 perform (compare u s) n h = look (ptr h u) (look (valueOf s h) (done h))
 perform (point u s) n h = done (setPtr u (valueOf s h) h)
-perform (follow u w) n h = through (ptr h w) (λ c. setPtr u (held (next h c)) h)
-perform (link u s) n h = through (ptr h u) (λ c. putSlot c (holds (valueOf s h)) h)
+perform (follow u w) n h = through (ptr h w) (λ c. done (setPtr u (held (next h c)) h))
+perform (link u s) n h = through (ptr h u) (λ c. done (putSlot c (holds (valueOf s h)) h))
+-- 02, job 3: "Looking at w comes first, for null and for undefined, then u."
+perform (splice u w) n h =
+    through (ptr h w) (λ d. through (ptr h u) (λ c. done (putSlot c (holds (held (next h d))) h)))
 perform (make u) n h = done (setPtr u (cell n) (putSlot n (holds undef) h))
 perform (release u) n h = freeVal (ptr h u) h
 
@@ -206,6 +212,7 @@ acceptsCell (compare u v) s = true
 acceptsCell (point u v) s = true
 acceptsCell (follow u w) s = true
 acceptsCell (link u v) s = true
+acceptsCell (splice u w) s = true
 acceptsCell (make u) s = not (inUse s)
 acceptsCell (release u) s = true
 

@@ -9,9 +9,9 @@ use mathlib.Core.List.{List, [], _++_, _∷_, map}
 use lib.Dec.{eqb, leb}
 use lib.ListN.{getD, length}
 use Rattle.model.specs.Base.{mem, sum, numbers, all}
-use Rattle.model.specs.Edges.{Edge, Guard, Loc, Test, Update, View, at, failed, isMore, isOne, noNode, oneNode}
-use Rattle.model.specs.Heap.{Heap, IsHeap, Slot, Val, cell, closed, holds, next, null, order, undef, unused}
-use Rattle.model.specs.Machine.{Action, Effect, Fault, compare, done, fault, follow, link, make, point, putSlot, release, stay}
+use Rattle.model.specs.Edges.{Edge, Guard, Loc, Test, Update, View, at, failed, isMore, isOne, noNode, oneNode, twoNodes}
+use Rattle.model.specs.Heap.{Heap, IsHeap, Slot, Val, cell, closed, holds, next, null, order, ptr, undef, unused}
+use Rattle.model.specs.Machine.{Action, Effect, Fault, atNull, atUndef, compare, done, fault, follow, link, make, point, putSlot, release, splice, stay}
 use Rattle.model.specs.Records.{Row, Verdict, isAccepted, isRefused, refusal}
 use Rattle.model.specs.Shape.{Seg, cells, core, segments, size}
 
@@ -215,6 +215,7 @@ Room (compare u s) h c = Unit {0}
 Room (point u s) h c = Unit {0}
 Room (follow u w) h c = Unit {0}
 Room (link u s) h c = Unit {0}
+Room (splice u w) h c = Unit {0}
 Room (make u) h c = next h c ≡ unused
 Room (release u) h c = Unit {0}
 
@@ -225,13 +226,26 @@ sg-after (compare u s) k c sg = sg
 sg-after (point u s) k c sg = sg
 sg-after (follow u w) k c sg = sg
 sg-after (link u s) k c sg = sg
+sg-after (splice u w) k c sg = sg
 sg-after (make u) k c sg = upd sg k (seg c [])
 sg-after (release u) k c sg = sg
 
--- each node that a statement goes through is one cell of the expansion
+-- node i is looked at
+abbrev pub Views : View → ℕ → Type 0
+Views noNode i = ⊥
+Views (oneNode n) i = i ≡ n
+Views (twoNodes n m) i = (i ≡ n) ⊎ (i ≡ m)
+
+-- each node that is looked at is one cell of the expansion
 abbrev pub Alone : View → (ℕ → Seg) → Type 0
-Alone noNode sg = Unit {0}
-Alone (oneNode n) sg = sg n .rest ≡ []
+Alone v sg = (i : ℕ) → Views v i → sg i .rest ≡ []
+
+-- 02, job 3: "Looking at w comes first, for null and for undefined, then u.": what is looked at is the fault f
+pub data LooksBad (h : Heap) (u w : ℕ) : Fault → Type 0 where
+  w-null : ptr h w ≡ null → LooksBad h u w atNull
+  w-undef : ptr h w ≡ undef → LooksBad h u w atUndef
+  u-null : (d : ℕ) → ptr h w ≡ cell d → ptr h u ≡ null → LooksBad h u w atNull
+  u-undef : (d : ℕ) → ptr h w ≡ cell d → ptr h u ≡ undef → LooksBad h u w atUndef
 
 -- both fault alike, or both finish and the one heap is the expansion of the other
 pub data Alike (sg : ℕ → Seg) : Effect → Effect → Type 0 where
@@ -279,9 +293,16 @@ worth cs u = (flagged (u .adds) cs + u .plus) - 1
 abbrev pub SmallUpdates : ℕ → List Update → Type 0
 SmallUpdates k us = (u : Update) → In u us → (u .plus ≤ 2) × (length (u .adds) ≡ k)
 
+-- Guards that an E record can hold: two at most, each on one of k nodes.
+pub record SmallGuards (k : ℕ) (gs : List Guard) : Type 0 where
+  pub few : length gs ≤ 2
+  pub known : (g : Guard) → In g gs → g .node < k
+
+-- an edge of a location with k nodes
 pub record SmallEdge (k : ℕ) (E : Edge) : Type 0 where
   pub number : length (E .updates) ≡ nodesOf (E .to)
-  pub guarded : length (E .guards) ≤ 1
+  pub branch : E .branchNo ≤ 1
+  pub guarded : SmallGuards k (E .guards)
   pub small : SmallUpdates k (E .updates)
 
 -- ---- the checks of a call, in their order

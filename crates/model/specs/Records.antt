@@ -1,5 +1,5 @@
--- 01, "Records": 32 bytes each. How locations and edges are written, and how statements, shapes, locations and edges
--- are read. Assumes nothing.
+-- 01, "Records", as 02 amends it: 32 bytes each. How locations and edges are written, and how statements, shapes,
+-- locations and edges are read. Assumes nothing.
 use Prim.Native.Nat.{ℕ, suc, _-_, _+_, _*_, _/_, _%_}
 use mathlib.Core.Bool.{Bool, true, false, _&&_, _||_, cond, not}
 use mathlib.Core.List.{List, [], _∷_, _++_, map}
@@ -8,7 +8,7 @@ use lib.ListN.{length, getD, take, drop, replicate}
 use Rattle.model.specs.Base.{all, any, mem, joined, sameList, mostNodes, pointerCount, recordSize}
 use Rattle.model.specs.Heap.{Val, cell, null, undef, Slot, unused, holds, Heap}
 use Rattle.model.specs.Shape.{canonical}
-use Rattle.model.specs.Machine.{Op, stop, setNull, copy, load, clear, store, new, free, isNull, same, choose, skip, Stmt, faultNumber}
+use Rattle.model.specs.Machine.{Op, stop, setNull, copy, load, clear, store, new, free, isNull, same, choose, skip, relink, Stmt, faultNumber}
 use Rattle.model.specs.Edges.{Loc, at, failed, Test, isOne, isMore, Guard, Update, Edge}
 
 -- ---- writing
@@ -42,14 +42,27 @@ locRecord (failed s f) = 0x4c ∷ s ∷ faultNumber f ∷ replicate 29 0
 abbrev pub twoBytes : ℕ → List ℕ
 twoBytes n = n % 256 ∷ n / 256 ∷ []
 
--- "6 guard (0 none, 1 for = 1, 2 for ≥ 2), 7 its node (0 if none)": a record holds one guard at most
+-- "6 guard (0 none, 1 for = 1, 2 for ≥ 2), 7 its node (0 if none)"
 abbrev pub testNumber : Test → ℕ
 testNumber isOne = 1
 testNumber isMore = 2
 
-abbrev pub guardBytes : List Guard → List ℕ
-guardBytes [] = 0 ∷ 0 ∷ []
-guardBytes (g ∷ gs) = testNumber (g .test) ∷ g .node ∷ []
+-- a guard in these numbers
+pub record GuardCode : Type 0 where
+  pub test : ℕ
+  pub node : ℕ
+
+abbrev pub codeOf : Guard → GuardCode
+codeOf g = record { test = testNumber (g .test); node = g .node }
+
+-- guard i of an edge, both numbers 0 where it has none; a record holds guards 0 and 1
+abbrev pub guardCode : List Guard → ℕ → GuardCode
+guardCode gs i = getD (map codeOf gs) i (record { test = 0; node = 0 })
+
+-- 02, job 3: "in byte 1, bit 0 is the branch, bits 1 and 2 are a second guard with the values of byte 6, and bits 3 to
+-- 6 its node (0 if none), bit 7 zero"
+abbrev pub branchByte : ℕ → GuardCode → ℕ
+branchByte b g = b + 2 * g .test + 8 * g .node
 
 -- the number whose bits, lowest first, are given
 abbrev pub bits : List Bool → ℕ
@@ -62,9 +75,10 @@ updateCode u = bits (u .adds) + 4096 * u .plus
 
 abbrev pub edgeRecord : ℕ → ℕ → Edge → List ℕ
 edgeRecord from to e =
-    0x45 ∷ e .branchNo
-    ∷ (twoBytes from ++ twoBytes to ++ guardBytes (e .guards)
-    ++ filled 24 (joined (map (λ u. twoBytes (updateCode u)) (e .updates))))
+    let g = guardCode (e .guards) in
+    0x45 ∷ branchByte (e .branchNo) (g 1)
+    ∷ (twoBytes from ++ twoBytes to ++ g 0 .test ∷ g 0 .node
+    ∷ filled 24 (joined (map (λ u. twoBytes (updateCode u)) (e .updates))))
 
 -- ---- reading
 
@@ -91,11 +105,11 @@ isH r = eqb (byte r 0) 0x48
 abbrev pub opsBy : ℕ → ℕ → List Op
 opsBy u w =
     stop ∷ setNull u ∷ copy u w ∷ load u w ∷ clear u ∷ store u w ∷ new u ∷ free u ∷ isNull u ∷ same u w ∷ choose
-    ∷ skip ∷ []
+    ∷ skip ∷ relink u w ∷ []
 
 -- how many ops there are
 abbrev pub opCount : ℕ
-opCount = 12
+opCount = 13
 
 abbrev pub opOf : ℕ → ℕ → ℕ → Op
 opOf op u w = getD (opsBy u w) op stop
@@ -145,10 +159,10 @@ firstFailed (c ∷ cs) = elim (c .passes) [ true ↦ firstFailed cs | false ↦ 
 
 -- which fields an op uses
 abbrev pub usesU : ℕ → Bool
-usesU op = leb 1 op && leb op 9
+usesU op = (leb 1 op && leb op 9) || eqb op 12
 
 abbrev pub usesW : ℕ → Bool
-usesW op = mem op (2 ∷ 3 ∷ 5 ∷ 9 ∷ [])
+usesW op = mem op (2 ∷ 3 ∷ 5 ∷ 9 ∷ 12 ∷ [])
 
 abbrev pub usesFirst : ℕ → Bool
 usesFirst op = leb 1 op
@@ -180,7 +194,7 @@ targetsS n r =
     let op = byte r 1 in
     targetBelow n (usesFirst op) (byte r 4) && targetBelow n (usesSecond op) (byte r 5)
 
--- "5: op above 11", then 6 and 7; among n statements
+-- "5: op above 11", by 02, job 3, above 12; then 6 and 7; among n statements
 abbrev pub checksS : ℕ → List ℕ → List Row
 checksS n r = unless 5 (ltb (byte r 1) opCount) ∷ unless 6 (fieldsS r) ∷ unless 7 (targetsS n r) ∷ []
 

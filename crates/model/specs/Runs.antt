@@ -12,7 +12,7 @@ use Rattle.model.specs.Heap.{Heap, IsHeap, next, inUse}
 use Rattle.model.specs.Shape.{shape, counters}
 use Rattle.model.specs.Machine.{Stmt, Fault, faultNumber, isStop, kind, Entry, Answer, refused, stopped, faulted, went, step}
 use Rattle.model.specs.Edges.{stmtAt}
-use Rattle.model.specs.Records.{isAccepted, byte, word, recordAt, shapeOf}
+use Rattle.model.specs.Records.{GuardCode, isAccepted, byte, word, recordAt, shapeOf}
 use Rattle.model.specs.Translate.{good, check, Routine, Tables, translate}
 
 -- a step made or an edge taken: its branch, and what it leaves
@@ -79,19 +79,22 @@ added m (c ∷ cs) = m % 2 * c + added (m / 2) cs
 abbrev pub applied : List ℕ → ℕ → ℕ
 applied cs u = (added (u % 4096) cs + u / 4096 % 4) - 1
 
--- the guards that an edge's record holds, in numbers: byte 6 is 0 for none, 1 for = 1, 2 for ≥ 2, and byte 7 its node
-pub record GuardRead : Type 0 where
-  pub test : ℕ
-  pub node : ℕ
+-- the branch of an edge's record: bit 0 of byte 1
+abbrev pub branchOf : List ℕ → ℕ
+branchOf r = byte r 1 % 2
 
-abbrev pub guardsOf : List ℕ → List GuardRead
-guardsOf r = record { test = byte r 6; node = byte r 7 } ∷ []
+-- the guards that it holds, in numbers: bytes 6 and 7; bits 1 and 2, and bits 3 to 6, of byte 1
+abbrev pub guardsOf : List ℕ → List GuardCode
+guardsOf r =
+    record { test = byte r 6; node = byte r 7 }
+    ∷ record { test = byte r 1 / 2 % 4; node = byte r 1 / 8 % 16 }
+    ∷ []
 
 abbrev pub guardHolds : ℕ → ℕ → Bool
 guardHolds g c = cond (eqb g 0) true (cond (eqb g 1) (eqb c 1) (eqb g 2 && leb 2 c))
 
-abbrev pub guardsHold : List ℕ → List GuardRead → Bool
-guardsHold cs = all (λ (g : GuardRead). guardHolds (g .test) (getD cs (g .node) 0))
+abbrev pub guardsHold : List ℕ → List GuardCode → Bool
+guardsHold cs = all (λ (g : GuardCode). guardHolds (g .test) (getD cs (g .node) 0))
 
 -- the node count of a location, and the updates of an edge for so many new nodes
 abbrev pub nodesAt : Tables → ℕ → ℕ
@@ -100,7 +103,8 @@ nodesAt t l = byte (recordAt (t .locBytes) l) 3
 abbrev pub updatesOf : ℕ → List ℕ → List ℕ
 updatesOf k r = map (λ i. word r (8 + 2 * i)) (numbers 0 k)
 
--- "An edge in use that leaves the present location is enabled when its guard, if any, holds of its node's counter."
+-- "An edge in use that leaves the present location is enabled when its guard, if any, holds of its node's counter."; by
+-- 02, job 3, "when both guards hold"
 abbrev pub enabled : Tables → Config → ℕ → Bool
 enabled t c n =
     let r = recordAt (t .edgeBytes) n in
@@ -109,7 +113,7 @@ enabled t c n =
 
 abbrev pub taken : Tables → Config → List ℕ → Advance Config
 taken t c r = record {
-  branchNo = byte r 1;
+  branchNo = branchOf r;
   after = record { loc = word r 4; values = map (applied (c .values)) (updatesOf (nodesAt t (word r 4)) r) };
 }
 

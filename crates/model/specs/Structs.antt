@@ -1,18 +1,19 @@
 -- What the structs that the code passes by value stand for. Assumes nothing.
 use Prim.Native.Nat.{ℕ, zero, suc, _≤_, _<_}
-use mathlib.Core.Bool.{Bool, _||_}
-use mathlib.Core.List.{List, [], _∷_, map}
+use mathlib.Core.Bool.{Bool, _&&_, _||_}
+use mathlib.Core.List.{List, [], _∷_, _++_, map}
 use mathlib.Core.Path.{_≡_}
 use lib.Dec.{eqb, leb}
 use lib.ListN.{length, take}
 use Rattle.model.specs.Base.{mostNodes, pointerCount}
 use Rattle.model.specs.Edges.{Edge, Guard, isMore, isOne}
 use Rattle.model.specs.Machine.{Op, Stmt}
-use Rattle.model.specs.Records.{byte, guardBytes, locRecord, opCount, opOf, updateCode}
+use Rattle.model.specs.Records.{GuardCode, byte, guardCode, locRecord, opCount, opOf, updateCode}
 use Rattle.model.specs.Translate.{Tables}
 use Rattle.model.specs.declared.Counts.{Counts}
 use Rattle.model.specs.declared.Decoded.{Decoded}
 use Rattle.model.specs.declared.EdgeMade.{EdgeMade}
+use Rattle.model.specs.declared.Guard as declared
 use Rattle.model.specs.declared.Guards.{Guards}
 
 -- ---- a statement's record, decoded
@@ -38,7 +39,7 @@ pub record DecodedOk (d : Decoded) : Type 0 where
 
 -- the ops, by number, that change no heap: stop, the tests, choose and skip
 abbrev pub keepsAt : ℕ → Bool
-keepsAt op = eqb op 0 || leb 8 op
+keepsAt op = eqb op 0 || (leb 8 op && leb op 11)
 
 abbrev pub stmtIn : Decoded → Stmt
 stmtIn d = record { op = opIn d; firstTarget = d .first .0; secondTarget = d .second .0 }
@@ -57,22 +58,26 @@ guardBy (suc zero) n = record { node = n; test = isOne } ∷ []
 guardBy (suc (suc t)) n = record { node = n; test = isMore } ∷ []
 
 abbrev pub guardsIn : Guards → List Guard
-guardsIn g = guardBy (g .first .test) (g .first .node .0)
+guardsIn g = guardBy (g .first .test) (g .first .node .0) ++ guardBy (g .second .test) (g .second .node .0)
 
--- the two bytes that an E record has for them
-abbrev pub guardsBytes : Guards → List ℕ
-guardsBytes g = g .first .test ∷ g .first .node .0 ∷ []
+-- the numbers of one guard
+abbrev pub codeIn : declared.Guard → GuardCode
+codeIn g = record { test = g .test; node = g .node .0 }
 
--- guards that are written as they are read: no node where there is no guard
+-- the struct has the numbers of the guards gs
+abbrev pub Coded : List Guard → Guards → Type 0
+Coded gs g = (guardCode gs 0 ≡ codeIn (g .first)) × (guardCode gs 1 ≡ codeIn (g .second))
+
+-- guards that are written as they are read: no node where there is no guard, and no second without a first
 abbrev pub Writes : Guards → Type 0
-Writes g = guardBytes (guardsIn g) ≡ guardsBytes g
+Writes g = Coded (guardsIn g) g
 
 -- ---- an edge
 
 -- the edge E as bytes: its target's record t, its updates us, and what else was made
 pub record IsEdge (E : Edge) (t us : List ℕ) (r : EdgeMade) : Type 0 where
   pub branch : r .branch ≡ E .branchNo
-  pub guards : guardBytes (E .guards) ≡ guardsBytes (r .guards)
+  pub guards : Coded (E .guards) (r .guards)
   pub target : t ≡ locRecord (E .to)
   pub number : r .nodes ≡ length (E .updates)
   pub few : r .nodes ≤ mostNodes

@@ -18,7 +18,7 @@ pub const MOST_EDGES: usize = 2048;
 
 pub const MOST_CELLS: usize = 240;
 
-pub const OPS: u8 = 12;
+pub const OPS: u8 = 13;
 
 // A pointer's number, 0 to 5.
 pub struct Pointer(pub u8);
@@ -71,9 +71,10 @@ pub struct Guard {
     pub node: Node,
 }
 
-// The guards of a way or an edge: as many as an E record holds.
+// The guards of a way or an edge: as many as an E record holds. Without a first there is no second.
 pub struct Guards {
     pub first: Guard,
+    pub second: Guard,
 }
 
 // What a way makes beside the target's record and the updates: the branch, the guards, and how many new nodes there

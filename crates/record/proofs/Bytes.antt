@@ -9,12 +9,12 @@ use borrow.Rule.Slice.PartMut.{midOf, putMid}
 use Rattle.model.specs.Base.{joined}
 use Rattle.model.specs.Heap.{Heap}
 use Rattle.model.specs.Edges.{Edge}
-use Rattle.model.specs.Records.{edgeRecord, filled, guardBytes, shapeBytes, slotByte, twoBytes, updateCode, valByte}
+use Rattle.model.specs.Records.{branchByte, edgeRecord, filled, shapeBytes, slotByte, twoBytes, updateCode, valByte}
 use Rattle.model.specs.Shape.{segments, shape}
 use Rattle.model.proofs.lists.Slices.{joined-next, put-back, put-next}
 use Rattle.model.specs.declared.EdgeFields.{EdgeFields}
 use Rattle.record.specs.Written.{edgeBytes, updateBytes}
-use Rattle.model.specs.Structs.{guardsBytes}
+use Rattle.model.specs.Structs.{Coded, codeIn}
 use Rattle.record.proofs.ListLaws.{drop-zeros}
 
 -- ---- shapes
@@ -72,9 +72,14 @@ updates-turn p us j h k =
     ∙ append-assoc (take n x) (twoBytes u) (drop (n + 2) x) ∙ put-next p x pre (twoBytes u) n 2 lw (omega arith) refl
     ∙ ap (λ m. (pre ++ twoBytes u) ++ drop m p) next ∙ rw more (simp append-assoc)
 
--- the first eight bytes of an edge's record
+-- the first eight bytes of an edge's record, of which byte 1 is b
+abbrev pub headWith : EdgeFields → ℕ → List ℕ
+headWith e b =
+    let g = codeIn (e .guards .first) in
+    0x45 ∷ b ∷ (twoBytes (e .from) ++ (twoBytes (e .to) ++ g .test ∷ g .node ∷ []))
+
 abbrev pub edgeHead : EdgeFields → List ℕ
-edgeHead e = 0x45 ∷ e .branch ∷ (twoBytes (e .from) ++ (twoBytes (e .to) ++ guardsBytes (e .guards)))
+edgeHead e = headWith e (branchByte (e .branch) (codeIn (e .guards .second)))
 
 -- the record of an edge, its first eight bytes and then its updates in a record of zeros
 pub edge-is : (e : EdgeFields) (us z : List ℕ) → e .nodes ≤ 12 → e .nodes ≤ length us
@@ -92,9 +97,10 @@ edge-is e us z p q =
 
 -- what is written for an edge of the model
 pub edge-record : (f : EdgeFields) (us : List ℕ) (e : Edge) → f .branch ≡ e .branchNo
-    → guardBytes (e .guards) ≡ guardsBytes (f .guards) → take (f .nodes) us ≡ map updateCode (e .updates)
+    → Coded (e .guards) (f .guards) → take (f .nodes) us ≡ map updateCode (e .updates)
     → edgeBytes f us ≡ edgeRecord (f .from) (f .to) e
 edge-record f us e b p q =
     let u : updateBytes us (f .nodes) ≡ joined (map (λ x. twoBytes (updateCode x)) (e .updates)) =
     ap (λ l. joined (map twoBytes l)) q ∙ ap joined (map-map twoBytes updateCode (e .updates)) in
-    λ i. 0x45 ∷ b i ∷ (twoBytes (f .from) ++ twoBytes (f .to) ++ sym p i ++ filled 24 (u i))
+    λ i. 0x45 ∷ branchByte (b i) (sym (p .1) i)
+    ∷ (twoBytes (f .from) ++ twoBytes (f .to) ++ sym (p .0) i .test ∷ sym (p .0) i .node ∷ filled 24 (u i))

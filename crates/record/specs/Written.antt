@@ -1,12 +1,13 @@
 -- The bytes that are written for a fault, a location and an edge, and a table with a record put at its place.
 -- Assumes nothing.
 use Prim.Native.Nat.{ℕ, _+_, _*_, _<_, _≤_}
-use mathlib.Core.List.{List, [], _∷_, _++_, map}
+use mathlib.Core.List.{List, _∷_, _++_, map}
 use lib.ListN.{length, take, drop, replicate}
 use Rattle.model.specs.Base.{joined, mostNodes, recordSize}
-use Rattle.model.specs.Records.{filled, twoBytes}
-use Rattle.model.specs.Structs.{guardsBytes}
+use Rattle.model.specs.Records.{branchByte, filled, twoBytes}
+use Rattle.model.specs.Structs.{codeIn}
 use Rattle.model.specs.declared.EdgeFields.{EdgeFields}
+use Rattle.model.specs.declared.Guard.{Guard}
 
 abbrev pub faultBytes : ℕ → ℕ → List ℕ
 faultBytes s f = 0x4c ∷ s ∷ f ∷ replicate 29 0
@@ -23,11 +24,18 @@ updateBytes us k = joined (map twoBytes (take k us))
 abbrev pub edgeBytes : EdgeFields → List ℕ → List ℕ
 edgeBytes e us =
     let updates = filled 24 (updateBytes us (e .nodes)) in
-    0x45 ∷ e .branch ∷ (twoBytes (e .from) ++ (twoBytes (e .to) ++ (guardsBytes (e .guards) ++ updates)))
+    let g = codeIn (e .guards .first) in
+    0x45 ∷ branchByte (e .branch) (codeIn (e .guards .second))
+    ∷ (twoBytes (e .from) ++ (twoBytes (e .to) ++ g .test ∷ g .node ∷ updates))
+
+-- a branch and a second guard fit one byte
+abbrev pub BranchFits : ℕ → Guard → Type 0
+BranchFits b g = (b ≤ 1) × (g .test ≤ 3) × (g .node .0 ≤ 15)
 
 -- the fields fit an E record, and there is an update for each new node
 abbrev pub EdgeFits : EdgeFields → List ℕ → Type 0
 EdgeFits e us = (e .from < 65536) × (e .to < 65536) × (e .nodes ≤ mostNodes) × (e .nodes ≤ length us)
+    × BranchFits (e .branch) (e .guards .second)
 
 -- the table t with the record r at place n
 abbrev pub placed : List ℕ → ℕ → List ℕ → List ℕ

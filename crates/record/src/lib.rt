@@ -1,12 +1,15 @@
 // L, H and E records of 32 bytes: each writer is lent the part of a table that starts at its record.
 use model::EdgeFields;
+use model::Guard;
 use model::Statement;
 ghost use mathlib.Core.Path.{_≡_};
 ghost use mathlib.Core.List.{_∷_, _++_};
 ghost use Prim.Native.Nat.{_+_, _*_, _≤_};
 ghost use lib.ListN.{length, take, drop, replicate};
 ghost use Rattle.model.specs.Base.{mostNodes, recordSize};
-ghost use Rattle.record.specs.Written.{faultBytes, locationBytes, edgeBytes, updateBytes, placed, EdgeFits};
+ghost use Rattle.model.specs.Records.{branchByte};
+ghost use Rattle.model.specs.Structs.{codeIn};
+ghost use Rattle.record.specs.Written.{BranchFits, faultBytes, locationBytes, edgeBytes, updateBytes, placed, EdgeFits};
 
 // Makes the first 32 bytes zero.
 pub fn blank(part: &mut [u8])
@@ -66,15 +69,24 @@ fn write_updates(part: &mut [u8], updates: &[u16], k: usize)
     }
 }
 
+// Byte 1 of an E record: the branch in bit 0, a second guard in bits 1 and 2, its node in bits 3 to 6.
+fn branch_byte(branch: u8, second: Guard) -> u8
+    requires { ⌜ BranchFits branch second ⌝ }
+    ensures { λ r. ⌜ r ≡ branchByte branch (codeIn second) ⌝ }
+{
+    branch + 2 * second.test + 8 * second.node.0
+}
+
 // An E record: its fields, and an update for each new node.
 pub fn write_edge(part: &mut [u8], fields: EdgeFields, updates: &[u16])
     requires { ⌜ (recordSize ≤ length (now part)) × EdgeFits fields (now updates) ⌝ }
     ensures { λ _. ⌜ now (part .exit) ≡ edgeBytes fields (now (updates .entry))
         ++ drop recordSize (now (part .entry)) ⌝ }
 {
+    let head = branch_byte(fields.branch, fields.guards.second);
     blank(part);
     part[0] = 0x45;
-    part[1] = fields.branch;
+    part[1] = head;
     part[2] = (fields.from % 256) as u8;
     part[3] = (fields.from / 256) as u8;
     part[4] = (fields.to % 256) as u8;

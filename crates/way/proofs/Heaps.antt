@@ -1,22 +1,17 @@
 -- The heap that a way opens: it is closed, new finds its cell free, and a run on it is one on the way's heap.
 use Prim.Native.Nat.{ℕ, zero, suc, _<_}
-use mathlib.Core.Path.{_≡_, refl, sym, ap, subst, fun-ext, _∙_}
+use mathlib.Core.Path.{_≡_, refl, sym, subst, fun-ext, _∙_}
 use mathlib.Core.Bool.{Bool, true, false}
 use mathlib.Core.List.{List, [], _∷_, _++_}
 use native.Mathlib.Omega.{arith}
-use lib.Dec.{eqb}
 use lib.ListN.{List·getD-eq-default, getD, length}
-use borrow.Author.Tests.{eq-eqb, eqb-true}
-use Rattle.model.specs.Heap.{Heap, Slot, Val, cell, closed, holds, inUse, kept, next, null, ptr, undef, unused}
-use Rattle.model.specs.Machine.{Effect, Op, choose, clear, copy, done, effect, fault, free, isNull, keep, load, new, putSlot, carryOut, same, setNull, skip, stop, store, wipe, Action, action}
-use Rattle.model.specs.Edges.{Guard, splitHeap, view, oneNode}
+use Rattle.model.specs.Heap.{Heap, Slot, Val, closed, holds, next, unused}
+use Rattle.model.specs.Machine.{carryOut, Action, action}
+use Rattle.model.specs.Edges.{splitHeap, view}
 use Rattle.model.specs.Records.{opOf, opCount}
-use Rattle.model.proofs.expansion.Effects.{next-free, next-put}
 use Rattle.model.proofs.expansion.Facts.{closed-test}
-use Rattle.model.proofs.lists.Logic.{bool-case, eq-case}
-use Rattle.model.specs.Notions.{AllClosed, Closed, ClosedHeap, Used, upd, Room}
-use Rattle.model.proofs.visits.Walks.{closed-up}
-use Rattle.model.proofs.expansion.Writes.{holds-inj, upd-at, upd-off}
+use Rattle.model.proofs.lists.Logic.{bool-case}
+use Rattle.model.specs.Notions.{AllClosed, Closed, ClosedHeap, Used, Views, Room}
 use Rattle.way.specs.Way.{openedHeap, withUnused, makesAt, wayIn, openedCount}
 use Rattle.way.specs.declared.Way.{Way}
 use Rattle.model.proofs.expansion.Splits.{split-closed}
@@ -49,14 +44,14 @@ opened-closed false op n h c u =
     bool-case (makesAt op) (λ e. rw e (closed-test (withUnused h) (unused-closed h c))) (λ e. rw e (closed-test h c))
 
 -- new is not split, and its cell is not in use
-new-whole : (a : Action) (sp : Bool) (n : ℕ) (h : Heap) → (sp ≡ true → view a h ≡ oneNode n) → makes a ≡ true → sp
+new-whole : (a : Action) (sp : Bool) (n : ℕ) (h : Heap) → (sp ≡ true → Views (view a h) n) → makes a ≡ true → sp
     ≡ false
 new-whole a true n h v e = makes-view a h n e (v refl)
 new-whole a false n h v e = refl
 
 -- the action by the op's number
 module _ (op u w : ℕ) (lt : op < opCount) (sp : Bool) (n : ℕ) (h : Heap)
-    (v : sp ≡ true → view (action (opOf op u w)) h ≡ oneNode n) where
+    (v : sp ≡ true → Views (view (action (opOf op u w)) h) n) where
   abbrev a : Action
   a = action (opOf op u w)
 

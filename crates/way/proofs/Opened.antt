@@ -11,7 +11,7 @@ use borrow.Author.Tests.{eqb-true, ltb-true, ne-eqb}
 use Rattle.model.specs.Base.{all}
 use Rattle.model.specs.Heap.{Heap, Slot, unused, holds, cell, undef}
 use Rattle.model.specs.Image.{cellSlot, heapOf}
-use Rattle.model.specs.Machine.{done, setPtr, carryOut, keep, put, Op, action, Action, perform, point, follow, link, make, release, compare, stay}
+use Rattle.model.specs.Machine.{done, setPtr, carryOut, keep, put, Op, action, Action, perform, point, follow, link, make, release, compare, splice, stay}
 use Rattle.model.specs.Records.{byte, shapeOf, valOf, valueByte}
 use Rattle.model.proofs.lists.Lists.{getD-map, map-set}
 use Rattle.model.proofs.lists.Logic.{and-l, and-r, bool-case, or-cases, clash}
@@ -163,6 +163,7 @@ run-makes op h e = ap keep (by-action (action op) e)
     by-action (point u s) q = clash q refl
     by-action (follow u w) q = clash q refl
     by-action (link u s) q = clash q refl
+    by-action (splice u w) q = clash q refl
     by-action (make u) q =
         let e = put-after (h .slots) (holds undef) ∙ sym (put-end (h .slots) (holds undef)) in
         λ i. done (setPtr u (cell (length (h .slots))) (record { ptrs = h .ptrs; slots = e i }))

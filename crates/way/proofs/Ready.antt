@@ -12,7 +12,7 @@ use Rattle.model.specs.Records.{byte, shapeOf, valueByte}
 use Rattle.model.proofs.visits.Order.{used-below}
 use Rattle.model.proofs.records.ReadBack.{canon-writable, location-length, location-shape}
 use Rattle.model.specs.Notions.{Used}
-use Rattle.model.proofs.ways.Ways.{ClosedView, view-closed}
+use Rattle.model.proofs.ways.Views.{view-used}
 use Rattle.model.specs.Listings.{Writable}
 use Rattle.model.proofs.records.ShapeBack.{values-pass}
 use Rattle.way.specs.Way.{OpenReady}
@@ -48,7 +48,7 @@ module _ {l : List ℕ} {d : Decoded} {s : ℕ} {h : Heap} {y : Way} (R : WayRea
 
   -- a node that is split is one of the shape's, in use
   pub node-used : y .split ≡ true → Used (next h) (y .node .0)
-  node-used t = subst (ClosedView (next h)) (R .isNode t) (view-closed (action (opIn d)) h (R .isShape .closed .0))
+  node-used t = view-used (action (opIn d)) h (R .isShape .closed .0) (y .node .0) (R .isNode t)
 
   pub node-below : y .split ≡ true → y .node .0 < byte l 3
   node-below t = omega (arith, used-below (h .slots) (y .node .0) (node-used t), nodes-is)

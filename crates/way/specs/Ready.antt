@@ -5,10 +5,10 @@ use mathlib.Core.Bool.{true, false}
 use mathlib.Core.List.{List}
 use lib.ListN.{length}
 use Rattle.model.specs.Base.{pointerCount, mostStatements}
-use Rattle.model.specs.Edges.{at, oneNode, view}
+use Rattle.model.specs.Edges.{at, view}
 use Rattle.model.specs.Heap.{Heap}
 use Rattle.model.specs.Machine.{action, isStop, kind}
-use Rattle.model.specs.Notions.{Canon}
+use Rattle.model.specs.Notions.{Canon, Views}
 use Rattle.model.specs.Records.{locRecord}
 use Rattle.model.specs.Structs.{DecodedOk, Writes, opIn}
 use Rattle.model.specs.declared.Decoded.{Decoded}
@@ -24,4 +24,4 @@ pub record WayReady (l : List ℕ) (d : Decoded) (s : ℕ) (h : Heap) (y : Way) 
   pub goes : isStop (kind (opIn d)) ≡ false
   pub pick : y .pick ≤ 1
   pub guards : Writes (y .guards)
-  pub isNode : y .split ≡ true → view (action (opIn d)) h ≡ oneNode (y .node .0)
+  pub isNode : y .split ≡ true → Views (view (action (opIn d)) h) (y .node .0)

@@ -7,11 +7,13 @@ use mathlib.Core.Path.{_≡_}
 use lib.Dec.{eqb}
 use lib.ListN.{length, getD, getElem?, set, take, drop}
 use Rattle.model.specs.Base.{all, mem, mostNodes, recordSize, pointerCount}
-use Rattle.model.specs.Edges.{View, Way, split, splitHeap, viewVal, waysOf, whole}
-use Rattle.model.specs.Heap.{unused, Heap}
+use Rattle.model.specs.Edges.{View, Way, split, splitHeap, twoNodes, viewVal, waysOf, whole}
+use Rattle.model.specs.Heap.{Heap, Val, cell, null, undef, unused}
 use Rattle.model.specs.Machine.{Kind, isStop}
 use Rattle.model.specs.Records.{byte, valOf, valueByte}
-use Rattle.model.specs.Structs.{guardsIn}
+use Rattle.model.specs.Notions.{Views}
+use Rattle.model.specs.Structs.{Writes, guardsIn}
+use Rattle.way.specs.declared.Looked.{Looked}
 use Rattle.way.specs.declared.Way as declared
 
 -- ---- ways
@@ -28,14 +30,28 @@ wayIn y h = wayBy (y .split) y h
 abbrev pub wayNumber : Kind → View → Heap → ℕ
 wayNumber k v h = cond (isStop k) 0 (length (waysOf k v h))
 
--- y is way j of a statement that looks at the value v
-abbrev pub IsWay : ℕ → ℕ → declared.Way → Type 0
-IsWay v j y = (k : Kind) (h : Heap) → j < length (waysOf k (viewVal (valOf v)) h)
-    → getElem? (waysOf k (viewVal (valOf v)) h) j ≡ some (wayIn y h)
+-- What the struct stands for: a second node is there with a first only.
+abbrev pub viewBy : ℕ → Val → View
+viewBy a (cell m) = twoNodes a m
+viewBy a null = viewVal (valOf a)
+viewBy a undef = viewVal (valOf a)
+
+abbrev pub viewIn : Looked → View
+viewIn v = viewBy (v .first) (valOf (v .second))
+
+-- y is way j of a statement that looks at v, and ready to be written: a node that is split is looked at
+pub record IsWayOf (v : View) (j : ℕ) (y : declared.Way) (k : Kind) (h : Heap) : Type 0 where
+  pub isWay : getElem? (waysOf k v h) j ≡ some (wayIn y h)
+  pub pick : y .pick ≤ 1
+  pub guards : Writes (y .guards)
+  pub isNode : y .split ≡ true → Views v (y .node .0)
+
+abbrev pub IsWay : View → ℕ → declared.Way → Type 0
+IsWay v j y = (k : Kind) (h : Heap) → j < length (waysOf k v h) → IsWayOf v j y k h
 
 -- the ops that read, write or free through a pointer
 abbrev pub looksAt : ℕ → Bool
-looksAt op = mem op (3 ∷ 4 ∷ 5 ∷ 7 ∷ [])
+looksAt op = mem op (3 ∷ 4 ∷ 5 ∷ 7 ∷ 12 ∷ [])
 
 -- the op that takes a cell
 abbrev pub makesAt : ℕ → Bool

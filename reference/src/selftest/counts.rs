@@ -2,10 +2,10 @@
 
 use std::fmt;
 
-use super::undefined::WAYS;
+use super::{relinks, undefined};
 
-/// One more test of undefined pointers is wanted for each so many routines.
-const UNDEFINED_EACH: u64 = 100;
+/// One more of each kind is wanted for each so many routines.
+const EACH: u64 = 100;
 
 /// Index 0 of the last two arrays is not used: faults and refusals count from
 /// 1.
@@ -28,11 +28,16 @@ pub struct Counts {
     pub nodes: u64,
     /// Tests that look at an undefined pointer, by their way: locations of
     /// listings, steps of runs, and single steps on images.
-    pub undefined_listed: [u64; WAYS.len()],
-    pub undefined_run: [u64; WAYS.len()],
-    pub undefined_stepped: [u64; WAYS.len()],
+    pub undefined_listed: [u64; undefined::WAYS.len()],
+    pub undefined_run: [u64; undefined::WAYS.len()],
+    pub undefined_stepped: [u64; undefined::WAYS.len()],
     /// Steps of runs that test a pointer whose cell the run freed.
     pub freed_run: u64,
+    /// Relinks by their way: edges of listings, steps of runs, and single
+    /// steps on images.
+    pub relinks_listed: [u64; relinks::WAYS.len()],
+    pub relinks_run: [u64; relinks::WAYS.len()],
+    pub relinks_stepped: [u64; relinks::WAYS.len()],
     pub faults: [u64; 4],
     pub refusals: [u64; 18],
 }
@@ -64,20 +69,37 @@ impl Counts {
         let places = [("listings", self.undefined_listed), ("runs", self.undefined_run), ("steps", self.undefined_stepped)];
         let mut all = vec![("undefined in runs, test of a freed cell".to_string(), self.freed_run)];
         for (place, counts) in places {
-            all.extend(WAYS.iter().zip(counts).map(|(way, count)| (format!("undefined in {place}, test {way}"), count)));
+            let named = |(way, count): (&&str, u64)| (format!("undefined in {place}, test {way}"), count);
+            all.extend(undefined::WAYS.iter().zip(counts).map(named));
         }
         all
     }
 
-    /// How many tests of undefined pointers are wanted at each place in each way.
-    pub fn undefined_floor(&self) -> u64 {
-        1 + self.routines / UNDEFINED_EACH
+    /// The relinks by place and way.
+    fn relinks(&self) -> Vec<(String, u64)> {
+        let mut all = Vec::new();
+        for (place, counts) in [("listings", self.relinks_listed), ("runs", self.relinks_run), ("steps", self.relinks_stepped)] {
+            let named = |((way, _), count): (&(&str, u8), u64)| (format!("relink in {place}, {way}"), count);
+            all.extend(relinks::WAYS.iter().zip(counts).map(named));
+        }
+        all
     }
 
-    /// The tests of undefined pointers that came too seldom, if there are any.
+    /// What is to be met more than once, by name.
+    fn kinds(&self) -> Vec<(String, u64)> {
+        [self.undefined_tests(), self.relinks()].concat()
+    }
+
+    /// How many tests of undefined pointers, and how many relinks, are wanted
+    /// at each place in each way.
+    pub fn floor(&self) -> u64 {
+        1 + self.routines / EACH
+    }
+
+    /// The kinds that came too seldom, if there are any.
     pub fn too_few(&self) -> Option<String> {
-        let floor = self.undefined_floor();
-        let few = self.undefined_tests().into_iter().filter(|&(_, count)| count < floor);
+        let floor = self.floor();
+        let few = self.kinds().into_iter().filter(|&(_, count)| count < floor);
         let all: Vec<String> = few.map(|(name, count)| format!("{name} ({count} of {floor})")).collect();
         (!all.is_empty()).then(|| all.join(", "))
     }
@@ -103,7 +125,7 @@ impl fmt::Display for Counts {
         for (name, count) in lines {
             writeln!(out, "{name}: {count}")?;
         }
-        for (name, count) in self.undefined_tests() {
+        for (name, count) in self.kinds() {
             writeln!(out, "{name}: {count}")?;
         }
         for (number, count) in self.faults.iter().enumerate().skip(1) {

@@ -95,7 +95,7 @@ fn claim_cells(record: &Record, counters: &Counters, heap: &Heap, heads: &[usize
     Ok(owners)
 }
 
-fn is_core(heap: &Heap, cell: usize) -> bool {
+pub(super) fn is_core(heap: &Heap, cell: usize) -> bool {
     let held = Value::Cell(cell);
     let holders = heap.cells.iter().filter(|&&next| next == Some(held)).count();
     heap.pointers.contains(&held) || holders >= 2

@@ -2,12 +2,11 @@
 //! of each in their place and order.
 
 use super::counts::Counts;
-use super::undefined;
+use super::{relinks, undefined};
 use crate::automaton::{Automaton, Edge};
 use crate::input::Routine;
-use crate::records::{
-    fault_location, location, pointer_byte, shape_of, Record, NODES, NO_GUARD, NULL, ONE, TWO_OR_MORE, UNDEFINED,
-};
+use crate::records::{fault_location, location, pointer_byte, shape_of, Guard, Record};
+use crate::records::{ABSENT, NODES, NULL, ONE, TWO_OR_MORE, UNDEFINED};
 use crate::statement::{Op, Statement};
 use crate::unfold::check_shape;
 use std::collections::HashSet;
@@ -78,7 +77,7 @@ fn locations_are_numbered_as_found(automaton: &Automaton, routine: &Routine) -> 
 fn edges_of(counts: &mut Counts, automaton: &Automaton, routine: &Routine, number: usize) -> Result<(), String> {
     let record = &automaton.locations[number];
     let edges: Vec<&Edge> = automaton.leaving(number).iter().map(|&edge| &automaton.edges[edge]).collect();
-    let guards: Vec<(u8, usize)> = edges.iter().map(|edge| (edge.guard, edge.node)).collect();
+    let guards: Vec<[Guard; 2]> = edges.iter().map(|edge| edge.guards).collect();
     let statement = &routine.statements[usize::from(record[1])];
     if guards != expected_guards(record, statement) {
         return Err(format!("location {number} has the guards {guards:?}"));
@@ -87,6 +86,7 @@ fn edges_of(counts: &mut Counts, automaton: &Automaton, routine: &Routine, numbe
     let fits = match statement.op {
         Op::Choose => branches == [0, 1] || record[2] != 0,
         Op::TestNull | Op::TestEqual => edges.iter().all(|edge| edge_of_a_test(counts, automaton, statement, edge)),
+        Op::Relink => edges.iter().all(|edge| edge_of_a_relink(counts, automaton, statement, edge)),
         _ => branches.iter().all(|&branch| branch == 0),
     };
     if !fits {
@@ -114,32 +114,53 @@ fn edge_of_a_test(counts: &mut Counts, automaton: &Automaton, statement: &Statem
     edge.branch == branch && *target == location(next, &shape_of(record)) && carried
 }
 
-fn expected_guards(record: &Record, statement: &Statement) -> Vec<(u8, usize)> {
+fn edge_of_a_relink(counts: &mut Counts, automaton: &Automaton, statement: &Statement, edge: &Edge) -> bool {
+    let way = relinks::check_edge(automaton, statement, edge);
+    if let Some(way) = way {
+        counts.relinks_listed[way] += 1;
+    }
+    way.is_some()
+}
+
+fn expected_guards(record: &Record, statement: &Statement) -> Vec<[Guard; 2]> {
     if record[2] != 0 {
         return Vec::new();
     }
-    let none = (NO_GUARD, 0);
+    let none = [ABSENT; 2];
     let pointer = match statement.op {
         Op::Stop => return Vec::new(),
         Op::Choose => return vec![none, none],
+        Op::Relink => return guards_of_a_relink(record, statement),
         Op::LoadNext => statement.w,
         Op::CutNext | Op::StoreNext | Op::Free => statement.u,
         _ => return vec![none],
     };
     let byte = pointer_byte(record, pointer);
+    let guard = |kind| Guard { kind, node: usize::from(byte) };
     if byte < record[3] {
-        vec![(ONE, usize::from(byte)), (TWO_OR_MORE, usize::from(byte))]
+        vec![[guard(ONE), ABSENT], [guard(TWO_OR_MORE), ABSENT]]
     } else {
         vec![none]
     }
 }
 
+/// "u's counter = 1 and w's = 1; u's = 1 and w's >= 2; u's >= 2".
+fn guards_of_a_relink(record: &Record, statement: &Statement) -> Vec<[Guard; 2]> {
+    let [u, w] = [statement.u, statement.w].map(|pointer| pointer_byte(record, pointer));
+    if u == w || u >= record[3] || w >= record[3] {
+        return vec![[ABSENT; 2]];
+    }
+    let guard = |kind, node| Guard { kind, node: usize::from(node) };
+    vec![[guard(ONE, u), guard(ONE, w)], [guard(ONE, u), guard(TWO_OR_MORE, w)], [guard(TWO_OR_MORE, u), ABSENT]]
+}
+
 /// Entries past the nodes are zero, the others are not, no old counter is
 /// added twice, and an old counter past the nodes is never added. Under = 1
-/// there are no constants, since the node's own counter is carried.
+/// alone there are no constants, since the node's own counter is carried.
 fn updates_fit(automaton: &Automaton, edge: &Edge) -> Result<(), String> {
     let old_nodes = automaton.locations[edge.from][3];
     let target = &automaton.locations[edge.to];
+    let alone = edge.guards[0].kind == ONE && edge.guards[1].kind != TWO_OR_MORE;
     let mut seen = 0u16;
     for new in 0..NODES {
         let update = edge.updates[new];
@@ -147,7 +168,7 @@ fn updates_fit(automaton: &Automaton, edge: &Edge) -> Result<(), String> {
         if (new < usize::from(target[3])) != (update != 0) || added & seen != 0 {
             return Err(format!("the updates of {edge:?} do not fit"));
         }
-        if edge.guard == ONE && update != 0 && update >> 12 != 1 {
+        if alone && update != 0 && update >> 12 != 1 {
             return Err(format!("{edge:?} has a constant"));
         }
         seen |= added;

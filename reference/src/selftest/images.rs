@@ -3,7 +3,7 @@
 use super::counts::Counts;
 use super::describes::describes;
 use super::refusals::{any_bytes, lost_cell, named_wrongly, wrong_unfolding};
-use super::undefined;
+use super::{relinks, undefined};
 use crate::calls::{fold, step, unfold, Folded, Stepped};
 use crate::heap::{Heap, Value};
 use crate::image::{write_image, IMAGE_CELLS};
@@ -11,8 +11,8 @@ use crate::input::Refusal;
 use crate::machine::{run, Outcome};
 use crate::random::{drop_lost_cells, random_heap, rename, Random};
 use crate::records::{Record, STATEMENTS, UNDEFINED, UNUSED};
-use crate::routines::random_statement;
-use crate::statement::{read_statement, Op};
+use crate::routines::{any_relink, random_statement};
+use crate::statement::{read_statement, Op, OPS};
 
 /// The bytes of a heap image.
 #[derive(Clone, PartialEq, Eq, Debug)]
@@ -39,10 +39,13 @@ pub fn test(random: &mut Random, counts: &mut Counts, number: u64) -> Result<(),
     let heap = random_heap(random, most);
     let length = random.between(heap.cells.len(), IMAGE_CELLS);
     let folded = round_trip(random, counts, &heap, length)?;
-    let any = random_statement(random, 0, STATEMENTS, 6, &[1; 12]);
+    let any = random_statement(random, 0, STATEMENTS, 6, &[1; OPS.len()]);
     single_step(random, counts, &heap, length, &any)?;
     let (with_undefined, comparison) = undefined_comparison(random, &heap);
     single_step(random, counts, &with_undefined, length, &comparison)?;
+    let (with_two, relink) = any_relink(random, &heap);
+    let room = length.max(with_two.cells.len());
+    single_step(random, counts, &with_two, room, &relink)?;
     let refusal = 13 + (number % 3) as u8;
     match refusal {
         13 => named_wrongly(random, counts, &heap, length)?,
@@ -88,7 +91,7 @@ fn round_trip(random: &mut Random, counts: &mut Counts, heap: &Heap, length: usi
 /// A test, and the heap with one or both of its pointers made undefined. Op 8
 /// does not look at the second, which is pointer 0 there.
 fn undefined_comparison(random: &mut Random, heap: &Heap) -> (Heap, Record) {
-    let record = random_statement(random, 0, STATEMENTS, 6, &[0, 0, 0, 0, 0, 0, 0, 0, 1, 2, 0, 0]);
+    let record = random_statement(random, 0, STATEMENTS, 6, &[0, 0, 0, 0, 0, 0, 0, 0, 1, 2, 0, 0, 0]);
     let both = [usize::from(record[2]), usize::from(record[3])];
     let made_undefined = [&both[..1], &both[1..], &both[..]][random.below(3)];
     let mut changed = heap.clone();
@@ -132,5 +135,9 @@ fn single_step(random: &mut Random, counts: &mut Counts, heap: &Heap, length: us
     if let Some(way) = way {
         counts.undefined_stepped[way] += 1;
     }
-    undefined::check(&statement, way, if let Stepped::Fault(fault) = stepped { fault } else { 0 })
+    let fault = if let Stepped::Fault(fault) = stepped { fault } else { 0 };
+    if let Some(way) = relinks::check_step(&statement, heap, &after, fault)? {
+        counts.relinks_stepped[way] += 1;
+    }
+    undefined::check(&statement, way, fault)
 }

@@ -9,6 +9,7 @@ mod images;
 mod mutate;
 mod parts;
 mod refusals;
+mod relinks;
 mod runs;
 mod tables;
 mod undefined;
@@ -27,7 +28,7 @@ pub const ROUTINES: u64 = 12_000;
 
 /// Tests so many routines. Answers what was counted, or what differs, or
 /// which refusal or fault was never met, or which tests of undefined pointers
-/// were too few.
+/// or relinks were too few.
 pub fn run(seed: u64, routines: u64) -> Result<Counts, String> {
     let mut random = Random::new(seed);
     // What a seed draws elsewhere does not hang on the parts.

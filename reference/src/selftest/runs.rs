@@ -3,7 +3,7 @@
 use super::counts::Counts;
 use super::describes::describes;
 use super::draws::{any_unused_cell, random_edge_number};
-use super::undefined;
+use super::{relinks, undefined};
 use crate::automaton::{Automaton, Configuration};
 use crate::fold::{fold_heap, Counters};
 use crate::heap::{Heap, Value, POINTERS};
@@ -195,8 +195,9 @@ pub fn follow_the_edges(
     Ok(())
 }
 
-/// Counts a step. A fault leaves heap and statement as they stood, and a test
-/// faults exactly when it looks at an undefined pointer.
+/// Counts a step. A fault leaves heap and statement as they stood, a test
+/// faults exactly when it looks at an undefined pointer, and a relink does
+/// what it should.
 fn check_step(counts: &mut Counts, routine: &Routine, before: &Running, after: &Running) -> Result<(), String> {
     counts.steps += 1;
     if after.fault != 0 {
@@ -217,6 +218,9 @@ fn check_step(counts: &mut Counts, routine: &Routine, before: &Running, after: &
         if way.is_none() {
             return Err("a pointer to a freed cell is not undefined".to_string());
         }
+    }
+    if let Some(way) = relinks::check_step(statement, &before.heap, &after.heap, after.fault)? {
+        counts.relinks_run[way] += 1;
     }
     undefined::check(statement, way, after.fault)
 }

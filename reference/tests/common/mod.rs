@@ -59,6 +59,12 @@ pub fn e(branch: u8, to: u8, guard: u8, node: u8, updates: &[u16]) -> Record {
     record
 }
 
+/// The same edge with a second guard.
+pub fn second(guard: u8, node: u8, mut edge: Record) -> Record {
+    edge[1] |= guard << 1 | node << 3;
+    edge
+}
+
 /// The same edge from another location.
 pub fn from(location: u8, mut edge: Record) -> Record {
     edge[2] = location;

@@ -90,14 +90,14 @@ pub fn damaged_image(d: &mut Draw, most: usize) -> (Vec<u8>, Vec<u8>) {
 
 /// An S record, now and then damaged; targets below 64.
 pub fn statement(d: &mut Draw) -> Vec<u8> {
-    let op = d.below(12) as u8;
+    let op = d.below(13) as u8;
     let mut r = vec![0; 32];
     r[0] = 0x53;
     r[1] = op;
-    if (1..=9).contains(&op) {
+    if uses_u(op) {
         r[2] = d.below(6) as u8;
     }
-    if matches!(op, 2 | 3 | 5 | 9) {
+    if uses_w(op) {
         r[3] = d.below(6) as u8;
     }
     if op != 0 {
@@ -121,8 +121,19 @@ pub fn damage_record(d: &mut Draw, r: &mut Vec<u8>) {
     }
 }
 
+/// Whether the op uses the pointers u and w.
+fn uses_u(op: u8) -> bool {
+    matches!(op, 1..=9 | 12)
+}
+
+fn uses_w(op: u8) -> bool {
+    matches!(op, 2 | 3 | 5 | 9 | 12)
+}
+
 /// Every op, those that walk and choose more often.
-const ANY: [u8; 18] = [1, 2, 2, 3, 3, 3, 4, 5, 5, 6, 6, 7, 8, 9, 10, 10, 11, 0];
+const ANY: [u8; 19] = [1, 2, 2, 3, 3, 3, 4, 5, 5, 6, 6, 7, 8, 9, 10, 10, 11, 12, 0];
+/// Many relinks, among ops that make, walk and link.
+const RELINKING: [u8; 16] = [1, 2, 3, 3, 5, 6, 6, 7, 10, 11, 12, 12, 12, 12, 12, 0];
 /// Cells freed, pointers copied, and many tests.
 const TESTING: [u8; 15] = [1, 2, 2, 3, 6, 7, 7, 8, 8, 9, 9, 9, 10, 10, 0];
 
@@ -134,6 +145,11 @@ pub fn routine(d: &mut Draw, i: usize) -> Vec<u8> {
 /// A routine whose tests often look at an undefined pointer.
 pub fn testing_routine(d: &mut Draw, i: usize) -> Vec<u8> {
     routine_of(d, i, &TESTING)
+}
+
+/// A routine that often relinks.
+pub fn relinking_routine(d: &mut Draw, i: usize) -> Vec<u8> {
+    routine_of(d, i, &RELINKING)
 }
 
 fn routine_of(d: &mut Draw, i: usize, ops: &[u8]) -> Vec<u8> {
@@ -150,10 +166,10 @@ fn routine_of(d: &mut Draw, i: usize, ops: &[u8]) -> Vec<u8> {
         let mut r = [0u8; 32];
         r[0] = 0x53;
         r[1] = op;
-        if (1..=9).contains(&op) {
+        if uses_u(op) {
             r[2] = d.below(pointers) as u8;
         }
-        if matches!(op, 2 | 3 | 5 | 9) {
+        if uses_w(op) {
             r[3] = d.below(pointers) as u8;
         }
         let mut target = || if d.one_in(3) { d.below(n) as u8 } else { ((s + 1) % n) as u8 };

@@ -1,11 +1,11 @@
--- `edge::one_edge` meets its contract: ops from 8 on are not run, a leak that is seen at once is written, and the
+-- `edge::one_edge` meets its contract: ops 8 to 11 are not run, a leak that is seen at once is written, and the
 -- others are run.
 use mathlib.Core.Path.{refl}
+use mathlib.Core.Bool.{_&&_}
 use borrow.Author.Needs.{needs}
 use Rattle.edge.proofs.one_edge.Statement.{statement}
 use Rattle.edge.proofs.one_edge.Tie as tie
 use lib.Dec.{eqb, leb}
-use borrow.Author.Tests.{le-leb}
 use Rattle.model.proofs.lists.Logic.{or-r}
 use Rattle.edge.proofs.Keeping.{changes-op}
 use Rattle.edge.proofs.Edges.{fault-leaves}
@@ -14,14 +14,14 @@ use Rattle.model.specs.Machine.{leak}
 
 still-edge-requires : tie.Need-still-edge-requires
 still-edge-requires c κs =
-    let s = c .before .before .before .before .before .before .before in
+    let s = c .before .before .before .before .before .before .before .before in
     let op = s .args .d .op in
-    (or-r (eqb op 0) (leb 8 op) (le-leb 8 op (c .before .before .if1 .taken)), s .pre)
+    (or-r (eqb op 0) (leb 8 op && leb op 11) (c .before .before .if1 .taken), s .pre)
 
 surely-lost-requires : tie.Need-surely-lost-requires
 surely-lost-requires c κs =
-    let p = c .before .before .before .before .before .pre in
-    let a = c .before .before .before .before .before .args in
+    let p = c .before .before .before .before .before .before .pre in
+    let a = c .before .before .before .before .before .before .args in
     record {
       number = p .number;
       shape = p .shape;
@@ -31,7 +31,7 @@ surely-lost-requires c κs =
 
 fault-edge-requires : tie.Need-fault-edge-requires
 fault-edge-requires c κs =
-    let p = c .before .before .before .before .before .before .before .before .pre in
+    let p = c .before .before .before .before .before .before .before .before .before .pre in
     (location-wide (p .ready), p .wide)
 
 returns-2 : tie.Need-returns-2

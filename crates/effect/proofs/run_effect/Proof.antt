@@ -26,6 +26,9 @@ new-cell-requires c κs =
     let p = start (c .before .before .before) .pre in
     (search needs, room-x p (search needs), p .few)
 
+relink-through-requires : tie.Need-relink-through-requires
+relink-through-requires c κs = let p = start (c .before .before) .pre in (named-u p, named-w p)
+
 free-at-requires : tie.Need-free-at-requires
 free-at-requires c κs = let p = start (c .before .before .before) .pre in (named-u p, p .few)
 
@@ -34,7 +37,7 @@ test-fault-requires c κs =
     let p = start (c .before .before) .pre in
     record {
       fields = record { known = p .known; isU = p .isU; isW = p .isW };
-      stays = keeps-rest _ (c .before .match .rest);
+      stays = keeps-rest _ (p .known) (c .before .match .rest .0) (c .before .match .rest .1);
       six = p .six;
     }
 
@@ -83,6 +86,13 @@ returns-7 c =
 
 returns-8 : tie.Need-returns-8
 returns-8 c =
+    let s = start (c .before .before .before .before .before) in
+    let p = s .pre in
+    let e : s .args .d .op ≡ 12 = search needs in
+    as-effect (c .before .before .relink-through .ensures (s .args .pointers .now)) (rw (e, ready-u p, ready-w p))
+
+returns-9 : tie.Need-returns-9
+returns-9 c =
     let s = start (c .before .before .before) in
     record {
       outcome = c .test-fault .ensures (s .args .x) (heapOf (s .args .pointers .now) (s .args .cells .now)) refl;
@@ -94,7 +104,8 @@ run-effect-spec =
     tie.close
     (tie.spec (λ c. search needs) (λ c. search needs) (λ c. search needs) (λ c. search needs) (λ c κs. search needs)
     (λ c κs. search needs) load-through-requires store-through-requires store-through-requires-2 new-cell-requires
-    free-at-requires test-fault-requires (λ c. search needs) returns (λ c. search needs) returns-2
+    free-at-requires relink-through-requires test-fault-requires (λ c. search needs) returns (λ c. search needs)
+    returns-2
     (λ c. search needs) (λ c. search needs) returns-3 (λ c. search needs) returns-4 (λ c. search needs) returns-5
     (λ c. search needs) (λ c. search needs) returns-6 (λ c. search needs) (λ c. search needs) returns-7
-    (λ c. search needs) returns-8)
+    (λ c. search needs) returns-8 (λ c. search needs) returns-9)

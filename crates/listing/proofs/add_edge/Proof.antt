@@ -5,7 +5,7 @@ use borrow.Author.Needs.{needs}
 use Rattle.model.specs.Base.{mostLocations}
 use Rattle.model.specs.Translate.{places}
 use Rattle.listing.proofs.Kept.{place-within}
-use Rattle.listing.proofs.Held.{full-edges, full-locations, one-more, target-tag}
+use Rattle.listing.proofs.Held.{branch-fits, full-edges, full-locations, one-more, target-tag}
 use Rattle.listing.proofs.add_edge.Statement.{statement}
 use Rattle.listing.proofs.add_edge.Tie as tie
 
@@ -30,7 +30,13 @@ keep-target-requires c κs =
     (place-within mostLocations (length (a .locations .now)) j h, search needs, target-tag (s .pre .bytes))
 
 put-edge-requires : tie.Need-put-edge-requires
-put-edge-requires c κs = rw (c .fields-to .ensures) (search needs)
+put-edge-requires c κs =
+    let b = c .before .before .before .before .before .before .before .before in
+    let p = b .before .before .before .before .before .before .before .before .pre in
+    rw (c .fields-to .ensures) (
+      search needs,
+      (search needs, search needs, search needs, search needs, branch-fits (p .bytes) (p .branch) (p .guarded)),
+    )
 
 returns-3 : tie.Need-returns-3
 returns-3 c t e H W B =

@@ -17,10 +17,16 @@ alone-holds-requires c κs =
     let p = c .before .before .before .before .before .pre in
     (location-wide (p .ready), p .ready .statement .isU, nodes-few (p .ready))
 
+splits-at-requires : tie.Need-splits-at-requires
+splits-at-requires c κs =
+    let p = c .before .before .before .pre in
+    (location-wide (p .ready), p .ready .statement .isU)
+
 returns : tie.Need-returns
 returns c e =
-    let a = c .before .before .before .args in
-    cut-leaks (a .location .now) (a .d) (a .way) (sym (c .before .cuts-next .ensures) ∙ c .if1 .taken) e
+    let a = c .before .before .before .before .args in
+    cut-leaks (a .location .now) (a .d) (a .way)
+    (sym (c .before .before .cuts-next .ensures) ∙ c .before .if1 .taken) (c .splits-at .ensures e)
 
 returns-2 : tie.Need-returns-2
 returns-2 c e =
@@ -33,4 +39,5 @@ returns-2 c e =
 pub surely-lost-spec : {M : Type 1} → statement M
 surely-lost-spec =
     tie.close
-    (tie.spec (λ c κs. search needs) overwrites-requires alone-holds-requires returns returns-2 (λ c e. clash e refl))
+    (tie.spec (λ c κs. search needs) splits-at-requires overwrites-requires alone-holds-requires returns returns-2
+    (λ c e. clash e refl))

@@ -1,21 +1,26 @@
 -- Every effect carries over: on a heap and on its expansion both fault alike, or both finish in an expansion.
-use Prim.Native.Nat.{suc, zero, ℕ}
+use Prim.Native.Nat.{_<_, suc, zero, ℕ}
 use mathlib.Core.Path.{_∙_, _≡_, ap, fun-ext, refl, subst, subst₂, sym}
+use mathlib.Core.Logic.{inl, inr}
 use mathlib.Core.Bool.{cond}
 use mathlib.Core.List.{List, [], _∷_, map, map-map}
+use native.Mathlib.Omega.{arith}
 use lib.Dec.{eqb, eqb·suc-suc, eqb·suc-zero, eqb·zero-suc}
-use lib.ListN.{List·getD-map, getD, set}
+use lib.ListN.{List·getD-map, getD, length, set}
+use borrow.Author.Tests.{eqb-true}
 use Rattle.model.specs.Heap.{Heap, Slot, Val, cell, holds, next, null, ptr, undef, unused}
 use Rattle.model.specs.Shape.{Seg, lastFrom}
 use Rattle.model.proofs.expansion.Changes.{expands-free, expands-split, f-closed, f-img, freed, s-closed, s-img}
 use Rattle.model.proofs.expansion.Cores.{chain-last}
+use Rattle.model.proofs.expansion.Folds.{chain-used}
 use Rattle.model.proofs.lists.Lists.{map-set}
-use Rattle.model.proofs.lists.Logic.{eqb-same}
+use Rattle.model.proofs.lists.Logic.{bool-case, eqb-same, mem-here}
 use Rattle.model.specs.Notions.{Alike, Expands, Expansion, Room, both-bad, both-ok, img, sg-after, upd, AllClosed, Closed, Used, seg, Alone}
+use Rattle.model.proofs.visits.Order.{used-below}
 use Rattle.model.proofs.visits.Walks.{closed-map, closed-up, map-closed}
 use Rattle.model.proofs.expansion.Writes.{expands-new, expands-write, n-closed, n-img, upd-at, w-closed}
-use Rattle.model.specs.Machine.{put, putSlot, freeCell, setPtr, Source, Action, Effect, compare, look, wipeSlot, wipe, valueOf, through, freeVal, perform, held, from, point, follow, link, make, release, nil, stay}
-use Rattle.model.specs.Edges.{splitHeap, viewVal, view}
+use Rattle.model.specs.Machine.{put, putSlot, freeCell, setPtr, Source, Action, Effect, compare, look, wipeSlot, wipe, valueOf, through, freeVal, perform, held, from, point, follow, link, make, release, nil, splice, stay, done}
+use Rattle.model.specs.Edges.{splitHeap, twoNodes, viewVal, viewPair, view}
 
 getD-put : (l : List Slot) (c : ℕ) (s : Slot) (i : ℕ) → getD (put l c s) i unused ≡ cond (eqb i c) s (getD l i unused)
 getD-put [] zero s zero = refl
@@ -29,6 +34,17 @@ getD-put (x ∷ l) (suc c) s (suc i) = rw (eqb·suc-suc i c) (getD-put l c s i)
 
 pub next-put : (h : Heap) (c : ℕ) (s : Slot) → next (putSlot c s h) ≡ upd (next h) c s
 next-put h c s = fun-ext (λ i. getD-put (h .slots) c s i)
+
+-- a slot that is put again as it was
+put-again : (l : List Slot) (c : ℕ) → c < length l → put l c (getD l c unused) ≡ l
+put-again [] c q = absurd (omega arith)
+put-again (x ∷ l) zero q = refl
+put-again (x ∷ l) (suc c) q = ap (λ r. x ∷ r) (put-again l c (omega arith))
+
+pub put-same : (h : Heap) (c : ℕ) → Used (next h) c → putSlot c (holds (held (next h c))) h ≡ h
+put-same h c u =
+    ap (λ s. putSlot c s h) (ap (λ s. holds (held s)) (u .1) ∙ sym (u .1))
+    ∙ (λ i. record { ptrs = h .ptrs; slots = put-again (h .slots) c (used-below (h .slots) c u) i })
 
 pub next-free : (h : Heap) (c : ℕ) → next (freeCell c h) ≡ freed (next h) c
 next-free h c =
@@ -117,6 +133,16 @@ module _ (W : Heap) (sg : ℕ → Seg) (H : Heap) (X : Expansion W sg H) where
   one-cell : (n : ℕ) → sg n .rest ≡ [] → sg n ≡ seg (sg n .first) []
   one-cell n e = λ i. record { first = sg n .first; rest = e i }
 
+  -- what the first cell of a node holds, where the node is one cell
+  next-one : (n : ℕ) (v : Val) → next W n ≡ holds v → sg n .rest ≡ [] → next H (sg n .first) ≡ holds (img sg v)
+  next-one n v e o =
+      subst (λ l. next H (lastFrom (sg n .first) l) ≡ holds (img sg v)) o
+      (chain-last (next H) (sg n .first) (sg n .rest) (img sg v) (X .body .chain n v e))
+
+  pub first-used : (n : ℕ) → Used (next W) n → Used (next H) (sg n .first)
+  first-used n u = chain-used (next H) (sg n .first) (sg n .rest) (img sg (u .0)) (sg n .first)
+      (X .body .chain n (u .0) (u .1)) (mem-here (sg n .first) (sg n .rest))
+
   pub value-img : (s : Source) → valueOf s H ≡ img sg (valueOf s W)
   value-img nil = refl
   value-img (from w) = ptr-img W sg H X w
@@ -126,26 +152,50 @@ module _ (W : Heap) (sg : ℕ → Seg) (H : Heap) (X : Expansion W sg H) where
   value-closed (from w) = ptr-closed W sg H X w
 
   link-alike : (v w : Val) → w ≡ img sg v → Closed (next W) v → Alone (viewVal v) sg → (x : Val) → Closed (next W) x
-      → Alike sg (through v (λ d. putSlot d (holds x) W)) (through w (λ d. putSlot d (holds (img sg x)) H))
+      → Alike sg (through v (λ d. done (putSlot d (holds x) W)))
+      (through w (λ d. done (putSlot d (holds (img sg x)) H)))
   link-alike null w e k o x q = rw e both-bad
   link-alike undef w e k o x q = rw e both-bad
-  link-alike (cell n) w e k o x q = rw e (both-ok (exp-write W sg H X n (sg n .first) x (one-cell n o) k q))
+  link-alike (cell n) w e k o x q = rw e (both-ok (exp-write W sg H X n (sg n .first) x (one-cell n (o n refl)) k q))
 
   follow-alike : (u : ℕ) (v w : Val) → w ≡ img sg v → Closed (next W) v → Alone (viewVal v) sg
-      → Alike sg (through v (λ d. setPtr u (held (next W d)) W)) (through w (λ d. setPtr u (held (next H d)) H))
+      → Alike sg (through v (λ d. done (setPtr u (held (next W d)) W)))
+      (through w (λ d. done (setPtr u (held (next H d)) H)))
   follow-alike u null w e k o = rw e both-bad
   follow-alike u undef w e k o = rw e both-bad
   follow-alike u (cell n) w e k o =
-      let p : next H (sg n .first) ≡ holds (img sg (k .0)) =
-      subst (λ l. next H (lastFrom (sg n .first) l) ≡ holds (img sg (k .0))) o
-      (chain-last (next H) (sg n .first) (sg n .rest) (img sg (k .0)) (X .body .chain n (k .0) (k .1))) in
-      rw (e, k .1, p) (both-ok (exp-ptr W sg H X u (k .0) (X .body .closed n (k .0) (k .1))))
+      rw (e, k .1, next-one n (k .0) (k .1) (o n refl))
+      (both-ok (exp-ptr W sg H X u (k .0) (X .body .closed n (k .0) (k .1))))
 
   release-alike : (v w : Val) → w ≡ img sg v → Closed (next W) v → Alone (viewVal v) sg
       → Alike sg (freeVal v W) (freeVal w H)
   release-alike null w e k o = rw e (both-ok X)
   release-alike undef w e k o = rw e both-bad
-  release-alike (cell n) w e k o = rw e (both-ok (exp-free W sg H X n (sg n .first) (one-cell n o) k))
+  release-alike (cell n) w e k o = rw e (both-ok (exp-free W sg H X n (sg n .first) (one-cell n (o n refl)) k))
+
+  -- a next that is written by what it holds, or by what the one cell of another node holds
+  splice-cells : (n m : ℕ) → Used (next W) n → Used (next W) m → Alone (viewPair (cell n) (cell m)) sg
+      → Expansion (putSlot n (holds (held (next W m))) W) sg
+      (putSlot (sg n .first) (holds (held (next H (sg m .first)))) H)
+  splice-cells n m k q o = bool-case (eqb n m)
+      (λ e. let z = eqb-true n m e in
+      subst₂ (λ a b. Expansion a sg b)
+      (sym (ap (λ i. putSlot n (holds (held (next W i))) W) (sym z) ∙ put-same W n k))
+      (sym (ap (λ i. putSlot (sg n .first) (holds (held (next H (sg i .first)))) H) (sym z)
+      ∙ put-same H (sg n .first) (first-used n k))) X)
+      (λ e. let a : Alone (twoNodes n m) sg = rw e at o in
+      rw (q .1, next-one m (q .0) (q .1) (a m (inr refl)))
+      (exp-write W sg H X n (sg n .first) (q .0) (one-cell n (a n (inl refl))) k (X .body .closed m (q .0) (q .1))))
+
+  splice-alike : (v x w y : Val) → w ≡ img sg v → y ≡ img sg x → Closed (next W) v → Closed (next W) x
+      → Alone (viewPair v x) sg
+      → Alike sg (through x (λ d. through v (λ c. done (putSlot c (holds (held (next W d))) W))))
+      (through y (λ d. through w (λ c. done (putSlot c (holds (held (next H d))) H))))
+  splice-alike v null w y e f k q o = rw f both-bad
+  splice-alike v undef w y e f k q o = rw f both-bad
+  splice-alike null (cell m) w y e f k q o = rw (f, e) both-bad
+  splice-alike undef (cell m) w y e f k q o = rw (f, e) both-bad
+  splice-alike (cell n) (cell m) w y e f k q o = rw (f, e) (both-ok (splice-cells n m k q o))
 
   -- a value is undefined where what it stands for is
   look-alike : (v w : Val) → w ≡ img sg v → {a b : Effect} → Alike sg a b → Alike sg (look v a) (look w b)
@@ -166,6 +216,9 @@ module _ (W : Heap) (sg : ℕ → Seg) (H : Heap) (X : Expansion W sg H) where
   effect-alike (link u s) k c o fw fh =
       rw (value-img s)
       (link-alike (ptr W u) (ptr H u) (ptr-img W sg H X u) (ptr-closed W sg H X u) o (valueOf s W) (value-closed s))
+  effect-alike (splice u w) k c o fw fh =
+      splice-alike (ptr W u) (ptr W w) (ptr H u) (ptr H w) (ptr-img W sg H X u) (ptr-img W sg H X w)
+      (ptr-closed W sg H X u) (ptr-closed W sg H X w) o
   effect-alike (make u) k c o fw fh =
       let N = exp-new W sg H X k c fw fh in
       let W′ = putSlot k (holds undef) W in

@@ -7,7 +7,7 @@ use lib.ListN.{length, length-map, length-set}
 use borrow.Author.Tests.{leb-false}
 use Rattle.model.specs.Heap.{Heap, Slot, Val, cell, holds, next, null, ptr, undef, unused}
 use Rattle.model.specs.Image.{pastEnd}
-use Rattle.model.specs.Machine.{Action, Effect, Fault, atNull, atUndef, compare, look, done, fault, follow, freeCell, freeVal, held, leak, link, make, perform, point, put, putSlot, release, setPtr, stay, through, valueOf, wipe, wipeSlot}
+use Rattle.model.specs.Machine.{Action, Effect, Fault, atNull, atUndef, compare, look, done, fault, follow, freeCell, freeVal, held, leak, link, make, perform, point, put, putSlot, release, setPtr, splice, stay, through, valueOf, wipe, wipeSlot}
 use Rattle.model.specs.Notions.{Closed, ClosedHeap, Used}
 use Rattle.model.proofs.expansion.Effects.{closed-ptr}
 use Rattle.model.proofs.visits.Order.{used-below}
@@ -28,8 +28,8 @@ null-no-leak e = let z : _≡_ {A = ℕ} 0 1 = cc in omega arith
 undef-no-leak : atUndef ≡ leak → ⊥
 undef-no-leak e = let z : _≡_ {A = ℕ} 0 1 = cc in omega arith
 
-through-leaves : (a : Action) (n : ℕ) (h : Heap) (v : Val) → Closed (next h) v → (f : ℕ → Heap)
-    → ((c : ℕ) → Used (next h) c → Leaves a n h (done (f c))) → Leaves a n h (through v f)
+through-leaves : (a : Action) (n : ℕ) (h : Heap) (v : Val) → Closed (next h) v → (f : ℕ → Effect)
+    → ((c : ℕ) → Used (next h) c → Leaves a n h (f c)) → Leaves a n h (through v f)
 through-leaves a n h (cell c) k f g = g c k
 through-leaves a n h null k f g = fails null-no-leak
 through-leaves a n h undef k f g = fails undef-no-leak
@@ -52,12 +52,17 @@ effect-leaves (compare u s) n h cl =
 effect-leaves (point u s) n h cl = points u (valueOf s h)
 effect-leaves (follow u w) n h cl =
     through-leaves (follow u w) n h (ptr h w) (closed-ptr (next h) (h .ptrs) w (cl .0))
-    (λ d. setPtr u (held (next h d)) h)
+    (λ d. done (setPtr u (held (next h d)) h))
     (λ c k. points u (held (next h c)))
 effect-leaves (link u s) n h cl =
     through-leaves (link u s) n h (ptr h u) (closed-ptr (next h) (h .ptrs) u (cl .0))
-    (λ d. putSlot d (holds (valueOf s h)) h)
+    (λ d. done (putSlot d (holds (valueOf s h)) h))
     (λ c k. links c (holds (valueOf s h)) k)
+effect-leaves (splice u w) n h cl =
+    through-leaves (splice u w) n h (ptr h w) (closed-ptr (next h) (h .ptrs) w (cl .0))
+    (λ d. through (ptr h u) (λ c. done (putSlot c (holds (held (next h d))) h)))
+    (λ d q. through-leaves (splice u w) n h (ptr h u) (closed-ptr (next h) (h .ptrs) u (cl .0))
+    (λ c. done (putSlot c (holds (held (next h d))) h)) (λ c k. links c (holds (held (next h d))) k))
 effect-leaves (make u) n h cl = makes u refl
 effect-leaves (release u) n h cl = free-leaves (release u) n h (ptr h u) (closed-ptr (next h) (h .ptrs) u (cl .0))
 

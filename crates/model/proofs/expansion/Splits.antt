@@ -1,13 +1,15 @@
 -- A node split into its head and the tail: what each cell then holds, and that the tail stays in use through an action.
 use Prim.Native.Nat.{ℕ}
-use mathlib.Core.Path.{_≡_, refl, sym, ap, subst, _∙_}
-use mathlib.Core.Bool.{false}
+use mathlib.Core.Path.{_≡_, refl, sym, ap, ap₂, subst, _∙_}
+use mathlib.Core.Logic.{_⊎_}
+use mathlib.Core.Bool.{cond, false}
 use native.Mathlib.Omega.{arith}
 use lib.Dec.{eqb}
+use borrow.Author.Tests.{eqb-false, ne-eqb}
 use Rattle.model.specs.Heap.{Heap, Slot, Val, cell, holds, kept, next, null, ptr, undef}
-use Rattle.model.specs.Machine.{Action, Effect, carryOut, done, fault, keep, putSlot, wipe, perform, Op, point, action, follow, link, valueOf, make, release, compare, stay}
-use Rattle.model.specs.Edges.{View, oneNode, splitHeap, view, viewVal, noNode}
-use Rattle.model.specs.Notions.{AllClosed, Closed, ClosedHeap, Used, upd}
+use Rattle.model.specs.Machine.{Action, Effect, carryOut, done, fault, keep, putSlot, wipe, perform, Op, point, action, follow, link, valueOf, make, release, compare, held, splice, stay}
+use Rattle.model.specs.Edges.{noNode, splitHeap, twoNodes, view, viewPair, viewVal}
+use Rattle.model.specs.Notions.{AllClosed, Closed, ClosedHeap, Used, Views, upd}
 use Rattle.model.proofs.expansion.Effects.{next-free, next-put}
 use Rattle.model.proofs.expansion.Writes.{holds-inj, upd-at, upd-off}
 use Rattle.model.proofs.lists.Logic.{bool-case, eq-case}
@@ -64,23 +66,68 @@ abbrev InUse : ℕ → Effect → Type 0
 InUse k (done g) = Used (next g) k
 InUse k (fault f) = Unit {0}
 
-no-view : {C : Type 0} {n : ℕ} → noNode ≡ oneNode n → C
-no-view {n = n} e = absurd (let z : _≡_ {A = ℕ} 0 1 = cc in omega arith)
+-- what a value that is looked at holds
+pub view-is : (v : Val) (n : ℕ) → Views (viewVal v) n → v ≡ cell n
+view-is (cell m) n e = ap cell (sym e)
+view-is null n e = absurd e
+view-is undef n e = absurd e
 
-pub view-is : (v : Val) (n : ℕ) → viewVal v ≡ oneNode n → v ≡ cell n
-view-is (cell m) n e = let z : m ≡ n = cc in ap cell z
-view-is null n e = no-view e
-view-is undef n e = no-view e
+-- two values that are looked at hold two different cells
+pub record IsPair (v w : Val) (i : ℕ) : Type 0 where
+  pub first : ℕ
+  pub second : ℕ
+  pub firstIs : v ≡ cell first
+  pub secondIs : w ≡ cell second
+  pub apart : first ≡ second → ⊥
+  pub either : (i ≡ first) ⊎ (i ≡ second)
+
+pub pair-is : (v w : Val) (i : ℕ) → Views (viewPair v w) i → IsPair v w i
+pair-is (cell n) (cell m) i e =
+    bool-case (eqb n m) (λ q. absurd (rw q at e))
+    (λ q. record {
+      first = n;
+      second = m;
+      firstIs = refl;
+      secondIs = refl;
+      apart = eqb-false n m q;
+      either = rw q at e;
+    })
+pair-is (cell n) null i e = absurd e
+pair-is (cell n) undef i e = absurd e
+pair-is null w i e = absurd e
+pair-is undef w i e = absurd e
+
+-- none is looked at where the second is no node
+pub pair-none : (v w : Val) → viewVal w ≡ noNode → viewPair v w ≡ noNode
+pair-none (cell n) (cell m) e = absurd (let z : _≡_ {A = ℕ} 0 1 = cc in omega arith)
+pair-none (cell n) null e = refl
+pair-none (cell n) undef e = refl
+pair-none null w e = refl
+pair-none undef w e = refl
+
+pub pair-view : {v w : Val} {i : ℕ} (p : IsPair v w i) → viewPair v w ≡ twoNodes (p .first) (p .second)
+pair-view p =
+    ap₂ viewPair (p .firstIs) (p .secondIs)
+    ∙ ap (λ b. cond b noNode (twoNodes (p .first) (p .second))) (ne-eqb (p .first) (p .second) (p .apart))
+
+-- where both are cells, the effect is done
+pub splice-does : (i j x a b : ℕ) (h : Heap) → ptr h i ≡ cell a → ptr h j ≡ cell b
+    → perform (splice i j) x h ≡ done (putSlot a (holds (held (next h b))) h)
+splice-does i j x a b h p q = rw (q, p)
 
 -- a cell in use stays so unless it is freed
-effect-used : (a : Action) (x n k : ℕ) (h : Heap) → view a h ≡ oneNode n → eqb k n ≡ false → Used (next h) k
+effect-used : (a : Action) (x n k : ℕ) (h : Heap) → Views (view a h) n → eqb k n ≡ false → Used (next h) k
     → InUse k (perform a x h)
-effect-used stay x n k h a d u = no-view a
-effect-used (compare i s) x n k h a d u = no-view a
-effect-used (point i s) x n k h a d u = no-view a
+effect-used stay x n k h a d u = absurd a
+effect-used (compare i s) x n k h a d u = absurd a
+effect-used (point i s) x n k h a d u = absurd a
 effect-used (follow i j) x n k h a d u = rw (view-is (ptr h j) n a) u
 effect-used (link i s) x n k h a d u = rw (view-is (ptr h i) n a) (put-used h n k (valueOf s h) u)
-effect-used (make i) x n k h a d u = no-view a
+effect-used (splice i j) x n k h a d u =
+    let p = pair-is (ptr h i) (ptr h j) n a in
+    subst (InUse k) (sym (splice-does i j x (p .first) (p .second) h (p .firstIs) (p .secondIs)))
+    (put-used h (p .first) k (held (next h (p .second))) u)
+effect-used (make i) x n k h a d u = absurd a
 effect-used (release i) x n k h a d u =
     rw (view-is (ptr h i) n a) (subst (λ nx. Used nx k) (sym (next-free h n)) (wipe n (u .0), rw (d, u .1)))
 
@@ -88,7 +135,7 @@ keep-used : (k : ℕ) (e : Effect) → InUse k e → InUse k (keep e)
 keep-used k (fault f) u = tt
 keep-used k (done g) u = bool-case (kept g) (λ q. rw q u) (λ q. rw q tt)
 
-pub tail-used : (op : Op) (x n k : ℕ) (h g : Heap) → view (action op) (splitHeap n k h) ≡ oneNode n → eqb k n ≡ false
+pub tail-used : (op : Op) (x n k : ℕ) (h g : Heap) → Views (view (action op) (splitHeap n k h)) n → eqb k n ≡ false
     → Used (next h) n
     → carryOut op x (splitHeap n k h) ≡ done g → Used (next g) k
 tail-used op x n k h g a d u e =

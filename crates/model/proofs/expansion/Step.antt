@@ -2,11 +2,11 @@
 -- one expands the other.
 use Prim.Native.Nat.{ℕ}
 use mathlib.Core.Path.{_∙_, _≡_, ap, refl}
-use mathlib.Core.Bool.{false, true}
+use mathlib.Core.Bool.{_&&_, cond, false, true}
 use lib.Dec.{eqb}
 use borrow.Author.Tests.{eq-eqb, eqb-true}
 use Rattle.model.specs.Heap.{Heap, Slot, Val, cell, kept, next, null, ptr, sameVal, undef}
-use Rattle.model.specs.Machine.{isStop, Effect, Kind, Answer, Stmt, Fault, keep, branchBy, answerOf, Entry, fault, faulted, kind, done, went, accepts, step, branch, tests, carryOut, action, test, perform, valueOf, acts, halts, picks}
+use Rattle.model.specs.Machine.{isStop, Effect, Kind, Answer, Stmt, Fault, keep, branchBy, answerOf, Entry, fault, faulted, kind, done, went, accepts, step, branch, tests, carryOut, action, test, perform, valueOf, acts, halts, picks, acceptsCell, acceptsPick, actionOf, refused, stopped}
 use Rattle.model.specs.Shape.{Seg}
 use Rattle.model.proofs.expansion.Cores.{first-inj}
 use Rattle.model.proofs.expansion.Effects.{effect-alike, ptr-closed, ptr-img, value-closed, value-img}
@@ -65,6 +65,15 @@ answer-agree : (sg : ℕ → Seg) (st : Stmt) (b : ℕ) (x y : Effect) → After
     → Agree sg (answerOf st b x) (answerOf st b y)
 answer-agree sg st b x y fault-both = fault-alike
 answer-agree sg st b x y (done-both X k) = went-alike X k
+
+-- a step by the kind of its statement
+abbrev pub stepAs : Kind → Stmt → Entry → Heap → Answer
+stepAs c st e h =
+    cond (acceptsPick c (e .pick) && acceptsCell (actionOf c) (next h (e .cellNo)))
+    (cond (isStop c) stopped (answerOf st (branchBy c (e .pick) h) (keep (perform (actionOf c) (e .cellNo) h)))) refused
+
+pub step-as : (st : Stmt) (e : Entry) (h : Heap) (c : Kind) → kind (st .op) ≡ c → step st e h ≡ stepAs c st e h
+step-as st e h c k = ap (λ x. stepAs x st e h) k
 
 pub step-go : (st : Stmt) (e : Entry) (h : Heap) → isStop (kind (st .op)) ≡ false → accepts (st .op) e h ≡ true
     → step st e h ≡ answerOf st (branch (st .op) (e .pick) h) (carryOut (st .op) (e .cellNo) h)

@@ -59,6 +59,28 @@ unheld-leaks h c u p q =
     let lost : mem c (order h) ≡ false = tour-misses (next h) c q (length (h .slots)) [] (h .ptrs) refl p in
     ap (λ b. cond b (done h) (fault leak)) (not-true (kept h) (λ e. clash (test-kept h e c u) lost))
 
+-- cell c is held by the next of cell b, and by nothing else
+pub record Only (h : Heap) (b c : ℕ) : Type 0 where
+  pub used : Used (next h) c
+  pub pointers : In (cell c) (h .ptrs) → ⊥
+  pub nexts : (i : ℕ) → next h i ≡ holds (cell c) → i ≡ b
+
+-- it is lost where that next becomes another value
+pub only-leaks : (h : Heap) (b c : ℕ) → Only h b c → (x : Val) → (x ≡ cell c → ⊥)
+    → keep (done (putSlot b (holds x) h)) ≡ fault leak
+only-leaks h b c o x d =
+    let none : NoNext (upd (next h) b (holds x)) c =
+    λ i e. eq-case i b (λ q. d (holds-inj (sym (upd-at (next h) b (holds x) i q) ∙ e)))
+    (λ q. eqb-false i b q (o .nexts i (sym (upd-off (next h) b (holds x) i q) ∙ e))) in
+    unheld-leaks (putSlot b (holds x) h) c (put-used h b c x (o .used)) (o .pointers)
+    (subst (λ nx. NoNext nx c) (sym (next-put h b (holds x))) none)
+
+-- the next of another cell is another value
+pub other-leaks : (h : Heap) (b c d : ℕ) → Only h b c → Used (next h) d → (d ≡ b → ⊥)
+    → keep (done (putSlot b (holds (held (next h d))) h)) ≡ fault leak
+other-leaks h b c d o u ne =
+    rw (u .1) (only-leaks h b c o (u .0) (λ e. ne (o .nexts d (u .1 ∙ ap holds e))))
+
 -- ---- the tail of a split
 
 cell-clash {ℓ} : {C : Type ℓ} {c : ℕ} {v : Val} → cell c ≡ v → v ≡ undef → C
@@ -107,15 +129,16 @@ module _ (h : Heap) (cl : ClosedHeap h) (n : ℕ) (u : Used (next h) n) where
   tail-in-use : Used (next (splitHeap n k h)) k
   tail-in-use = subst (λ nx. Used nx k) (sym (next-split n k h)) (tail-in (next h) n k u)
 
+  -- the head alone holds the tail
+  pub split-only : Only (splitHeap n k h) n k
+  split-only = record {
+    used = tail-in-use;
+    pointers = no-pointer;
+    nexts = λ b e. eq-case b n (λ q. q) (λ q. absurd (split-off b q e));
+  }
+
   pub write-leaks : (x : Val) → Closed (next h) x → keep (done (putSlot n (holds x) (splitHeap n k h))) ≡ fault leak
-  write-leaks x q =
-      let H = splitHeap n k h in
-      let none : NoNext (upd (next H) n (holds x)) k =
-      λ b e. eq-case b n
-      (λ d. not-used (subst (Closed (next h)) (holds-inj (sym (upd-at (next H) n (holds x) b d) ∙ e)) q))
-      (λ d. split-off b d (sym (upd-off (next H) n (holds x) b d) ∙ e)) in
-      unheld-leaks (putSlot n (holds x) H) k (put-used H n k x tail-in-use) no-pointer
-      (subst (λ nx. NoNext nx k) (sym (next-put H n (holds x))) none)
+  write-leaks x q = only-leaks (splitHeap n k h) n k split-only x (λ e. not-used (subst (Closed (next h)) e q))
 
   pub free-leaks : keep (done (freeCell n (splitHeap n k h))) ≡ fault leak
   free-leaks =

@@ -32,6 +32,9 @@ chain-cong nx ny c (x ∷ l) v ch h = (
 pub slot-clash {ℓ} : {C : Type ℓ} {s : Slot} {v : Val} → s ≡ unused → s ≡ holds v → C
 slot-clash {s} {v} p q = absurd (let z : _≡_ {A = ℕ} 0 1 = cc in omega arith)
 
+pub cell-inj : {c d : ℕ} → cell c ≡ cell d → c ≡ d
+cell-inj {c} {d} e = cc
+
 pub holds-inj : {v w : Val} → holds v ≡ holds w → v ≡ w
 holds-inj {v} {w} e = cc
 

@@ -85,12 +85,18 @@ module _ (r : Routine) (t : Listing) (X : Exact r t) (G : GoodStarts r) (a b : �
   edge-word : (n : ℕ) → n < length (t .links) → word (recordAt (T .edgeBytes) n) 2 ≡ linkAt t n .from
   edge-word n h = let k = linkAt t n in ap (λ x. word x 2) (edge-record n h) ∙ edge-from (k .from) (k .dest) (k .edge)
 
+  from-few : (n : ℕ) → n < length (t .links) → nodesOf (locAt (t .locs) (linkAt t n .from)) ≤ 12
+  from-few n h =
+      let i = linkAt t n .from in nodes-few (locAt (t .locs) i) (loc-good i (link-facts n h .from-below))
+
   edge-on : (n : ℕ) (cs : List ℕ) → n < length (t .links)
       → guardsHold cs (guardsOf (recordAt (T .edgeBytes) n)) ≡ guardsOn (linkAt t n .edge .guards) cs
   edge-on n cs h =
       let k = linkAt t n in
       ap (λ x. guardsHold cs (guardsOf x)) (edge-record n h)
-      ∙ edge-guards (k .from) (k .dest) (k .edge) cs (link-small k (link-facts n h) .0 .guarded)
+      ∙ (let S = link-small k (link-facts n h) .0 in
+      edge-guards (k .from) (k .dest) (nodesOf (locAt (t .locs) (k .from))) (k .edge) (S .branch) (S .guarded)
+      (omega (arith, from-few n h)) cs)
 
   -- taking an edge
   taken-along : (n : ℕ) (c : Config) → n < length (t .links) → taken T c (recordAt (T .edgeBytes) n)
@@ -101,8 +107,7 @@ module _ (r : Routine) (t : Listing) (X : Exact r t) (G : GoodStarts r) (a b : �
       let S = link-small k L in
       let R = edgeRecord (k .from) (k .dest) (k .edge) in
       let us = k .edge .updates in
-      let few : nodesOf (locAt (t .locs) (k .from)) ≤ 12 =
-      nodes-few (locAt (t .locs) (k .from)) (loc-good (k .from) (L .from-below)) in
+      let few = from-few n h in
       let nodes : nodesAt T (k .dest) ≡ length us =
       ap (λ x. byte x 3) (loc-record (k .dest) (L .dest-below)) ∙ record-nodes (locAt (t .locs) (k .dest))
       ∙ ap nodesOf (L .dest-is) ∙ sym (S .0 .number) in
@@ -117,7 +122,8 @@ module _ (r : Routine) (t : Listing) (X : Exact r t) (G : GoodStarts r) (a b : �
       ∙ ap (map (applied (c .values))) (edge-updates (k .from) (k .dest) (k .edge)) ∙ worths in
       ap (taken T c) (edge-record n h)
       ∙ (λ i. record {
-        branchNo = edge-branch (k .from) (k .dest) (k .edge) i;
+        branchNo = edge-branch (k .from) (k .dest) (nodesOf (locAt (t .locs) (k .from))) (k .edge) (S .0 .branch)
+            (S .0 .guarded) (omega arith) i;
         after = record { loc = edge-to (k .from) (k .dest) (k .edge) i; values = vals i };
       })
 

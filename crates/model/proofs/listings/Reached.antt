@@ -4,33 +4,39 @@ use Prim.Native.Nat.{_<_, _≤_, ℕ}
 use mathlib.Core.Path.{_∙_, _≡_, ap, ap₂, refl, subst, sym}
 use mathlib.Core.Logic.{inl, inr}
 use mathlib.Core.Option.{some}
-use mathlib.Core.Bool.{true}
+use mathlib.Core.Bool.{_&&_, cond, true}
 use mathlib.Core.List.{List, map, [], _∷_}
+use native.Mathlib.Nat.{zero-add}
 use native.Mathlib.Omega.{arith}
-use lib.ListN.{List·getD-eq-default, getD, getD-replicate, length, length-map, length-replicate, replicate}
-use borrow.Author.Tests.{eq-eqb, le-leb}
-use Rattle.model.specs.Edges.{Edge, Guard, Loc, Way, at, edgeBy, edgesAt, edgesOf, failed, picksOf, stepBy, stmtAt, ways, whole, oneAt, moreAt, View, waysOf, view, oneNode, noNode}
-use Rattle.model.specs.Heap.{Heap, inUse, kept, next, unused}
+use lib.Dec.{eqb, leb}
+use lib.ListN.{List·getD-eq-default, getD, length, length-map}
+use borrow.Author.Tests.{ne-eqb}
+use Rattle.model.specs.Base.{numbers}
+use Rattle.model.specs.Edges.{Edge, Guard, Loc, Way, at, edgeBy, edgesAt, edgesOf, failed, picksOf, split, stepBy, stmtAt, ways, whole, oneAt, moreAt, View, waysOf, view, oneNode, twoNodes, noNode}
+use Rattle.model.specs.Heap.{Heap, inUse, kept, unused}
 use Rattle.model.specs.Image.{spread, unfoldHeap}
-use Rattle.model.specs.Machine.{Effect, Entry, Stmt, answerOf, branch, done, fault, step, Kind, action, kind, perform, keep}
+use Rattle.model.specs.Machine.{Action, Effect, Entry, Stmt, answerOf, branch, done, fault, step, Kind, action, kind, perform, keep}
 use Rattle.model.specs.Runs.{State, Status, Advance, made, past, running}
 use Rattle.model.specs.Shape.{counters, nodeVal, segments}
 use Rattle.model.specs.Translate.{Routine}
-use Rattle.model.specs.Notions.{Canon, In, Pairs, Exclude, Positive, SmallEdge, nodesOf, worth, ClosedHeap, guardsOn}
+use Rattle.model.specs.Notions.{Canon, In, Pairs, Exclude, Positive, SmallEdge, nodesOf, worth, ClosedHeap, Views, guardOn, guardsOn}
 use Rattle.model.proofs.shapes.Canon.{fold-canon}
 use Rattle.model.proofs.records.Checked.{GoodStarts}
 use Rattle.model.proofs.expansion.Facts.{heap-closed, heap-kept, keep-any, kept-test}
 use Rattle.model.proofs.ways.Guards.{edges-cover, edges-exclude}
 use Rattle.model.proofs.ways.Leave.{Fit, MatchIn, begin}
 use Rattle.model.specs.Listings.{Reached, by-edge, from-start, GoodLoc}
-use Rattle.model.proofs.lists.Lists.{getD-default, in-joined, in-map, some-inj}
+use Rattle.model.proofs.lists.Lists.{getD-default, getD-map, in-joined, in-map, some-inj}
+use Rattle.model.proofs.lists.Logic.{and-both, bool-case, eqb-same}
+use Rattle.model.proofs.lists.Numbers.{at-number, length-numbers}
 use Rattle.model.proofs.ways.Location.{leave-backward, way-guards}
 use Rattle.model.proofs.visits.Order.{used-below}
 use Rattle.model.proofs.ways.Picks.{made-goes}
 use Rattle.model.proofs.expansion.Step.{step-go}
 use Rattle.model.proofs.shapes.Unfold.{counters-unfold, shape-unfold, unfold-is-heap}
 use Rattle.model.proofs.expansion.Kinds.{PtrsAre, leaves-ptrs, effect-leaves}
-use Rattle.model.proofs.ways.Ways.{ClosedView, view-closed}
+use Rattle.model.proofs.ways.Relinks.{view-two}
+use Rattle.model.proofs.ways.Views.{view-used}
 
 pub made-ptrs : (s : ℕ) (st : Stmt) (e : Entry) (h : Heap) → ClosedHeap h → (x : Advance State)
     → made (begin s h) (step st e h) ≡ some x → length (x .after .heap .ptrs) ≡ length (h .ptrs)
@@ -48,33 +54,78 @@ made-ptrs s st e h cl x m =
     by-run (done k) p q = ap (λ (y : Advance State). length (y .after .heap .ptrs)) (sym (some-inj q)) ∙ p
     by-run (fault f) p q = ap (λ (y : Advance State). length (y .after .heap .ptrs)) (sym (some-inj q))
 
--- There are counters for which the guards of a way hold, all the same.
+-- There are counters for which the guards of a way hold.
 abbrev Met : ℕ → List Guard → Type 0
-Met k gs = (c : ℕ) × (1 ≤ c) × (guardsOn gs (replicate k c) ≡ true)
+Met k gs = (cs : List ℕ) × (length cs ≡ k) × Positive cs × (guardsOn gs cs ≡ true)
 
-one-met : (k n : ℕ) → n < k → Met k (oneAt n ∷ [])
-one-met k n b = (1, omega arith, rw (eq-eqb (getD (replicate k 1) n 0) 1 (getD-replicate k n 1 0 b)))
+-- 2 at node m, and 1 at the others
+module _ (k m : ℕ) where
+  abbrev two-at : ℕ → ℕ
+  two-at i = cond (eqb i m) 2 1
 
-more-met : (k n : ℕ) → n < k → Met k (moreAt n ∷ [])
-more-met k n b = (
-  2,
-  omega arith,
-  rw (le-leb 2 (getD (replicate k 2) n 0)
-      (omega (arith, getD-replicate {A = ℕ} k n 2 0 b))),
-)
+  two-at-1 : (i : ℕ) → 1 ≤ two-at i
+  two-at-1 i = bool-case (eqb i m) (λ e. rw e (omega arith)) (λ e. rw e (omega arith))
 
-ways-met : (kd : Kind) (h : Heap) (v : View) → ClosedView (next h) v → (y : Way) → In y (waysOf kd v h)
-    → Met (length (h .slots)) (y .guards)
-ways-met kd h noNode k y i =
-    let r = in-map (λ p. whole [] p h) y (picksOf kd) i in
-    subst (λ (z : Way). Met (length (h .slots)) (z .guards)) (sym (r .2)) (1, omega arith, refl)
-ways-met kd h (oneNode n) k y (inl e) =
-    subst (λ (z : Way). Met (length (h .slots)) (z .guards)) (sym e)
-    (one-met (length (h .slots)) n (used-below (h .slots) n k))
-ways-met kd h (oneNode n) k y (inr (inl e)) =
-    subst (λ (z : Way). Met (length (h .slots)) (z .guards)) (sym e)
-    (more-met (length (h .slots)) n (used-below (h .slots) n k))
-ways-met kd h (oneNode n) k y (inr (inr x)) = absurd x
+  met-by : (gs : List Guard) → ((cs : List ℕ) → ((i : ℕ) → i < k → getD cs i 0 ≡ two-at i) → guardsOn gs cs ≡ true)
+      → Met k gs
+  met-by gs f =
+      let cs = map two-at (numbers 0 k) in
+      let len : length cs ≡ k = length-map (numbers 0 k) two-at ∙ length-numbers 0 k in
+      let is : (d i : ℕ) → i < k → getD cs i d ≡ two-at i =
+      λ d i lt. getD-map two-at (numbers 0 k) i 0 d (omega (arith, length-numbers 0 k))
+      ∙ ap two-at (at-number 0 k i 0 lt ∙ zero-add i) in (
+        cs,
+        len,
+        (λ i lt. let z = is 1 i (omega arith) in let p = two-at-1 i in omega arith),
+        f cs (is 0),
+      )
+
+  module _ (cs : List ℕ) (is : (i : ℕ) → i < k → getD cs i 0 ≡ two-at i) where
+    one-met : (n : ℕ) → n < k → (n ≡ m → ⊥) → guardOn cs (oneAt n) ≡ true
+    one-met n lt ne = ap (λ c. eqb c 1) (is n lt ∙ ap (λ b. cond b 2 1) (ne-eqb n m ne))
+
+    more-met : m < k → guardOn cs (moreAt m) ≡ true
+    more-met lt = ap (leb 2) (is m lt ∙ ap (λ b. cond b 2 1) (eqb-same m))
+
+module _ (kd : Kind) (a : Action) (h : Heap) (cl : ClosedHeap h) where
+  abbrev nodes : ℕ
+  nodes = length (h .slots)
+
+  below : {v : View} → view a h ≡ v → (n : ℕ) → Views v n → n < nodes
+  below e n q = used-below (h .slots) n (view-used a h (cl .0) n (subst (λ x. Views x n) (sym e) q))
+
+  way-met : (y z : Way) → y ≡ z → Met nodes (z .guards) → Met nodes (y .guards)
+  way-met y z e = subst (λ (x : Way). Met nodes (x .guards)) (sym e)
+
+  ways-met : (v : View) → view a h ≡ v → (y : Way) → In y (waysOf kd v h) → Met nodes (y .guards)
+  ways-met noNode v y i =
+      let r = in-map (λ p. whole [] p h) y (picksOf kd) i in
+      way-met y (whole [] (r .0) h) (r .2) (met-by nodes 0 [] (λ cs is. refl))
+  ways-met (oneNode n) v y (inl e) =
+      let lt = below v n refl in
+      way-met y (whole (oneAt n ∷ []) 0 h) e (met-by nodes nodes (oneAt n ∷ []) (λ cs is.
+      and-both (guardOn cs (oneAt n)) true (one-met nodes nodes cs is n lt (λ q. omega arith)) refl))
+  ways-met (oneNode n) v y (inr (inl e)) =
+      way-met y (split (moreAt n ∷ []) n h) e (met-by nodes n (moreAt n ∷ []) (λ cs is.
+      and-both (guardOn cs (moreAt n)) true (more-met nodes n cs is (below v n refl)) refl))
+  ways-met (oneNode n) v y (inr (inr x)) = absurd x
+  ways-met (twoNodes n m) v y (inl e) =
+      let ln = below v n (inl refl) in
+      let lm = below v m (inr refl) in
+      way-met y (whole (oneAt n ∷ oneAt m ∷ []) 0 h) e (met-by nodes nodes (oneAt n ∷ oneAt m ∷ []) (λ cs is.
+      and-both (guardOn cs (oneAt n)) (guardOn cs (oneAt m) && true)
+      (one-met nodes nodes cs is n ln (λ q. omega arith))
+      (and-both (guardOn cs (oneAt m)) true (one-met nodes nodes cs is m lm (λ q. omega arith)) refl)))
+  ways-met (twoNodes n m) v y (inr (inl e)) =
+      let S = view-two a h n m v in
+      way-met y (split (oneAt n ∷ moreAt m ∷ []) m h) e (met-by nodes m (oneAt n ∷ moreAt m ∷ []) (λ cs is.
+      and-both (guardOn cs (oneAt n)) (guardOn cs (moreAt m) && true)
+      (one-met nodes m cs is n (below v n (inl refl)) (λ q. S .apart (sym q)))
+      (and-both (guardOn cs (moreAt m)) true (more-met nodes m cs is (below v m (inr refl))) refl)))
+  ways-met (twoNodes n m) v y (inr (inr (inl e))) =
+      way-met y (split (moreAt n ∷ []) n h) e (met-by nodes n (moreAt n ∷ []) (λ cs is.
+      and-both (guardOn cs (moreAt n)) true (more-met nodes n cs is (below v n (inl refl))) refl))
+  ways-met (twoNodes n m) v y (inr (inr (inr x))) = absurd x
 
 module _ (s : ℕ) (st : Stmt) (h : Heap) (C : Canon h) (six : length (h .ptrs) ≡ 6) where
   fit-good : (x : State) (l : Loc) (cs : List ℕ) → Fit x l cs → length (x .heap .ptrs) ≡ 6 → GoodLoc l
@@ -96,18 +147,18 @@ module _ (s : ℕ) (st : Stmt) (h : Heap) (C : Canon h) (six : length (h .ptrs) 
       let w = in-map (λ z. edgeBy s k z (stepBy st k z)) (j .0) (ways (st .op) h) (j .1) in
       let y = w .0 in
       let a = action (st .op) in
-      let m = ways-met (kind (st .op)) h (view a h) (view-closed a h (C .closed .0)) y (w .1) in
+      let m = ways-met (kind (st .op)) a h (C .closed) (view a h) refl y (w .1) in
       let g : E .guards ≡ y .guards = way-guards s k y (stepBy st k y) E (subst (In E) (w .2) (j .2)) in
-      let cs = replicate k (m .0) in
-      let len : length cs ≡ k = length-replicate k (m .0) in
-      let pos : Positive cs = λ n q. let z = getD-replicate k n (m .0) 1 (omega arith) in let o = m .1 in omega arith in
+      let cs = m .0 in
+      let len : length cs ≡ k = m .1 in
+      let pos : Positive cs = m .2 in
       let H = unfoldHeap h cs in
       let X = unfold-is-heap h C cs len pos in
       let sh = shape-unfold h C cs len pos in
       let ct = counters-unfold h C cs len pos in
       let e : Entry = record { pick = E .branchNo; cellNo = length (H .slots) } in
       let r = leave-backward s st H (heap-closed H X) (heap-kept H X) E (subst (λ x. In E (edgesAt s st x)) (sym sh) i)
-      (ap₂ guardsOn g ct ∙ m .2) e refl (ap inUse (List·getD-eq-default (H .slots) unused (omega arith))) in (
+      (ap₂ guardsOn g ct ∙ m .3) e refl (ap inUse (List·getD-eq-default (H .slots) unused (omega arith))) in (
         subst (λ (x : Heap). SmallEdge (length (x .slots)) E) sh (r .4),
         fit-good (r .0 .after) (E .to) (map (worth (counters H)) (E .updates)) (r .3)
             (made-ptrs s st e H (heap-closed H X) (r .0) (r .1) ∙ length-map (h .ptrs) (spread cs) ∙ six),
@@ -136,5 +187,5 @@ good-cover sts (failed s f) g cs len pos E i = absurd i
 good-cover sts (at s h) g cs len pos E i =
     let a = action (stmtAt sts s .op) in
     edges-cover s (stmtAt sts s) h (kept-test h (g .0 .kept)) cs
-    (λ n e. let lt = used-below (h .slots) n (subst (ClosedView (next h)) e (view-closed a h (g .0 .closed .0))) in
+    (λ n e. let lt = used-below (h .slots) n (view-used a h (g .0 .closed .0) n e) in
     let z = getD-default cs 0 1 n (omega arith) in let o = pos n (omega arith) in omega arith) E i

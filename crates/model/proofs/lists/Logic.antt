@@ -1,7 +1,7 @@
 -- Booleans, membership of a number in a list, lists without repetition.
 use Prim.Native.Nat.{_+_, suc, zero, ℕ}
 use mathlib.Core.Path.{_∙_, _≡_, refl, sym}
-use mathlib.Core.Bool.{Bool, _&&_, _||_, false, or-assoc, or-false, true, true≢false}
+use mathlib.Core.Bool.{Bool, _&&_, _||_, false, not, or-assoc, or-false, true, true≢false}
 use mathlib.Core.List.{List, [], _++_, _∷_}
 use lib.Dec.{eqb}
 use borrow.Author.Tests.{eq-eqb, eqb-false, eqb-true, ne-eqb}
@@ -18,6 +18,10 @@ pub bool-ext : (a b : Bool) → (a ≡ true → b ≡ true) → (b ≡ true → 
 bool-ext true b f g = sym (f refl)
 bool-ext false true f g = g refl
 bool-ext false false f g = refl
+
+pub not-false : (b : Bool) → not b ≡ true → b ≡ false
+not-false true e = sym e
+not-false false e = refl
 
 pub not-true : (b : Bool) → (b ≡ true → ⊥) → b ≡ false
 not-true true f = absurd (f refl)

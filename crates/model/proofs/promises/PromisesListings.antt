@@ -5,25 +5,26 @@ use mathlib.Core.Path.{_≡_, refl}
 use mathlib.Core.Logic.{_↔_, _⊎_}
 use mathlib.Core.Bool.{false, true}
 use mathlib.Core.List.{List, [], _∷_, map}
-use lib.ListN.{drop, getD, length, replicate}
+use native.Mathlib.Omega.{arith}
+use lib.ListN.{drop, length, replicate}
 use Rattle.model.specs.Base.{mem}
 use Rattle.model.specs.Edges.{Edge, Loc, Update, at, edgesOf, failed, splitHeap, view}
 use Rattle.model.specs.Heap.{Heap, IsHeap, inUse, kept, next, order}
 use Rattle.model.specs.Machine.{Fault, Op, Stmt, effect, faultNumber, action}
-use Rattle.model.specs.Records.{byte, edgeRecord, guardBytes, isS, layoutH, locRecord, recordAt, refusal, refusalS, shapeOf, shapeRecord, stmtOf, updateCode, word, Refusal, isAccepted, isRefused}
-use Rattle.model.specs.Runs.{applied, updatesOf}
+use Rattle.model.specs.Records.{byte, edgeRecord, guardCode, isS, layoutH, locRecord, recordAt, refusal, refusalS, shapeOf, shapeRecord, stmtOf, updateCode, word, Refusal, isAccepted, isRefused}
+use Rattle.model.specs.Runs.{applied, branchOf, guardsOf, updatesOf}
 use Rattle.model.specs.Shape.{Seg, cells, core, counters, segments, shape}
 use Rattle.model.specs.Translate.{Listing, Routine, check, good, linkRecord, places, tablesOf, translate}
 use Rattle.model.proofs.records.Bytes.{applied-code}
 use Rattle.model.proofs.records.Checked.{check-good}
 use Rattle.model.proofs.expansion.Cores.{core-head, core-inner}
-use Rattle.model.proofs.records.EdgeBack.{edge-branch, edge-from, edge-guard, edge-length, edge-node, edge-to, edge-updates}
+use Rattle.model.proofs.records.EdgeBack.{edge-bit, edge-branch, edge-codes, edge-from, edge-length, edge-to, edge-updates}
 use Rattle.model.proofs.expansion.Effects.{effect-alike, exp-split}
 use Rattle.model.proofs.expansion.Facts.{heap-closed, heap-kept, kept-same, unused-of, used-of}
 use Rattle.model.proofs.expansion.Folds.{counters-grow, fold-same, order-cat}
 use Rattle.model.proofs.listings.FullListing.{full-exists}
 use Rattle.model.specs.Listings.{Exact, IsFull, Reached, Refused, UnusedZero, Writable, WritableLoc, linkAt, locAt, stmtRecord}
-use Rattle.model.specs.Notions.{In, Pairs, AddApart, Alike, Exclude, Expansion, Positive, Room, cat, flagged, nodesOf, segAt, sg-after, total, upd, seg, guardsOn, Alone}
+use Rattle.model.specs.Notions.{In, Pairs, AddApart, Alike, Exclude, Expansion, Positive, Room, SmallEdge, SmallGuards, cat, flagged, nodesOf, segAt, sg-after, total, upd, seg, guardsOn, Alone}
 use Rattle.model.proofs.listings.Moves.{good-writable}
 use Rattle.model.proofs.listings.Once.{good-once}
 use Rattle.model.proofs.listings.Outcomes.{accepted-exact, fits-accepted, full-one, is-accepted, records-distinct, refused-says, tables-hold}
@@ -35,16 +36,14 @@ use Rattle.model.proofs.records.Statements.{record-back, statement-back
 
 -- ==== edges: of every location that is reached in an accepted input
 
--- "bits 12 and 13 the constant (−1, 0 or 1) plus one"; one update for each new node, with a flag for each old one
+-- What a record holds is all of an edge: branch 0 or 1; two guards at most, on nodes of its location; one update for
+-- each new node, with a flag for each old one; "bits 12 and 13 the constant (−1, 0 or 1) plus one".
 abbrev pub EdgesSmall : Type 0
 EdgesSmall = (s : List ℕ) (r : Routine) → check s ≡ good r → (l : Loc) → Reached (r .stmts) (r .starts) l → (E : Edge)
-    → In E (edgesOf (r .stmts) l)
-    → (length (E .updates) ≡ nodesOf (E .to)) × ((u : Update) → In u (E .updates) → (u .plus ≤ 2)
-    × (length (u .adds) ≡ nodesOf l))
+    → In E (edgesOf (r .stmts) l) → SmallEdge (nodesOf l) E
 
 pub edges-small : EdgesSmall
-edges-small s r e l p E i = let g = good-edge (r .stmts) l (reached-good r (check-good s r e) l p) E i .0 in
-    (g .number, g .small)
+edges-small s r e l p E i = good-edge (r .stmts) l (reached-good r (check-good s r e) l p) E i .0
 
 -- each old counter is added in at most one update of an edge
 abbrev pub CountersOnce : Type 0
@@ -170,23 +169,24 @@ FaultReadBack = (n : ℕ) (f : Fault) → (length (locRecord (failed n f)) ≡ 3
 pub fault-read-back : FaultReadBack
 fault-read-back n f = (failed-length n f, failed-statement n f, failed-fault n f, refl)
 
--- an edge's record has 32 bytes and is read back: branch, ends, guard and updates
+-- an edge's record has 32 bytes and is read back: branch, ends, both guards and updates; bit 7 of byte 1 is zero
 abbrev pub EdgeReadBack : Type 0
-EdgeReadBack = (from to : ℕ) (e : Edge) → length (e .updates) ≤ 12
-    → (length (edgeRecord from to e) ≡ 32) × (byte (edgeRecord from to e) 1 ≡ e .branchNo)
+EdgeReadBack = (from to : ℕ) (e : Edge) → length (e .updates) ≤ 12 → e .branchNo ≤ 1 → SmallGuards 12 (e .guards)
+    → (length (edgeRecord from to e) ≡ 32) × (branchOf (edgeRecord from to e) ≡ e .branchNo)
     × (word (edgeRecord from to e) 2 ≡ from)
-    × (word (edgeRecord from to e) 4 ≡ to) × (byte (edgeRecord from to e) 6 ≡ getD (guardBytes (e .guards)) 0 0)
-    × (byte (edgeRecord from to e) 7 ≡ getD (guardBytes (e .guards)) 1 0)
+    × (word (edgeRecord from to e) 4 ≡ to)
+    × (guardsOf (edgeRecord from to e) ≡ guardCode (e .guards) 0 ∷ guardCode (e .guards) 1 ∷ [])
+    × (byte (edgeRecord from to e) 1 < 128)
     × (updatesOf (length (e .updates)) (edgeRecord from to e) ≡ map updateCode (e .updates))
 
 pub edge-read-back : EdgeReadBack
-edge-read-back from to e h = (
+edge-read-back from to e h b g = (
   edge-length from to e h,
-  edge-branch from to e,
+  edge-branch from to 12 e b g (omega arith),
   edge-from from to e,
   edge-to from to e,
-  edge-guard from to e,
-  edge-node from to e,
+  edge-codes from to 12 e b g (omega arith),
+  edge-bit from to 12 e b g (omega arith),
   edge-updates from to e,
 )
 

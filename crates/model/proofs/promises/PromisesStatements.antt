@@ -1,12 +1,18 @@
 -- The promises about single statements that 02 amends or adds. Each is a type; its proof under it cites a law.
-use Prim.Native.Nat.{ℕ}
-use mathlib.Core.Path.{_≡_, ap}
+use Prim.Native.Nat.{_≤_, ℕ}
+use mathlib.Core.Path.{_∙_, _≡_, ap, refl, sym}
+use mathlib.Core.Bool.{false, true}
 use mathlib.Core.Logic.{_↔_, _⊎_, inl, inr}
-use mathlib.Core.List.{[], _∷_}
+use mathlib.Core.List.{List, [], _∷_, map}
 use native.Mathlib.Omega.{arith}
-use Rattle.model.specs.Edges.{edgesAt, failed}
-use Rattle.model.specs.Heap.{Heap, IsHeap, null, ptr, undef}
-use Rattle.model.specs.Machine.{Entry, Source, Stmt, atUndef, faulted, from, isNull, kind, nil, same, step, tests, valueOf, went}
+use lib.ListN.{getD, length}
+use Rattle.model.specs.Edges.{Edge, at, edgesAt, failed, moreAt, oneAt}
+use Rattle.model.specs.Heap.{Heap, IsHeap, cell, kept, next, null, ptr, undef}
+use Rattle.model.specs.Machine.{Entry, Fault, Source, Stmt, atUndef, faulted, from, isNull, kind, leak, nil, putSlot, relink, same, step, tests, valueOf, went}
+use Rattle.model.specs.Notions.{Canon, LooksBad, worth}
+use Rattle.model.specs.Shape.{counters, shape}
+use Rattle.model.proofs.expansion.Facts.{heap-closed, heap-kept}
+use Rattle.model.proofs.ways.RelinkEdges.{fault-edge, long-leaks, relink-faults, relink-goes, relink-same, same-counters, same-edge, three-edges}
 use Rattle.model.proofs.ways.Tests.{faults-test, test-edge, test-false, test-faults, test-true}
 
 -- ==== tests: 02, job 2
@@ -50,3 +56,71 @@ TestEdges = (i : ℕ) (st : Stmt) (h : Heap) (u : ℕ) (s : Source) → kind (st
 
 pub tests-edge : TestEdges
 tests-edge i st h u s k q = test-edge st u s k i h q
+
+-- ==== relinks: 02, job 3
+
+-- "Looking at w comes first, for null and for undefined, then u."
+abbrev pub RelinkFaults : Type 0
+RelinkFaults = (st : Stmt) (e : Entry) (h : Heap) (u w : ℕ) → st .op ≡ relink u w → (f : Fault) → LooksBad h u w f
+    → step st e h ≡ faulted f
+
+pub relinks-fault : RelinkFaults
+relinks-fault st e h u w o = relink-faults st u w (ap kind o) e h
+
+-- Then the finished effect, then the test for lost cells. "If u and w hold the same cell nothing changes"
+abbrev pub RelinkGoes : Type 0
+RelinkGoes = (st : Stmt) (e : Entry) (h : Heap) → IsHeap h → (u w c d : ℕ) → st .op ≡ relink u w → ptr h u ≡ cell c
+    → ptr h w ≡ cell d
+    → (kept (putSlot c (next h d) h) ≡ true → step st e h ≡ went 0 (st .firstTarget) (putSlot c (next h d) h))
+    × (kept (putSlot c (next h d) h) ≡ false → step st e h ≡ faulted leak)
+    × (c ≡ d → step st e h ≡ went 0 (st .firstTarget) h)
+
+pub relinks-go : RelinkGoes
+relinks-go st e h x u w c d o p q =
+    let k = ap kind o in
+    let cl = heap-closed h x in (
+      relink-goes st u w k e h cl c d p q true,
+      relink-goes st u w k e h cl c d p q false,
+      λ z. relink-same st u w k e h cl (x .isKept) c p (q ∙ ap cell (sym z)),
+    )
+
+-- where w or u is null or undefined, one edge, without a guard, to that fault
+abbrev pub RelinkFaultEdge : Type 0
+RelinkFaultEdge = (i : ℕ) (st : Stmt) (h : Heap) (u w : ℕ) → st .op ≡ relink u w → (f : Fault) → LooksBad h u w f
+    → edgesAt i st h ≡ record { branchNo = 0; guards = []; to = failed i f; updates = [] } ∷ []
+
+pub relink-fault-edge : RelinkFaultEdge
+relink-fault-edge i st h u w o = fault-edge st u w (ap kind o) i h
+
+-- "and the edge has no guard": at one node it leads to the same shape, and carries every counter
+abbrev pub RelinkSameEdge : Type 0
+RelinkSameEdge = (i : ℕ) (st : Stmt) (h : Heap) → Canon h → (u w n : ℕ) → st .op ≡ relink u w → ptr h u ≡ cell n
+    → ptr h w ≡ cell n
+    → (E : Edge) × (edgesAt i st h ≡ E ∷ []) × (E .branchNo ≡ 0) × (E .guards ≡ []) × (E .to ≡ at (st .firstTarget) h)
+    × ((cs : List ℕ) → length cs ≡ length (h .slots) → map (worth cs) (E .updates) ≡ cs)
+
+pub relink-same-edge : RelinkSameEdge
+relink-same-edge i st h C u w n o p q =
+    let k = ap kind o in
+    (_, same-edge st u w k i h C n p q, refl, refl, refl, same-counters st u w k i h C n p q)
+
+-- "Otherwise there are three edges: u's counter = 1 and w's = 1; u's = 1 and w's ≥ 2; u's ≥ 2, which leaks."
+abbrev pub RelinkEdges : Type 0
+RelinkEdges = (i : ℕ) (st : Stmt) (h : Heap) → Canon h → (u w n m : ℕ) → st .op ≡ relink u w → ptr h u ≡ cell n
+    → ptr h w ≡ cell m → (n ≡ m → ⊥)
+    → (E F : Edge) × (edgesAt i st h
+    ≡ E ∷ F ∷ record { branchNo = 0; guards = moreAt n ∷ []; to = failed i leak; updates = [] } ∷ [])
+    × (E .branchNo ≡ 0) × (E .guards ≡ oneAt n ∷ oneAt m ∷ [])
+    × (F .branchNo ≡ 0) × (F .guards ≡ oneAt n ∷ moreAt m ∷ [])
+
+pub relink-edges : RelinkEdges
+relink-edges i st h C u w n m o = three-edges st u w (ap kind o) i h C n m
+
+-- and on every heap that such a shape describes, u's ≥ 2 leaks, whatever w's successor
+abbrev pub RelinkLeaks : Type 0
+RelinkLeaks = (st : Stmt) (e : Entry) (h : Heap) → IsHeap h → (u w n m : ℕ) → st .op ≡ relink u w
+    → ptr (shape h) u ≡ cell n → ptr (shape h) w ≡ cell m → (n ≡ m → ⊥) → 2 ≤ getD (counters h) n 1
+    → step st e h ≡ faulted leak
+
+pub relinks-leak : RelinkLeaks
+relinks-leak st e h x u w n m o = long-leaks st u w (ap kind o) e h (heap-closed h x) (heap-kept h x) n m

@@ -1,33 +1,20 @@
 -- Edge records are read back as what they were written from.
-use Prim.Native.Nat.{_%_, _*_, _+_, _-_, _/_, _≤_, suc, zero, ℕ}
-use mathlib.Core.Path.{_∙_, _≡_, ap, ap₂, fun-ext, refl, sym}
+use Prim.Native.Nat.{_%_, _*_, _+_, _-_, _/_, _<_, _≤_, suc, zero, ℕ}
+use mathlib.Core.Path.{_∙_, _≡_, ap, ap₂, fun-ext, refl}
+use mathlib.Core.Logic.{inl, inr}
+use mathlib.Core.Bool.{_&&_, true}
 use mathlib.Core.List.{List, [], _++_, _∷_, map}
 use native.Mathlib.Omega.{arith}
 use lib.ListN.{getD, length, replicate}
 use Rattle.model.specs.Base.{joined, numbers}
 use Rattle.model.specs.Edges.{Edge, Guard, Update, isMore, isOne, Test}
-use Rattle.model.specs.Records.{byte, edgeRecord, filled, guardBytes, twoBytes, updateCode, word, testNumber}
-use Rattle.model.specs.Runs.{updatesOf, guardHolds, guardsHold, guardsOf}
+use Rattle.model.specs.Records.{GuardCode, branchByte, byte, edgeRecord, filled, guardCode, twoBytes, updateCode, word, testNumber}
+use Rattle.model.specs.Runs.{branchOf, updatesOf, guardHolds, guardsHold, guardsOf}
 use Rattle.model.proofs.records.Bytes.{filled-length, word-back}
-use Rattle.model.specs.Notions.{guardsOn, testOn, guardOn}
-use Rattle.model.proofs.lists.Logic.{and-true}
-
-guard-two : (gs : List Guard) (w : List ℕ) → guardBytes gs ++ w ≡ getD (guardBytes gs) 0 0 ∷ getD (guardBytes gs) 1 0
-    ∷ w
-guard-two [] w = refl
-guard-two (g ∷ gs) w = refl
+use Rattle.model.specs.Notions.{In, SmallGuards, guardsOn, testOn}
 
 abbrev updateBytes : Edge → List ℕ
 updateBytes e = joined (map (λ u. twoBytes (updateCode u)) (e .updates))
-
-edge-bytes : (from to : ℕ) (e : Edge)
-    → edgeRecord from to e
-    ≡ 0x45 ∷ e .branchNo ∷ from % 256 ∷ from / 256 ∷ to % 256 ∷ to / 256 ∷ getD (guardBytes (e .guards)) 0 0
-    ∷ getD (guardBytes (e .guards)) 1 0
-    ∷ filled 24 (updateBytes e)
-edge-bytes from to e =
-    ap (λ w. 0x45 ∷ e .branchNo ∷ from % 256 ∷ from / 256 ∷ to % 256 ∷ to / 256 ∷ w)
-    (guard-two (e .guards) (filled 24 (updateBytes e)))
 
 updates-length : (us : List Update) → length (joined (map (λ u. twoBytes (updateCode u)) us)) ≡ 2 * length us
 updates-length [] = refl
@@ -37,10 +24,7 @@ pub edge-length : (from to : ℕ) (e : Edge) → length (e .updates) ≤ 12 → 
 edge-length from to e h =
     let f : length (filled 24 (updateBytes e)) ≡ 24 =
     filled-length 24 (updateBytes e) (omega (arith, updates-length (e .updates))) in
-    ap length (edge-bytes from to e) ∙ omega arith
-
-pub edge-branch : (from to : ℕ) (e : Edge) → byte (edgeRecord from to e) 1 ≡ e .branchNo
-edge-branch from to e = refl
+    omega arith
 
 pub edge-from : (from to : ℕ) (e : Edge) → word (edgeRecord from to e) 2 ≡ from
 edge-from from to e = word-back from
@@ -48,29 +32,70 @@ edge-from from to e = word-back from
 pub edge-to : (from to : ℕ) (e : Edge) → word (edgeRecord from to e) 4 ≡ to
 edge-to from to e = word-back to
 
-pub edge-guard : (from to : ℕ) (e : Edge) → byte (edgeRecord from to e) 6 ≡ getD (guardBytes (e .guards)) 0 0
-edge-guard from to e = ap (λ r. byte r 6) (edge-bytes from to e)
+-- ---- the branch and the guards
 
-pub edge-node : (from to : ℕ) (e : Edge) → byte (edgeRecord from to e) 7 ≡ getD (guardBytes (e .guards)) 1 0
-edge-node from to e = ap (λ r. byte r 7) (edge-bytes from to e)
+-- byte 1: bit 0, bits 1 and 2, bits 3 to 6, and bit 7
+module _ (b : ℕ) (g : GuardCode) (lb : b ≤ 1) (lt : g .test ≤ 3) (ln : g .node ≤ 15) where
+  bit-branch : branchByte b g % 2 ≡ b
+  bit-branch = omega arith
 
--- the guards that are read hold where those that were written do: a record holds one at most
-test-read : (x : Test) (c : ℕ) → guardHolds (testNumber x) c ≡ testOn x c
-test-read isOne c = refl
-test-read isMore c = refl
+  bits-test : branchByte b g / 2 % 4 ≡ g .test
+  bits-test = omega arith
 
-guards-read : (gs : List Guard) (cs : List ℕ) → length gs ≤ 1
-    → guardHolds (getD (guardBytes gs) 0 0) (getD cs (getD (guardBytes gs) 1 0) 0) ≡ guardsOn gs cs
-guards-read [] cs h = refl
-guards-read (g ∷ []) cs h = test-read (g .test) (getD cs (g .node) 0) ∙ sym (and-true (guardOn cs g))
-guards-read (g ∷ f ∷ gs) cs h = absurd (omega arith)
+  bits-node : branchByte b g / 8 % 16 ≡ g .node
+  bits-node = omega arith
 
-pub edge-guards : (from to : ℕ) (e : Edge) (cs : List ℕ) → length (e .guards) ≤ 1
-    → guardsHold cs (guardsOf (edgeRecord from to e)) ≡ guardsOn (e .guards) cs
-edge-guards from to e cs h =
-    and-true (guardHolds (byte (edgeRecord from to e) 6) (getD cs (byte (edgeRecord from to e) 7) 0))
-    ∙ ap₂ (λ g d. guardHolds g (getD cs d 0)) (edge-guard from to e) (edge-node from to e)
-    ∙ guards-read (e .guards) cs h
+  bit-seven : branchByte b g < 128
+  bit-seven = omega arith
+
+test-low : (x : Test) → testNumber x ≤ 3
+test-low isOne = omega arith
+test-low isMore = omega arith
+
+-- the numbers of a guard on one of 16 nodes
+pub code-low : (gs : List Guard) → ((g : Guard) → In g gs → g .node < 16) → (i : ℕ)
+    → (guardCode gs i .test ≤ 3) × (guardCode gs i .node ≤ 15)
+code-low [] h i = (omega arith, omega arith)
+code-low (g ∷ gs) h zero = (test-low (g .test), omega (arith, h g (inl refl)))
+code-low (g ∷ gs) h (suc i) = code-low gs (λ f j. h f (inr j)) i
+
+-- an edge with a branch of 0 or 1, and two guards at most, on nodes below 16
+module _ (from to k : ℕ) (e : Edge) (lb : e .branchNo ≤ 1) (G : SmallGuards k (e .guards)) (lk : k ≤ 16) where
+  low-1 : (guardCode (e .guards) 1 .test ≤ 3) × (guardCode (e .guards) 1 .node ≤ 15)
+  low-1 = code-low (e .guards) (λ g i. omega (arith, G .known g i)) 1
+
+  pub edge-branch : branchOf (edgeRecord from to e) ≡ e .branchNo
+  edge-branch = bit-branch (e .branchNo) (guardCode (e .guards) 1) lb (low-1 .0) (low-1 .1)
+
+  pub edge-bit : byte (edgeRecord from to e) 1 < 128
+  edge-bit = bit-seven (e .branchNo) (guardCode (e .guards) 1) lb (low-1 .0) (low-1 .1)
+
+  pub edge-codes : guardsOf (edgeRecord from to e) ≡ guardCode (e .guards) 0 ∷ guardCode (e .guards) 1 ∷ []
+  edge-codes =
+      let g = guardCode (e .guards) 1 in
+      λ i. guardCode (e .guards) 0 ∷ record {
+        test = bits-test (e .branchNo) g lb (low-1 .0) (low-1 .1) i;
+        node = bits-node (e .branchNo) g lb (low-1 .0) (low-1 .1) i;
+      } ∷ []
+
+  -- the guards that are read hold where those that were written do
+  pub edge-guards : (cs : List ℕ) → guardsHold cs (guardsOf (edgeRecord from to e)) ≡ guardsOn (e .guards) cs
+  edge-guards cs = ap (guardsHold cs) edge-codes ∙ guards-read (e .guards) cs (G .few)
+    where
+      test-read : (x : Test) (c : ℕ) → guardHolds (testNumber x) c ≡ testOn x c
+      test-read isOne c = refl
+      test-read isMore c = refl
+
+      guards-read : (gs : List Guard) (cs : List ℕ) → length gs ≤ 2
+          → guardsHold cs (guardCode gs 0 ∷ guardCode gs 1 ∷ []) ≡ guardsOn gs cs
+      guards-read [] cs h = refl
+      guards-read (g ∷ []) cs h = ap (λ b. b && true) (test-read (g .test) (getD cs (g .node) 0))
+      guards-read (g ∷ f ∷ []) cs h =
+          ap₂ (λ b c. b && (c && true)) (test-read (g .test) (getD cs (g .node) 0))
+          (test-read (f .test) (getD cs (f .node) 0))
+      guards-read (g ∷ f ∷ d ∷ gs) cs h = absurd (omega arith)
+
+-- ---- the updates
 
 word-skip : (a b : ℕ) (w : List ℕ) (j n : ℕ) → map (λ i. word (a ∷ b ∷ w) (2 * i)) (numbers (suc j) n)
     ≡ map (λ i. word w (2 * i)) (numbers j n)
@@ -94,7 +119,6 @@ word-eight a b c d e f g h w n =
 pub edge-updates : (from to : ℕ) (e : Edge) → updatesOf (length (e .updates)) (edgeRecord from to e)
     ≡ map updateCode (e .updates)
 edge-updates from to e =
-    ap (updatesOf (length (e .updates))) (edge-bytes from to e)
-    ∙ ap (λ f. map f (numbers 0 (length (e .updates))))
+    ap (λ f. map f (numbers 0 (length (e .updates))))
     (fun-ext (λ i. word-eight _ _ _ _ _ _ _ _ (filled 24 (updateBytes e)) (2 * i)))
     ∙ words-back (e .updates) (replicate (24 - length (updateBytes e)) 0)

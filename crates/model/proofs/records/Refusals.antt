@@ -19,7 +19,7 @@ use Rattle.model.specs.Shape.{canonical}
 use Rattle.model.specs.Translate.{Routine, bad, badKind, badRecord, between, check, checkCounts, checkKinds, checkRecords, good, routineOf}
 use Rattle.model.proofs.records.Checked.{bad-good, good-inj}
 use Rattle.model.specs.Listings.{BadInput, GoodInput, bad-kind, bad-length, bad-record, bad-shapes, bad-statements, noRecords, recordRefusal, recordsOf, wrongKind}
-use Rattle.model.proofs.lists.Logic.{and-l, and-r, bool-case, clash, or-r}
+use Rattle.model.proofs.lists.Logic.{and-l, and-r, bool-case, clash, not-false, or-r}
 
 -- ---- the first record of a wrong kind
 
@@ -69,10 +69,6 @@ kind-cases after i (r ∷ rs) = bool-case (isH r)
       rw (h, or-false after, s),
       λ m l. absurd (omega arith),
     )))
-  where
-    not-false : (b : Bool) → not b ≡ true → b ≡ false
-    not-false true e = clash e refl
-    not-false false e = refl
 
 -- ---- the first record that is refused
 

@@ -14,14 +14,11 @@ use Rattle.model.proofs.expansion.Facts.{kept-test, test-kept}
 use Rattle.model.specs.Notions.{In, Reaches, along, from-pointer, ClosedHeap, Tours, Used, Walks, at-null, at-seen, at-undef, go, tour-done, tour-more}
 use Rattle.model.proofs.lists.Logic.{bool-case, clash, mem-append-cases, mem-append-l, mem-append-r, mem-here, mem-one, not-true}
 use Rattle.model.proofs.visits.Order.{toured}
-use Rattle.model.proofs.expansion.Writes.{holds-inj}
+use Rattle.model.proofs.expansion.Writes.{cell-inj, holds-inj}
 
 val-clash {ℓ} : {C : Type ℓ} {v : Val} {c : ℕ} → cell c ≡ v → v ≡ null ⊎ v ≡ undef → C
 val-clash {v} {c} e (inl q) = absurd (let z : _≡_ {A = ℕ} 0 1 = cc in omega arith)
 val-clash {v} {c} e (inr q) = absurd (let z : _≡_ {A = ℕ} 0 1 = cc in omega arith)
-
-cell-inj : {c d : ℕ} → cell c ≡ cell d → c ≡ d
-cell-inj {c} {d} e = cc
 
 module _ (nx : ℕ → Slot) where
   -- what holds of the cells that the walk begins with, and goes along nexts, holds of all that it visits

@@ -11,17 +11,17 @@ use lib.ListN.{length, length-map}
 use Rattle.model.specs.Base.{sum}
 use Rattle.model.specs.Edges.{Edge, Loc, Update, Way, Weight, at, edgeBy, failed, stepBy, updateOf}
 use Rattle.model.specs.Heap.{Heap, next}
-use Rattle.model.specs.Machine.{Answer, Effect, Entry, Stmt, accepts, answerOf, branch, done, fault, faulted, refused, carryOut, step, stopped, went, isStop, kind, action}
+use Rattle.model.specs.Machine.{Answer, Effect, Entry, Fault, Stmt, accepts, answerOf, branch, done, fault, faulted, refused, carryOut, step, stopped, went, isStop, kind, action}
 use Rattle.model.specs.Runs.{State, Status, Advance, made, past, running, taken}
 use Rattle.model.specs.Shape.{Seg, cells, counters, foldBy, last, nodeSlot, segments, shape, size}
 use Rattle.model.proofs.expansion.Folds.{Alls, counters-grow, fold-same, large-closed}
-use Rattle.model.specs.Notions.{Kept, SmallEdge, SmallUpdates, sg-after, total, worth, ClosedHeap}
+use Rattle.model.specs.Notions.{Kept, SmallEdge, SmallGuards, SmallUpdates, sg-after, total, worth, ClosedHeap}
 use Rattle.model.proofs.ways.Sizes.{Neat, neat, run-short}
 use Rattle.model.proofs.expansion.Step.{Agree, fault-alike, step-agree, step-go, went-alike}
 use Rattle.model.proofs.ways.Ways.{Fits, count-length}
 use Rattle.model.proofs.ways.Weights.{Fair, update-small, update-value, weigh}
 use Rattle.model.proofs.expansion.Kinds.{Short}
-use Rattle.model.proofs.ways.Picks.{accept-room, room-accept}
+use Rattle.model.proofs.ways.Picks.{accept-room, branch-low, room-accept}
 
 -- the match of a state with a location and counters
 abbrev pub MatchIn : Status → ℕ → Heap → Loc → List ℕ → Type 0
@@ -34,16 +34,16 @@ Fit q l cs = MatchIn (q .status) (q .stmt) (q .heap) l cs
 abbrev pub begin : ℕ → Heap → State
 begin s h = record { stmt = s; status = running; heap = h }
 
--- what an answer's heap can be long
+-- a branch of 0 or 1, and how long an answer's heap can be
 abbrev ShortAnswer : ℕ → Answer → Type 0
 ShortAnswer b refused = Unit {0}
 ShortAnswer b stopped = Unit {0}
 ShortAnswer b (faulted f) = Unit {0}
-ShortAnswer b (went c t h) = length (h .slots) ≤ b
+ShortAnswer b (went c t h) = (c ≤ 1) × (length (h .slots) ≤ b)
 
-answer-short : (b : ℕ) (st : Stmt) (c : ℕ) (x : Effect) → Short b x → ShortAnswer b (answerOf st c x)
-answer-short b st c (done h) s = s
-answer-short b st c (fault f) s = tt
+answer-short : (b : ℕ) (st : Stmt) (c : ℕ) (x : Effect) → c ≤ 1 → Short b x → ShortAnswer b (answerOf st c x)
+answer-short b st c (done h) l s = (l, s)
+answer-short b st c (fault f) l s = tt
 
 sum-total : (sg : ℕ → Seg) (f : ℕ → ℕ) → ((i : ℕ) → size (sg i) ≡ f i) → (l : List ℕ) → total sg l ≡ sum f l
 sum-total sg f h [] = refl
@@ -73,13 +73,15 @@ pub record Landed (q : State) (a : Answer) (E : Edge) (cs : List ℕ) : Type 0 w
   pub branches : taken .branchNo ≡ E .branchNo
   pub fits : Fit (taken .after) (E .to) (map (worth cs) (E .updates))
 
-landed : (s k : ℕ) (y : Way) (H : Heap) (cs : List ℕ) (sg : ℕ → Seg) (a b : Answer) → length (y .guards) ≤ 1
-    → length cs ≡ k
-    → Fair k cs (y .weight)
-    → ((i : ℕ) → size (sg i) ≡ weigh cs ((y .weight) i))
-    → Agree sg a b → ShortAnswer (suc k) a
-    → (E : Edge) × (edgeBy s k y a ≡ E ∷ []) × (E .guards ≡ y .guards) × Landed (begin s H) b E cs × SmallEdge k E
-landed s k y H cs sg a b gd len F h (fault-alike {f = f}) sh = (
+-- the edge of a way, by the answer a on its heap, beside the answer b on the heap H
+abbrev Landing : ℕ → ℕ → Way → Heap → List ℕ → Answer → Answer → Type 0
+Landing s k y H cs a b = (E : Edge) × (edgeBy s k y a ≡ E ∷ []) × (E .guards ≡ y .guards) × Landed (begin s H) b E cs
+    × SmallEdge k E
+
+-- both fault alike
+fault-landed : (s k : ℕ) (y : Way) (H : Heap) (cs : List ℕ) (f : Fault) → SmallGuards k (y .guards)
+    → Landing s k y H cs (faulted f) (faulted f)
+fault-landed s k y H cs f gd = (
   record { branchNo = 0; guards = y .guards; to = failed s f; updates = [] },
   refl,
   refl,
@@ -89,8 +91,16 @@ landed s k y H cs sg a b gd len F h (fault-alike {f = f}) sh = (
     branches = refl;
     fits = (refl, refl);
   },
-  record { number = refl; guarded = gd; small = λ u i. absurd i },
+  record { number = refl; branch = omega arith; guarded = gd; small = λ u i. absurd i },
 )
+
+landed : (s k : ℕ) (y : Way) (H : Heap) (cs : List ℕ) (sg : ℕ → Seg) (a b : Answer) → SmallGuards k (y .guards)
+    → length cs ≡ k
+    → Fair k cs (y .weight)
+    → ((i : ℕ) → size (sg i) ≡ weigh cs ((y .weight) i))
+    → Agree sg a b → ShortAnswer (suc k) a
+    → Landing s k y H cs a b
+landed s k y H cs sg a b gd len F h (fault-alike {f = f}) sh = fault-landed s k y H cs f gd
 landed s k y H cs sg a b gd len F h (went-alike {b = c} {t = t} {W = W′} {H = H′} X kp) sh = (
   record {
     branchNo = c;
@@ -107,7 +117,7 @@ landed s k y H cs sg a b gd len F h (went-alike {b = c} {t = t} {W = W′} {H = 
     fits = (
       ap (at t) (sym (fold-same W′ sg H′ X)),
       sym (counters-grow W′ sg H′ X ∙ sums k cs (y .weight) sg len F h (segments W′)
-          (neat (suc k) W′ (X .closed, X .body .closed) sh)),
+          (neat (suc k) W′ (X .closed, X .body .closed) (sh .1))),
       large-closed W′ sg H′ X,
       kp,
     );
@@ -115,8 +125,9 @@ landed s k y H cs sg a b gd len F h (went-alike {b = c} {t = t} {W = W′} {H = 
   record {
     number = length-map (segments W′) (updateOf k (y .weight))
         ∙ sym (length-map (segments W′) (λ (g : Seg). nodeSlot (segments W′) (next W′ (last g))));
+    branch = sh .0;
     guarded = gd;
-    small = smalls k cs (y .weight) len F (segments W′) (neat (suc k) W′ (X .closed, X .body .closed) sh);
+    small = smalls k cs (y .weight) len F (segments W′) (neat (suc k) W′ (X .closed, X .body .closed) (sh .1));
   },
 )
 
@@ -126,12 +137,16 @@ module _ (s : ℕ) (st : Stmt) (H : Heap) (cl : ClosedHeap H) (kp : Kept H) wher
   nodes = length (shape H .slots)
 
   abbrev pub Lands : Way → Entry → Type 0
-  Lands y e = (E : Edge) × (edgeBy s nodes y (stepBy st nodes y) ≡ E ∷ []) × (E .guards ≡ y .guards)
-      × Landed (begin s H) (step st e H) E (counters H) × SmallEdge nodes E
+  Lands y e = Landing s nodes y H (counters H) (stepBy st nodes y) (step st e H)
+
+  -- a way by which both are the same fault
+  pub fault-lands : (y : Way) (e : Entry) (f : Fault) → SmallGuards nodes (y .guards) → stepBy st nodes y ≡ faulted f
+      → step st e H ≡ faulted f → Lands y e
+  fault-lands y e f gd p q = rw (p, q) (fault-landed s nodes y H (counters H) f gd)
 
   -- a way that fits
   pub fits-lands : (y : Way) (e : Entry) → isStop (kind (st .op)) ≡ false
-      → Fits (action (st .op)) nodes (e .cellNo) y H (counters H) → y .pick ≤ 1 → length (y .guards) ≤ 1
+      → Fits (action (st .op)) nodes (e .cellNo) y H (counters H) → y .pick ≤ 1 → SmallGuards nodes (y .guards)
       → accepts (st .op) e H ≡ true → branch (st .op) (e .pick) H ≡ branch (st .op) (y .pick) (y .heap) → Lands y e
   fits-lands y e g F p gd ac b =
       let a = action (st .op) in
@@ -143,5 +158,6 @@ module _ (s : ℕ) (st : Stmt) (H : Heap) (cl : ClosedHeap H) (kp : Kept H) wher
       b)
       (rw (step-go st d (y .heap) g aw)
       (answer-short (suc nodes) st (branch (st .op) (y .pick) (y .heap)) (carryOut (st .op) nodes (y .heap))
+      (branch-low (kind (st .op)) (y .pick) (y .heap) p)
       (run-short (st .op) nodes (suc nodes) (y .heap) (F .expansion .closed, F .expansion .body .closed) (F .short)
       (omega arith))))

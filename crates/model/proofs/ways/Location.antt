@@ -2,30 +2,27 @@
 -- a step.
 use Prim.Native.Nat.{_≤_, ℕ}
 use mathlib.Core.Path.{_∙_, _≡_, ap, refl, subst, sym}
-use mathlib.Core.Logic.{inl, inr}
+use mathlib.Core.Logic.{inl}
 use mathlib.Core.Option.{some}
 use mathlib.Core.Bool.{false, true}
 use mathlib.Core.List.{[], _∷_, map}
 use native.Mathlib.Omega.{arith}
-use lib.Dec.{T, eqb, leb}
-use lib.ListN.{getD, length}
-use borrow.Author.Tests.{eqb-false, eqb-true, le-leb, leb-true}
-use Rattle.model.specs.Edges.{Edge, Way, edgeBy, edgesAt, picksOf, split, splitHeap, stepBy, ways, whole, view, View, oneNode, noNode, waysOf, oneAt, moreAt}
+use lib.Dec.{leb}
+use lib.ListN.{length}
+use Rattle.model.specs.Edges.{Edge, Way, edgeBy, edgesAt, picksOf, stepBy, ways, whole, view, noNode, waysOf}
 use Rattle.model.specs.Heap.{Heap, inUse, kept, next}
-use Rattle.model.specs.Machine.{Answer, Entry, Op, Stmt, accepts, branch, faulted, picks, refused, step, stopped, went, isStop, kind, entry, Action, action, actionOf, branchBy}
+use Rattle.model.specs.Machine.{Answer, Entry, Op, Stmt, accepts, faulted, picks, refused, step, stopped, went, isStop, kind, entry, Action, action, actionOf}
 use Rattle.model.specs.Runs.{State, Advance, made}
 use Rattle.model.specs.Shape.{counters, segments, shape}
 use Rattle.model.proofs.expansion.Facts.{kept-test, unused-of}
-use Rattle.model.specs.Notions.{Kept, In, SmallEdge, segAt, worth, ClosedHeap, guardsOn, Alone}
+use Rattle.model.specs.Notions.{Kept, In, SmallEdge, segAt, worth, ClosedHeap, guardsOn}
 use Rattle.model.proofs.expansion.Folds.{kept-down}
-use Rattle.model.proofs.ways.Leave.{Fit, begin, Lands, fits-lands}
-use Rattle.model.proofs.lists.Lists.{getD-default, in-joined, in-map, in-single, joined-in, map-in}
-use Rattle.model.proofs.lists.Logic.{bool-case, and-l}
-use Rattle.model.proofs.visits.Order.{used-below}
-use Rattle.model.proofs.ways.Picks.{branch-pick, kind-case, made-goes, pick-in, pick-low, accept-pick, accept-room, room-of}
+use Rattle.model.proofs.ways.Leave.{Fit, begin}
+use Rattle.model.proofs.lists.Lists.{in-joined, in-map, in-single, joined-in, map-in}
+use Rattle.model.proofs.lists.Logic.{bool-case}
+use Rattle.model.proofs.ways.Picks.{made-goes, pick-low, accept-room, room-of}
 use Rattle.model.proofs.expansion.Start.{start}
-use Rattle.model.proofs.expansion.Step.{branch-same}
-use Rattle.model.proofs.ways.Ways.{count-length, size-at, whole-fits, view-node, view-acts, acts-no-pick, split-fits, one-alone}
+use Rattle.model.proofs.ways.Lands.{take-way, way-lands}
 
 -- what is known of an edge by its way
 pub way-guards : (s k : ℕ) (y : Way) (a : Answer) (E : Edge) → In E (edgeBy s k y a) → E .guards ≡ y .guards
@@ -60,92 +57,6 @@ module _ (s : ℕ) (st : Stmt) (H : Heap) (cl : ClosedHeap H) (kp : Kept H) wher
   abbrev nodes : ℕ
   nodes = length (shape H .slots)
 
-  counter-same : (n : ℕ) → view does (shape H) ≡ oneNode n → getD (counters H) n 0 ≡ getD (counters H) n 1
-  counter-same n a =
-      let lt = used-below (shape H .slots) n (view-node H cl kp does n a) in
-      getD-default (counters H) 0 1 n (omega (arith, count-length H cl kp))
-
-  -- the branch on the heap and on its shape
-  plain-branch : (p q : ℕ) → (kind op-of ≡ picks → p ≡ q) → branch op-of p H ≡ branch op-of q (shape H)
-  plain-branch p q h =
-      branch-same (shape H) (segAt (segments H)) H (start H cl kp) (kind op-of) p
-      ∙ kind-case (kind op-of) (λ e. ap (λ z. branch op-of z (shape H)) (h e))
-      (λ n. branch-pick (kind op-of) p q (shape H) n)
-
-  node-branch : (n : ℕ) → view does (shape H) ≡ oneNode n → (p q : ℕ) (g : Heap) → branch op-of p H ≡ branch op-of q g
-  node-branch n a p q g =
-      let f = view-acts (kind op-of) (shape H) n a in
-      ap (λ k. branchBy k p H) (f .1) ∙ sym (ap (λ k. branchBy k q g) (f .1))
-
-  -- ---- each way whose guards are on lands beside each entry that is accepted and, at choose, picks as the way does
-
-  plain-lands : view does (shape H) ≡ noNode → (y : Way)
-      → In y (map (λ p. whole [] p (shape H)) (picksOf (kind op-of))) → (e : Entry)
-      → isStop (kind op-of) ≡ false → accepts op-of e H ≡ true → (kind op-of ≡ picks → e .pick ≡ y .pick)
-      → Lands s st H cl kp y e
-  plain-lands v y i e g ac pk =
-      let r = in-map (λ p. whole [] p (shape H)) y (picksOf (kind op-of)) i in
-      subst (λ z. Lands s st H cl kp z e) (sym (r .2))
-      (fits-lands s st H cl kp (whole [] (r .0) (shape H)) e g
-      (whole-fits H cl kp does (e .cellNo) (r .0) [] (subst (λ x. Alone x (segAt (segments H))) (sym v) tt))
-      (pick-low (kind op-of) (r .0) (r .1)) (omega arith) ac
-      (plain-branch (e .pick) (r .0) (λ q. pk q ∙ ap (λ (z : Way). z .pick) (r .2))))
-
-  one-lands : (n : ℕ) → view does (shape H) ≡ oneNode n → guardsOn (oneAt n ∷ []) (counters H) ≡ true → (e : Entry)
-      → isStop (kind op-of) ≡ false → accepts op-of e H ≡ true → Lands s st H cl kp (whole (oneAt n ∷ []) 0 (shape H)) e
-  one-lands n v on e g ac =
-      let z = eqb-true (getD (counters H) n 0) 1 (and-l (eqb (getD (counters H) n 0) 1) true on) in
-      fits-lands s st H cl kp (whole (oneAt n ∷ []) 0 (shape H)) e g
-      (whole-fits H cl kp does (e .cellNo) 0 (oneAt n ∷ []) (subst (λ x. Alone x (segAt (segments H))) (sym v)
-      (one-alone H cl kp n (sym (counter-same n v) ∙ z))))
-      (omega arith) (omega arith) ac (node-branch n v (e .pick) 0 (shape H))
-
-  split-lands : (n : ℕ) → view does (shape H) ≡ oneNode n → guardsOn (moreAt n ∷ []) (counters H) ≡ true → (e : Entry)
-      → isStop (kind op-of) ≡ false → accepts op-of e H ≡ true
-      → Lands s st H cl kp (split (moreAt n ∷ []) n (shape H)) e
-  split-lands n v on e g ac =
-      let z = leb-true 2 (getD (counters H) n 0) (and-l (leb 2 (getD (counters H) n 0)) true on) in
-      let w = counter-same n v in
-      fits-lands s st H cl kp (split (moreAt n ∷ []) n (shape H)) e g
-      (split-fits H cl kp does (e .cellNo) n (moreAt n ∷ []) v (omega arith))
-      (omega arith) (omega arith) ac (node-branch n v (e .pick) 0 (splitHeap n nodes (shape H)))
-
-  way-lands : (v : View) → view does (shape H) ≡ v → (y : Way) → In y (waysOf (kind op-of) v (shape H))
-      → guardsOn (y .guards) (counters H) ≡ true → (e : Entry) → isStop (kind op-of) ≡ false → accepts op-of e H ≡ true
-      → (kind op-of ≡ picks → e .pick ≡ y .pick) → Lands s st H cl kp y e
-  way-lands noNode v y i on e g ac pk = plain-lands v y i e g ac pk
-  way-lands (oneNode n) v y (inl q) on e g ac pk =
-      subst (λ z. Lands s st H cl kp z e) (sym q) (one-lands n v (rw q at on) e g ac)
-  way-lands (oneNode n) v y (inr (inl q)) on e g ac pk =
-      subst (λ z. Lands s st H cl kp z e) (sym q) (split-lands n v (rw q at on) e g ac)
-  way-lands (oneNode n) v y (inr (inr x)) on e g ac pk = absurd x
-
-  -- the way that the heap takes
-  abbrev Taken : View → Entry → Type 0
-  Taken v e = (y : Way) × In y (waysOf (kind op-of) v (shape H)) × (guardsOn (y .guards) (counters H) ≡ true)
-      × (kind op-of ≡ picks → e .pick ≡ y .pick)
-
-  take-way : (v : View) → view does (shape H) ≡ v → (e : Entry) → accepts op-of e H ≡ true → Taken v e
-  take-way noNode v e ac =
-      let r = pick-in (kind op-of) (e .pick) (accept-pick op-of e H ac) in (
-        whole [] (r .0) (shape H),
-        map-in (λ p. whole [] p (shape H)) (r .0) (picksOf (kind op-of)) (r .1),
-        refl,
-        r .2,
-      )
-  take-way (oneNode n) v e ac =
-      let f = view-acts (kind op-of) (shape H) n v in
-      let np : kind op-of ≡ picks → e .pick ≡ 0 = λ q. absurd (acts-no-pick (f .0) (sym (f .1) ∙ q)) in
-      let u = view-node H cl kp does n v in
-      let lt = used-below (shape H .slots) n u in
-      let sz = size-at H cl kp n in
-      let w = counter-same n v in
-      bool-case (eqb (getD (counters H) n 0) 1)
-      (λ q. (whole (oneAt n ∷ []) 0 (shape H), inl refl, rw q, np))
-      (λ q. let ne = eqb-false (getD (counters H) n 0) 1 q in
-      let two = le-leb 2 (getD (counters H) n 0) (omega arith) in
-      (split (moreAt n ∷ []) n (shape H), inr (inl refl), rw two, np))
-
   edge-in : (y : Way) (E : Edge) → In y (ways op-of (shape H)) → edgeBy s nodes y (stepBy st nodes y) ≡ E ∷ []
       → In E (edgesAt s st (shape H))
   edge-in y E i e =
@@ -160,8 +71,8 @@ module _ (s : ℕ) (st : Stmt) (H : Heap) (cl : ClosedHeap H) (kp : Kept H) wher
       × Fit (x .after) (E .to) (map (worth (counters H)) (E .updates))
   leave-forward e x m =
       let g = made-goes (begin s H) st e H x m in
-      let T = take-way (view does (shape H)) refl e (g .1) in
-      let r = way-lands (view does (shape H)) refl (T .0) (T .1) (T .2) e (g .0) (g .1) (T .3) in
+      let T = take-way s st H cl kp (view does (shape H)) refl e (g .1) in
+      let r = way-lands s st H cl kp (view does (shape H)) refl (T .0) (T .1) (T .2) e (g .0) (g .1) (T .3) in
       let L = r .3 in
       let z : L .taken ≡ x = (let u = L .isMade in cc) in (
         r .0,
@@ -208,7 +119,7 @@ module _ (s : ℕ) (st : Stmt) (H : Heap) (cl : ClosedHeap H) (kp : Kept H) wher
       let ac : accepts op-of e H ≡ true =
       accept-room op-of e H (room-of does H (e .cellNo) (unused-of (next H (e .cellNo)) u))
       (λ q. let z = pk q in let l = choose-way q y (w .1) .1 in omega arith) in
-      let r = way-lands (view does (shape H)) refl y (w .1) on′ e g ac pk in
+      let r = way-lands s st H cl kp (view does (shape H)) refl y (w .1) on′ e g ac pk in
       let z : E ≡ r .0 = in-single E (r .0) (subst (In E) (r .1) (w .2)) in
       let L = r .3 in (
         L .taken,

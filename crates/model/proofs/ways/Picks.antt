@@ -3,12 +3,12 @@ use Prim.Native.Nat.{_≤_, suc, zero, ℕ}
 use mathlib.Core.Path.{_≡_, refl, subst, sym}
 use mathlib.Core.Logic.{inl, inr}
 use mathlib.Core.Option.{some}
-use mathlib.Core.Bool.{false, true}
+use mathlib.Core.Bool.{Bool, false, true}
 use native.Mathlib.Omega.{arith}
 use borrow.Author.Tests.{le-leb, leb-true}
 use Rattle.model.specs.Edges.{picksOf}
-use Rattle.model.specs.Heap.{Heap, inUse, next, unused}
-use Rattle.model.specs.Machine.{Action, Entry, Kind, Op, Stmt, accepts, acceptsCell, acceptsPick, action, acts, branchBy, follow, halts, tests, isStop, kind, link, make, picks, point, release, compare, stay, step}
+use Rattle.model.specs.Heap.{Heap, inUse, next, ptr, sameVal, unused}
+use Rattle.model.specs.Machine.{Action, Entry, Kind, Op, Stmt, accepts, acceptsCell, acceptsPick, action, acts, branchBy, follow, halts, tests, isStop, kind, link, make, picks, point, release, compare, splice, stay, step, test, valueOf}
 use Rattle.model.specs.Notions.{In, Room}
 use Rattle.model.specs.Runs.{Advance, State, made}
 use Rattle.model.proofs.expansion.Facts.{unused-of}
@@ -29,6 +29,17 @@ branch-pick halts p q h n = refl
 branch-pick (acts a) p q h n = refl
 branch-pick (tests u s) p q h n = refl
 branch-pick picks p q h n = absurd (n refl)
+
+-- a branch is 0 or 1
+test-low : (b : Bool) → test b ≤ 1
+test-low true = omega arith
+test-low false = omega arith
+
+pub branch-low : (k : Kind) (p : ℕ) (h : Heap) → p ≤ 1 → branchBy k p h ≤ 1
+branch-low halts p h l = omega arith
+branch-low (acts a) p h l = omega arith
+branch-low (tests u s) p h l = test-low (sameVal (ptr h u) (valueOf s h))
+branch-low picks p h l = l
 
 pub pick-low : (k : Kind) (p : ℕ) → In p (picksOf k) → p ≤ 1
 pick-low halts p (inl e) = omega arith
@@ -75,6 +86,7 @@ cell-room (compare u s) h c e = tt
 cell-room (point u s) h c e = tt
 cell-room (follow u w) h c e = tt
 cell-room (link u s) h c e = tt
+cell-room (splice u w) h c e = tt
 cell-room (make u) h c e = bool-case (inUse (next h c)) (λ z. clash (rw z at e) refl) (λ z. unused-of (next h c) z)
 cell-room (release u) h c e = tt
 
@@ -84,6 +96,7 @@ room-cell (compare u s) h c r = refl
 room-cell (point u s) h c r = refl
 room-cell (follow u w) h c r = refl
 room-cell (link u s) h c r = refl
+room-cell (splice u w) h c r = refl
 room-cell (make u) h c r = rw r
 room-cell (release u) h c r = refl
 
@@ -93,6 +106,7 @@ room-of (compare u s) h c e = tt
 room-of (point u s) h c e = tt
 room-of (follow u w) h c e = tt
 room-of (link u s) h c e = tt
+room-of (splice u w) h c e = tt
 room-of (make u) h c e = e
 room-of (release u) h c e = tt
 

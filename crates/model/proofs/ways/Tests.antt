@@ -1,15 +1,16 @@
 -- Tests: a fault where a value that is looked at is undefined, else the heap as it is.
 use Prim.Native.Nat.{ℕ}
 use mathlib.Core.Path.{_≡_, _∙_, ap, refl, sym}
-use mathlib.Core.Bool.{Bool, _&&_, cond, false, true}
+use mathlib.Core.Bool.{Bool, cond, false, true}
 use mathlib.Core.List.{[], _∷_, map}
 use mathlib.Core.Logic.{_⊎_, inl, inr}
 use native.Mathlib.Omega.{arith}
 use lib.ListN.{length}
 use Rattle.model.specs.Base.{joined}
 use Rattle.model.specs.Edges.{edgeBy, edgesAt, failed, stepBy, view, waysOf, whole}
-use Rattle.model.specs.Heap.{Heap, Val, cell, kept, next, null, ptr, sameVal, undef}
-use Rattle.model.specs.Machine.{Effect, Entry, Kind, Source, Stmt, acceptsCell, acceptsPick, actionOf, answerOf, atUndef, branchBy, done, fault, faulted, isStop, keep, kind, leak, look, perform, refused, step, stopped, test, tests, valueOf, went}
+use Rattle.model.specs.Heap.{Heap, Val, cell, kept, null, ptr, sameVal, undef}
+use Rattle.model.specs.Machine.{Effect, Entry, Kind, Source, Stmt, actionOf, answerOf, atUndef, done, fault, faulted, keep, kind, leak, look, step, test, tests, valueOf, went}
+use Rattle.model.proofs.expansion.Step.{step-as}
 use Rattle.model.proofs.lists.Logic.{bool-case, not-true}
 use Rattle.model.proofs.shapes.Same.{same-val-refl, val-same}
 
@@ -41,10 +42,7 @@ module _ (st : Stmt) (u : ℕ) (s : Source) (k : kind (st .op) ≡ tests u s) wh
 
     -- every entry is accepted, and the step is the comparison
     step-is : step st e h ≡ answerOf st turn (keep (look (ptr h u) (look (valueOf s h) (done h))))
-    step-is =
-        ap (λ (c : Kind). cond (acceptsPick c (e .pick) && acceptsCell (actionOf c) (next h (e .cellNo)))
-        (cond (isStop c) stopped (answerOf st (branchBy c (e .pick) h) (keep (perform (actionOf c) (e .cellNo) h))))
-        refused) k
+    step-is = step-as st e h (tests u s) k
 
     pub test-faults : (ptr h u ≡ undef) ⊎ (valueOf s h ≡ undef) → step st e h ≡ faulted atUndef
     test-faults q =

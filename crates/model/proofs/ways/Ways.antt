@@ -7,14 +7,14 @@ use mathlib.Core.List.{List, [], _∷_}
 use native.Mathlib.Omega.{arith}
 use lib.Dec.{eqb}
 use lib.ListN.{List·getD-eq-default, List·getD-map, getD, length, length-map}
-use borrow.Author.Tests.{eqb-false, eqb-true}
-use Rattle.model.specs.Edges.{Guard, Way, Weight, addsCounter, counter, isOneCell, isLess, one, less, split, splitHeap, whole, noNode, view, oneNode, View, viewVal}
-use Rattle.model.specs.Heap.{Heap, Val, cell, next, null, unused, Slot, undef, ptr}
-use Rattle.model.specs.Machine.{picks, Kind, Action, actionOf, acceptsCell, point, acts, follow, tests, link, make, release, halts, compare, stay}
+use borrow.Author.Tests.{eqb-false, eqb-true, ne-eqb}
+use Rattle.model.specs.Edges.{Guard, Way, Weight, addsCounter, counter, isOneCell, isLess, one, less, split, splitHeap, whole, view}
+use Rattle.model.specs.Heap.{Heap, next, unused}
+use Rattle.model.specs.Machine.{Action, point, follow, link, make, release, compare, splice, stay}
 use Rattle.model.specs.Shape.{Seg, counters, last, nodeSlot, segments, shape, size}
 use Rattle.model.proofs.shapes.Canon.{single}
-use Rattle.model.proofs.expansion.Effects.{closed-ptr, exp-split}
-use Rattle.model.specs.Notions.{Kept, Expansion, Room, segAt, sg-after, upd, AllClosed, Closed, ClosedHeap, Used, seg, Alone}
+use Rattle.model.proofs.expansion.Effects.{exp-split}
+use Rattle.model.specs.Notions.{Kept, Expansion, Room, segAt, sg-after, upd, ClosedHeap, Used, Views, seg, Alone}
 use Rattle.model.proofs.lists.Logic.{bool-case, clash, eq-case, eqb-same}
 use Rattle.model.proofs.visits.Order.{used-below}
 use Rattle.model.proofs.ways.Sizes.{split-short}
@@ -22,6 +22,7 @@ use Rattle.model.proofs.expansion.Start.{start}
 use Rattle.model.proofs.ways.Weights.{Fair, weigh}
 use Rattle.model.proofs.expansion.Writes.{upd-at, upd-off}
 use Rattle.model.proofs.ways.Picks.{room-of}
+use Rattle.model.proofs.ways.Views.{view-looks, view-split, view-used}
 
 -- A way fits a heap: the heap expands the way's, each node that is read, written or freed is one cell, and the weights
 -- are the chains' sizes. k is the number of nodes and the cell for new on the shape, c the cell for new on the heap.
@@ -33,64 +34,6 @@ pub record Fits (a : Action) (k c : ℕ) (y : Way) (H : Heap) (cs : List ℕ) : 
   pub weighs : (i : ℕ) → size (sg-after a k c sg i) ≡ weigh cs ((y .weight) i)
   pub short : length (y .heap .slots) ≤ suc k
   pub fair : Fair k cs (y .weight)
-
--- ---- what a statement looks at
-
-pub no-view {ℓ} : {C : Type ℓ} {n : ℕ} → noNode ≡ oneNode n → C
-no-view {n} e = absurd (let z : _≡_ {A = ℕ} 0 1 = cc in omega arith)
-
--- a statement that looks at a node acts, and has no other say
-pub view-acts : (k : Kind) (h : Heap) (n : ℕ) → view (actionOf k) h ≡ oneNode n → (a : Action) × (k ≡ acts a)
-view-acts halts h n e = no-view e
-view-acts (acts a) h n e = (a, refl)
-view-acts (tests u s) h n e = no-view e
-view-acts picks h n e = no-view e
-
-pub acts-no-pick : (a : Action) → acts a ≡ picks → ⊥
-acts-no-pick a e = let z : _≡_ {A = ℕ} 0 1 = cc in omega arith
-
-pub record Looks (a : Action) : Type 0 where
-  pub takes : (s : Slot) → acceptsCell a s ≡ true
-  pub roomy : (h : Heap) (c : ℕ) → Room a h c
-  pub chains : (k c : ℕ) (sg : ℕ → Seg) → sg-after a k c sg ≡ sg
-
-pub view-looks : (a : Action) (h : Heap) (n : ℕ) → view a h ≡ oneNode n → Looks a
-view-looks stay h n e = no-view e
-view-looks (compare u s) h n e = no-view e
-view-looks (point u s) h n e = no-view e
-view-looks (follow u w) h n e = record { takes = λ s. refl; roomy = λ h c. tt; chains = λ k c sg. refl }
-view-looks (link u s) h n e = record { takes = λ s. refl; roomy = λ h c. tt; chains = λ k c sg. refl }
-view-looks (make u) h n e = no-view e
-view-looks (release u) h n e = record { takes = λ s. refl; roomy = λ h c. tt; chains = λ k c sg. refl }
-
--- each node that is looked at is in use
-abbrev pub ClosedView : (ℕ → Slot) → View → Type 0
-ClosedView nx noNode = Unit {0}
-ClosedView nx (oneNode n) = Used nx n
-
-view-val : (nx : ℕ → Slot) (v : Val) → Closed nx v → ClosedView nx (viewVal v)
-view-val nx (cell n) k = k
-view-val nx null k = tt
-view-val nx undef k = tt
-
-pub view-closed : (a : Action) (h : Heap) → AllClosed (next h) (h .ptrs) → ClosedView (next h) (view a h)
-view-closed stay h k = tt
-view-closed (compare u s) h k = tt
-view-closed (point u s) h k = tt
-view-closed (follow u w) h k = view-val (next h) (ptr h w) (closed-ptr (next h) (h .ptrs) w k)
-view-closed (link u s) h k = view-val (next h) (ptr h u) (closed-ptr (next h) (h .ptrs) u k)
-view-closed (make u) h k = tt
-view-closed (release u) h k = view-val (next h) (ptr h u) (closed-ptr (next h) (h .ptrs) u k)
-
--- the pointers alone decide
-pub view-split : (a : Action) (n k : ℕ) (h : Heap) → view a (splitHeap n k h) ≡ view a h
-view-split stay n k h = refl
-view-split (compare u s) n k h = refl
-view-split (point u s) n k h = refl
-view-split (follow u w) n k h = refl
-view-split (link u s) n k h = refl
-view-split (make u) n k h = refl
-view-split (release u) n k h = refl
 
 -- ---- weights
 
@@ -106,6 +49,7 @@ weigh-of (compare u s) k c sg f h z e = same-weigh k sg f h z e
 weigh-of (point u s) k c sg f h z e = same-weigh k sg f h z e
 weigh-of (follow u w) k c sg f h z e = same-weigh k sg f h z e
 weigh-of (link u s) k c sg f h z e = same-weigh k sg f h z e
+weigh-of (splice u w) k c sg f h z e = same-weigh k sg f h z e
 weigh-of (make u) k c sg f h z e = λ i.
     eq-case i k (λ p. ap size (upd-at sg k (seg c []) i p) ∙ sym e ∙ ap f (sym p))
     (λ p. ap size (upd-off sg k (seg c []) i p) ∙ h i p)
@@ -211,12 +155,14 @@ module _ (H : Heap) (cl : ClosedHeap H) (kp : Kept H) where
   pub one-alone : (n : ℕ) → getD (counters H) n 1 ≡ 1 → segAt (segments H) n .rest ≡ []
   one-alone n e = no-rest (segAt (segments H) n .rest) (size-at n ∙ e)
 
-  pub view-node : (a : Action) (n : ℕ) → view a (shape H) ≡ oneNode n → Used (next (shape H)) n
-  view-node a n e = subst (ClosedView (next (shape H))) e (view-closed a (shape H) (start H cl kp .closed))
+  pub view-node : (a : Action) (n : ℕ) → Views (view a (shape H)) n → Used (next (shape H)) n
+  view-node a n e = view-used a (shape H) (start H cl kp .closed) n e
 
-  pub split-fits : (a : Action) (c n : ℕ) (gs : List Guard) → view a (shape H) ≡ oneNode n → 2 ≤ getD (counters H) n 1
+  -- every other node that is looked at is one cell
+  pub split-fits : (a : Action) (c n : ℕ) (gs : List Guard) → Views (view a (shape H)) n → 2 ≤ getD (counters H) n 1
+      → ((i : ℕ) → Views (view a (shape H)) i → eqb i n ≡ false → getD (counters H) i 1 ≡ 1)
       → Fits a nodes c (split gs n (shape H)) H (counters H)
-  split-fits a c n gs v e = by-rest (segAt (segments H) n .rest) refl
+  split-fits a c n gs v e others = by-rest (segAt (segments H) n .rest) refl
     where
       by-rest : (l : List ℕ) → segAt (segments H) n .rest ≡ l → Fits a nodes c (split gs n (shape H)) H (counters H)
       by-rest [] q = absurd (omega (arith, size-at n, ap length q))
@@ -231,8 +177,12 @@ module _ (H : Heap) (cl : ClosedHeap H) (kp : Kept H) where
           record {
             sg = sg′;
             expansion = exp-split (shape H) (segAt (segments H)) H (start H cl kp) n nodes h t ts sn u past-end;
-            alone = subst (λ x. Alone x sg′) (sym (view-split a n nodes (shape H) ∙ v))
-                (ap (λ (s : Seg). s .rest) (upd-at tail n (seg h []) n refl));
+            alone = λ i q. eq-case i n (λ x. ap (λ (s : Seg). s .rest) (upd-at tail n (seg h []) i x))
+                (λ x. let q′ = subst (λ y. Views y i) (view-split a n nodes (shape H)) q in
+                let below = used-below (shape H .slots) i (view-node a i q′) in
+                ap (λ (s : Seg). s .rest) (upd-off tail n (seg h []) i x
+                ∙ upd-off (segAt (segments H)) nodes (seg t ts) i (ne-eqb i nodes (λ z. omega arith)))
+                ∙ one-alone i (others i q′ x));
             room = L .roomy (splitHeap n nodes (shape H)) nodes;
             weighs = λ i. ap (λ f. size (f i)) (L .chains nodes c sg′) ∙ weigh-split i h t ts q;
             short = split-short n (shape H) lt;
