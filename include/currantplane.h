@@ -2,14 +2,14 @@
  *
  * C99 and later, and C++. Link with libcurrantplane.a (x86-64); it wants memcpy and memset and nothing else.
  *
- * Every call takes any bytes, lengths and numbers, and ends with a finished result or a numbered refusal: what is
- * written, for every input, is proved. What a caller owes:
- *   - A pointer with a length points to so many bytes (or numbers, aligned as their type asks). With length 0 it may be
- *     null. Byte buffers may stand at any address.
- *   - A pointer without a length (`place`) points to one size_t. It must not be null.
+ * Every call takes any bytes, lengths and numbers, and ends with a finished result or a numbered refusal. What it
+ * answers and every byte that it writes is proved, for every input. What a caller owes:
+ *   - A pointer with a length points to so many bytes, or to so many numbers, aligned as their type asks. With
+ *     length 0 it may be null. Bytes may stand at any address.
+ *   - A pointer without a length (`place`) points to one size_t, and is not null.
  *   - Nothing that a call writes overlaps with anything else that it is given. What is only read may overlap.
- * Nothing is kept after a call, nothing is allocated, nothing is locked, and there is no state between calls: calls on
- * buffers of their own may run at the same time.
+ * Nothing is kept after a call, nothing is allocated and nothing is locked: there is no state between calls, and
+ * calls that write to buffers of their own may run at the same time.
  *
  * Each call answers the number of the refusal, 0 for none (enum currantplane_refusal), and tells its place.
  */
@@ -52,9 +52,9 @@ enum {
 /* what a pointer, a next or a successor holds besides the number of a cell or a node; a cell may be not in use */
 enum { CURRANTPLANE_UNUSED = 0xfd, CURRANTPLANE_NULL = 0xfe, CURRANTPLANE_UNDEFINED = 0xff };
 
-/* An S record: byte 1 is the op, 2 u, 3 w, 4 the first target, 5 the second target, the rest zero. A field that the op
- * does not use is zero: stop uses none; u, where a pointer u is named here; w likewise; the first target all others; the
- * second target TEST_NULL, TEST_SAME and CHOOSE. */
+/* An S record: byte 1 is the op, 2 u, 3 w, 4 the first target, 5 the second target, the rest zero. A field that
+ * the op does not use is zero. The pointers u and w are used where the table names them, the first target by all
+ * but STOP, the second by TEST_NULL, TEST_SAME and CHOOSE. */
 enum currantplane_op {
     CURRANTPLANE_STOP = 0,
     CURRANTPLANE_SET_NULL = 1,  /* u := null */
@@ -111,37 +111,40 @@ enum currantplane_refusal {
 /* Translates a routine into the automaton's locations and edges.
  *
  * input       the routine's records: 1 to 64 S, then 1 to 16 H
- * locations   the table of locations. Its places are its length / 32 rounded down, at most 1,024
- * edges       the table of edges. Its places are its length / 32 rounded down, at most 2,048
+ * locations   the table of locations; it has length / 32 places, rounded down, of which 1,024 are used at most
+ * edges       the table of edges; it has length / 32 places, rounded down, of which 2,048 are used at most
  * answer      the place of the refusal, the number of locations and the number of edges, in this order
  *
- * Accepted (0): every location that is reached stands in the table, as an L record at 32 times its number, and every
- * edge likewise as an E record; all bytes after the last record are zero. A routine is accepted exactly if its input
- * passes every check and its full listing fits both tables, and the records and counts do not depend on how long these
- * are. Refused (1 to 12): both tables are all zero and both counts are 0.
+ * Accepted (0): every location that is reached stands in the table, as an L record at 32 times its number, and
+ * every edge likewise, as an E record; all bytes after the last record are zero. A routine is accepted exactly if
+ * its input passes every check and its full listing fits both tables; records and counts do not depend on how long
+ * these are. Refused (1 to 12): both tables are all zero and both counts are 0.
  *
- * Every byte of both tables is written. Of `answer` as many numbers are written as it has, at most three; the rest of it
- * is left. */
-uint8_t currantplane_translate(const uint8_t *input, size_t input_length, uint8_t *locations, size_t locations_length,
-                               uint8_t *edges, size_t edges_length, size_t *answer, size_t answer_length);
+ * Every byte of both tables is written. Of `answer` as many numbers are written as it has, at most three; the rest
+ * of it is left. */
+uint8_t currantplane_translate(const uint8_t *input, size_t input_length,
+                               uint8_t *locations, size_t locations_length,
+                               uint8_t *edges, size_t edges_length,
+                               size_t *answer, size_t answer_length);
 
 /* The places of the three numbers in the answer of a translation. */
 enum { CURRANTPLANE_PLACE = 0, CURRANTPLANE_LOCATION_COUNT = 1, CURRANTPLANE_EDGE_COUNT = 2 };
 
 /* Where one record stands in two tables, so that it is read there and not copied.
  *
+ * locations, edges             the tables; what stands in them is not looked at, and they may be the same
  * location_count, edge_count   the counts in use
  * table                        which table is meant: 0 locations, 1 edges
  * number                       the number of the record
- * answer                       the place of the refusal, where the record begins in the table that is meant, and its
- *                              length, in this order
+ * answer                       the place of the refusal, where the record begins in the table that is meant, and
+ *                              its length, in this order
  *
- * Accepted (0): the record begins at 32 times its number and has 32 bytes. Refused (17): it begins at 0 and has none.
- * The bytes of the tables are not looked at, and the tables may be the same. Of `answer` as many numbers are written as
- * it has, at most three; nothing else is written. */
-uint8_t currantplane_record(const uint8_t *locations, size_t locations_length, const uint8_t *edges, size_t edges_length,
-                            size_t location_count, size_t edge_count, size_t table, size_t number, size_t *answer,
-                            size_t answer_length);
+ * Accepted (0): the record begins at 32 times its number and has 32 bytes. Refused (17): it begins at 0 and has
+ * none. Of `answer` as many numbers are written as it has, at most three; the rest of it is left. */
+uint8_t currantplane_record(const uint8_t *locations, size_t locations_length,
+                            const uint8_t *edges, size_t edges_length,
+                            size_t location_count, size_t edge_count, size_t table, size_t number,
+                            size_t *answer, size_t answer_length);
 
 /* Which table is meant, and the places of the numbers in the answer, after CURRANTPLANE_PLACE. */
 enum { CURRANTPLANE_LOCATIONS = 0, CURRANTPLANE_EDGES = 1 };
@@ -155,10 +158,13 @@ enum { CURRANTPLANE_BEGINS = 1, CURRANTPLANE_LENGTH = 2 };
  * counters   twelve counters, 0 past the shape's nodes
  * place      0, in every case
  *
- * Accepted (0): shape and counters as said. Refused (13, 14): zeros. Of `shape` and `counters` as many bytes and numbers
- * are written as they have, at most 32 and twelve; the rest of them is left. `place` is written. The heap is only read. */
-uint8_t currantplane_fold(const uint8_t *pointers, size_t pointers_length, const uint8_t *cells, size_t cells_length,
-                          uint8_t *shape, size_t shape_length, uint32_t *counters, size_t counters_length, size_t *place);
+ * Accepted (0): shape and counters as said. Refused (13, 14): zeros in their place. Of `shape` and `counters` as
+ * many bytes and numbers are written as they have, at most 32 and twelve; the rest of them is left. `place` is
+ * written. The heap is only read. */
+uint8_t currantplane_fold(const uint8_t *pointers, size_t pointers_length,
+                          const uint8_t *cells, size_t cells_length,
+                          uint8_t *shape, size_t shape_length,
+                          uint32_t *counters, size_t counters_length, size_t *place);
 
 /* Unfolds a shape with counters into a heap: cells from 0, node by node, head to tail.
  *
@@ -168,10 +174,12 @@ uint8_t currantplane_fold(const uint8_t *pointers, size_t pointers_length, const
  * cells      room for the heap, at most 240 bytes (else 13); its length is the number of cells of the heap
  * place      0, in every case
  *
- * Accepted (0): the pointers and every cell are written, the cells past the sum of the counters as 0xfd. Refused (13, 8,
- * 9, 15, looked at in this order): pointers and cells are left as they are. `place` is written. */
-uint8_t currantplane_unfold(const uint8_t *shape, size_t shape_length, const uint32_t *counters, size_t counters_length,
-                            uint8_t *pointers, size_t pointers_length, uint8_t *cells, size_t cells_length, size_t *place);
+ * Accepted (0): the pointers and every cell are written, the cells past the sum of the counters as 0xfd. Refused
+ * (13, 8, 9, 15, looked at in this order): pointers and cells are left as they are. `place` is written. */
+uint8_t currantplane_unfold(const uint8_t *shape, size_t shape_length,
+                            const uint32_t *counters, size_t counters_length,
+                            uint8_t *pointers, size_t pointers_length,
+                            uint8_t *cells, size_t cells_length, size_t *place);
 
 /* Carries out one statement on a heap.
  *
@@ -182,18 +190,26 @@ uint8_t currantplane_unfold(const uint8_t *shape, size_t shape_length, const uin
  * answer            fault, 1 for a stop (else 0), branch and next statement, in this order
  * place             0, in every case
  *
- * Accepted (0): the step goes on (fault 0, stop 0), and the heap is what it leaves; or it faults, or the statement is a
- * stop, and then branch and next statement are 0 and the heap is left. Refused (13, 14, 4, 5, 6, 7, 16, looked at in this
- * order): the answer is zeros and the heap is left. Of `answer` as many bytes are written as it has, at most four; the
- * rest of it is left. `place` is written. */
-uint8_t currantplane_step(uint8_t *pointers, size_t pointers_length, uint8_t *cells, size_t cells_length,
-                          const uint8_t *statement, size_t statement_length, uint8_t pick, size_t cell, uint8_t *answer,
-                          size_t answer_length, size_t *place);
+ * Accepted (0): the step goes on (fault 0, stop 0), and the heap is what it leaves; or it faults, or the statement
+ * is a stop, and then branch and next statement are 0 and the heap is left. Refused (13, 14, 4, 5, 6, 7, 16, looked
+ * at in this order): the answer is zeros and the heap is left. Of `answer` as many bytes are written as it has, at
+ * most four; the rest of it is left. `place` is written. */
+uint8_t currantplane_step(uint8_t *pointers, size_t pointers_length,
+                          uint8_t *cells, size_t cells_length,
+                          const uint8_t *statement, size_t statement_length, uint8_t pick, size_t cell,
+                          uint8_t *answer, size_t answer_length, size_t *place);
 
 /* The places of the four bytes in the answer of a step. */
 enum { CURRANTPLANE_FAULT = 0, CURRANTPLANE_STOPPED = 1, CURRANTPLANE_BRANCH = 2, CURRANTPLANE_NEXT = 3 };
 
-/* ---- reading records: each of these is given all 32 bytes of a record of the kind that is named */
+/* ---- reading records
+ *
+ * L and H records: byte 1 is the statement, 2 the fault, 3 the number of nodes k, 4 to 9 the pointers, 10 to 21 the
+ * successors, zero from k on, the rest zero; of a fault, 3 to 31 are zero. H has statement 0 and fault 0.
+ * E records: byte 1 is the branch and the second guard, 2 and 3 from, 4 and 5 to, 6 the first guard, 7 its node, then
+ * twelve updates of two bytes, zero for absent nodes and on an edge to a fault.
+ *
+ * Each of these is given all 32 bytes of a record of the kind that is named. */
 
 /* record `number` of a table; the caller knows that it is there */
 static inline const uint8_t *currantplane_at(const uint8_t *table, size_t number)
