@@ -20,9 +20,11 @@ struct measured {
     const uint8_t *statement;
     uint8_t shape[CURRANTPLANE_RECORD];
     uint32_t counters[CURRANTPLANE_MOST_NODES];
-    size_t depth[CALLS];
     size_t routines, locations;
 };
+
+/* one for each call, so that the deepest of all its calls is found at the end */
+static struct stack stacks[CALLS];
 
 static void call_translate(void *m)
 {
@@ -62,12 +64,6 @@ static void call_step(void *m)
                       CURRANTPLANE_RECORD, 1, free_cell(&c->heap), answer, sizeof answer, &place);
 }
 
-static void measure(struct measured *m, int which, void (*call)(void *))
-{
-    size_t depth = stack_depth(call, m);
-    if (depth > m->depth[which]) m->depth[which] = depth;
-}
-
 /* a heap of the location's shape, with segments of so many cells, is unfolded, folded and stepped */
 static void measure_location(struct measured *m, const uint8_t *location, uint32_t cells)
 {
@@ -76,15 +72,15 @@ static void measure_location(struct measured *m, const uint8_t *location, uint32
     m->shape[1] = 0;
     for (size_t i = 0; i < CURRANTPLANE_MOST_NODES; i++) m->counters[i] = i < currantplane_nodes(location) ? cells : 0;
     m->statement = currantplane_at(m->bench->input, currantplane_statement(location));
-    measure(m, UNFOLD, call_unfold);
-    measure(m, FOLD, call_fold);
-    measure(m, STEP, call_step);
+    call_on(&stacks[UNFOLD], call_unfold, m);
+    call_on(&stacks[FOLD], call_fold, m);
+    call_on(&stacks[STEP], call_step, m);
 }
 
 static void measure_routine(struct measured *m)
 {
-    measure(m, TRANSLATE, call_translate);
-    measure(m, RECORD, call_record);
+    call_on(&stacks[TRANSLATE], call_translate, m);
+    call_on(&stacks[RECORD], call_record, m);
     m->routines++;
     for (size_t i = 0; i < m->bench->answer[CURRANTPLANE_LOCATION_COUNT]; i++) {
         const uint8_t *location = currantplane_at(m->bench->locations, i);
@@ -98,15 +94,17 @@ static void measure_routine(struct measured *m)
 static void print_all(const struct measured *m)
 {
     int deepest = 0;
+    size_t depth[CALLS];
     const struct bench *b = m->bench;
+    for (int i = 0; i < CALLS; i++) depth[i] = stack_used(&stacks[i]);
     for (int i = 0; i < CALLS; i++)
-        if (m->depth[i] > m->depth[deepest]) deepest = i;
+        if (depth[i] > depth[deepest]) deepest = i;
     printf("code   %6d bytes: the library %d, the bench %d\n", LIBRARY_CODE + BENCH_CODE, LIBRARY_CODE, BENCH_CODE);
     printf("data   %6d bytes: the library %d, the bench %d, of which %zu for %d locations, %zu for %d edges\n",
            LIBRARY_DATA + BENCH_DATA, LIBRARY_DATA, BENCH_DATA, sizeof b->locations, BENCH_LOCATIONS,
            sizeof b->edges, BENCH_EDGES);
-    printf("stack  %6zu bytes in the deepest call, %s:", m->depth[deepest], names_of[deepest]);
-    for (int i = 0; i < CALLS; i++) printf(" %s %zu%s", names_of[i], m->depth[i], i + 1 < CALLS ? "," : "\n");
+    printf("stack  %6zu bytes in the deepest call, %s:", depth[deepest], names_of[deepest]);
+    for (int i = 0; i < CALLS; i++) printf(" %s %zu%s", names_of[i], depth[i], i + 1 < CALLS ? "," : "\n");
     printf("       measured over %zu routines and %zu locations\n", m->routines, m->locations);
 }
 

@@ -1,46 +1,45 @@
-#define _XOPEN_SOURCE 700
 #include "stack.h"
 
 #include <stdlib.h>
-#include <string.h>
 #include <ucontext.h>
 
-enum { ROOM = 32768, PAINT = 0xa5 };
+/* what a stack that is entered on another one is to do */
+static struct stack *entered;
+static void (*to_call)(void *);
+static void *to_give;
 
-static unsigned char room[ROOM];
-static ucontext_t before, inside;
-static void (*now_called)(void *);
-static void *now_given;
+/* never the same for long, so that what a call writes is not taken for paint */
+static unsigned char paint(size_t at)
+{
+    return (unsigned char)(0x5b + 7 * at);
+}
 
 static void enter(void)
 {
-    now_called(now_given);
+    entered->top = __builtin_frame_address(0);
+    to_call(to_give);
 }
 
-static void nothing(void *argument)
+void call_on(struct stack *stack, void (*call)(void *), void *argument)
 {
-    (void)argument;
+    static ucontext_t here, there;
+    if (!stack->top)
+        for (size_t at = 0; at < sizeof stack->room; at++) stack->room[at] = paint(at);
+    entered = stack;
+    to_call = call;
+    to_give = argument;
+    if (getcontext(&there) != 0) abort();
+    there.uc_stack.ss_sp = stack->room;
+    there.uc_stack.ss_size = sizeof stack->room;
+    there.uc_link = &here;
+    makecontext(&there, enter, 0);
+    if (swapcontext(&here, &there) != 0) abort();
 }
 
-/* the bytes written on the painted stack, what it takes to get there included */
-static size_t touched(void (*call)(void *), void *argument)
+size_t stack_used(const struct stack *stack)
 {
-    size_t clean = 0;
-    now_called = call;
-    now_given = argument;
-    memset(room, PAINT, ROOM);
-    if (getcontext(&inside) != 0) abort();
-    inside.uc_stack.ss_sp = room;
-    inside.uc_stack.ss_size = ROOM;
-    inside.uc_link = &before;
-    makecontext(&inside, enter, 0);
-    if (swapcontext(&before, &inside) != 0) abort();
-    while (clean < ROOM && room[clean] == PAINT) clean++;
-    return ROOM - clean;
-}
-
-size_t stack_depth(void (*call)(void *), void *argument)
-{
-    size_t idle = touched(nothing, NULL), all = touched(call, argument);
-    return all > idle ? all - idle : 0;
+    size_t at = 0;
+    if (!stack->top) return 0;
+    while (at < sizeof stack->room && stack->room[at] == paint(at)) at++;
+    return (size_t)(stack->top - (stack->room + at));
 }

@@ -1,11 +1,19 @@
-/* How deep a call goes. */
+/* How deep calls go: they are made on a stack of their own that was painted before. */
 #ifndef STACK_H
 #define STACK_H
 
 #include <stddef.h>
 
-/* Makes a call on a stack of its own that is painted before, and gives the bytes down to the deepest one that the call
- * wrote, its arguments and return address included. */
-size_t stack_depth(void (*call)(void *), void *argument);
+/* zeros before its first call */
+struct stack {
+    const unsigned char *top;
+    unsigned char room[32768];
+};
+
+/* Makes a call on this stack. */
+void call_on(struct stack *stack, void (*call)(void *), void *argument);
+
+/* The bytes down to the deepest one that a call on it wrote, with the call's arguments and return address. */
+size_t stack_used(const struct stack *stack);
 
 #endif

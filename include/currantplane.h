@@ -9,9 +9,10 @@
  *   - A pointer without a length (`place`) points to one size_t, and is not null.
  *   - Nothing that a call writes overlaps with anything else that it is given. What is only read may overlap.
  * Nothing is kept after a call, nothing is allocated and nothing is locked: there is no state between calls, and
- * calls that write to buffers of their own may run at the same time.
+ * calls that write to buffers of their own may run at the same time. No call was seen to use 1 KB of stack.
  *
- * Each call answers the number of the refusal, 0 for none (enum currantplane_refusal), and tells its place.
+ * Each call answers the number of the refusal, 0 for none (enum currantplane_refusal), and tells its place, 0 where
+ * nothing is refused.
  */
 #ifndef CURRANTPLANE_H
 #define CURRANTPLANE_H
@@ -49,7 +50,8 @@ enum {
     CURRANTPLANE_RECORD_E = 0x45  /* edge */
 };
 
-/* what a pointer, a next or a successor holds besides the number of a cell or a node; a cell may be not in use */
+/* what a pointer, a next or a successor holds besides the number of a cell or a node; UNUSED is for a cell alone, one
+ * that is not in use */
 enum { CURRANTPLANE_UNUSED = 0xfd, CURRANTPLANE_NULL = 0xfe, CURRANTPLANE_UNDEFINED = 0xff };
 
 /* An S record: byte 1 is the op, 2 u, 3 w, 4 the first target, 5 the second target, the rest zero. A field that
@@ -88,22 +90,23 @@ enum currantplane_refusal {
     CURRANTPLANE_BAD_STATEMENTS = 2, /* not 1 to 64 S */
     CURRANTPLANE_BAD_SHAPES = 3,     /* not 1 to 16 H */
     /* translate; the place is the record's number from 0. step (4 to 7) and unfold (8, 9): the place is 0 */
-    CURRANTPLANE_BAD_KIND = 4,       /* a record that is neither S nor H, or an S after an H; in a step, no S record */
+    CURRANTPLANE_BAD_KIND = 4,       /* a record that is neither S nor H, or an S after an H; in a step, no S */
     CURRANTPLANE_BAD_OP = 5,         /* op above 12 */
     CURRANTPLANE_BAD_FIELD = 6,      /* a used pointer above 5, or an unused byte not zero */
     CURRANTPLANE_BAD_TARGET = 7,     /* a used target is no statement; in a step, not below 64 */
     CURRANTPLANE_BAD_LAYOUT = 8,     /* an H record breaks the layout */
     CURRANTPLANE_BAD_SHAPE = 9,      /* a node is unreachable or not core, or numbered otherwise */
     CURRANTPLANE_REPEATED = 10,      /* equal to an earlier H */
-    /* translate; the place is the number of the location being explored, or of the starting shape without a place */
+    /* translate; the place is the number of the location being explored, or of the starting shape without one */
     CURRANTPLANE_NO_LOCATION = 11,   /* no place for a new location */
     CURRANTPLANE_NO_EDGE = 12,       /* no place for an edge */
     /* fold, unfold, step, record; the place is 0 */
-    CURRANTPLANE_BAD_HEAP = 13,      /* pointers not six bytes, over 240 cells, or a value that names no cell in use */
+    CURRANTPLANE_BAD_HEAP = 13,      /* pointers not six bytes, or over 240 cells; in fold and step, also a value that
+                                      * names no cell in use */
     CURRANTPLANE_LOST_CELL = 14,     /* a used cell is unreachable */
     CURRANTPLANE_BAD_COUNTERS = 15,  /* not twelve, one of 0 below k or not 0 past it, or a sum above the cells */
     CURRANTPLANE_BAD_ENTRY = 16,     /* a pick above 1 at choose; at new, a cell in use or past the end */
-    CURRANTPLANE_NO_RECORD = 17      /* which table above 1, a count above its table's places, or no such record */
+    CURRANTPLANE_NO_RECORD = 17      /* `table` above 1, a count above its table's places, or no such record */
 };
 
 /* ---- calls */
@@ -118,7 +121,9 @@ enum currantplane_refusal {
  * Accepted (0): every location that is reached stands in the table, as an L record at 32 times its number, and
  * every edge likewise, as an E record; all bytes after the last record are zero. A routine is accepted exactly if
  * its input passes every check and its full listing fits both tables; records and counts do not depend on how long
- * these are. Refused (1 to 12): both tables are all zero and both counts are 0.
+ * these are. Refused (1 to 12): both tables are all zero and both counts are 0. The whole input is looked at first (1,
+ * 4, 2, 3), then each record in order, the lowest number first (5 to 10), then the places: the starting shapes' (11),
+ * and for each edge in the order found its target's (11) and its own (12).
  *
  * Every byte of both tables is written. Of `answer` as many numbers are written as it has, at most three; the rest
  * of it is left. */
@@ -190,10 +195,10 @@ uint8_t currantplane_unfold(const uint8_t *shape, size_t shape_length,
  * answer            fault, 1 for a stop (else 0), branch and next statement, in this order
  * place             0, in every case
  *
- * Accepted (0): the step goes on (fault 0, stop 0), and the heap is what it leaves; or it faults, or the statement
- * is a stop, and then branch and next statement are 0 and the heap is left. Refused (13, 14, 4, 5, 6, 7, 16, looked
- * at in this order): the answer is zeros and the heap is left. Of `answer` as many bytes are written as it has, at
- * most four; the rest of it is left. `place` is written. */
+ * Accepted (0): the step goes on (fault 0, stop 0), and the heap is changed by it; or it faults, or the statement is a
+ * stop, and then branch and next statement are 0 and the heap stays as it was. Refused (13, 14, 4, 5, 6, 7, 16,
+ * looked at in this order): the answer is zeros and the heap stays as it was. Of `answer` as many bytes are written as
+ * it has, at most four; the rest of it is left. `place` is written. */
 uint8_t currantplane_step(uint8_t *pointers, size_t pointers_length,
                           uint8_t *cells, size_t cells_length,
                           const uint8_t *statement, size_t statement_length, uint8_t pick, size_t cell,
@@ -228,7 +233,8 @@ static inline uint8_t currantplane_statement(const uint8_t *location) { return l
 static inline uint8_t currantplane_fault(const uint8_t *location) { return location[2]; }
 static inline uint8_t currantplane_nodes(const uint8_t *location) { return location[3]; }
 
-/* L, H: what pointer 0 to 5 holds, and where the segment of a node below k leads: a node, 0xfe or 0xff */
+/* L, H, but not of a fault: what pointer 0 to 5 holds, and where the segment of a node below k leads: a node, 0xfe or
+ * 0xff */
 static inline uint8_t currantplane_pointer(const uint8_t *location, size_t pointer) { return location[4 + pointer]; }
 static inline uint8_t currantplane_successor(const uint8_t *location, size_t node) { return location[10 + node]; }
 
@@ -237,7 +243,8 @@ static inline uint8_t currantplane_branch(const uint8_t *edge) { return (uint8_t
 static inline uint16_t currantplane_from(const uint8_t *edge) { return currantplane_word(edge + 2); }
 static inline uint16_t currantplane_to(const uint8_t *edge) { return currantplane_word(edge + 4); }
 
-/* E: guard 0 or 1 and the node whose counter it asks about. The edge is enabled when both hold. */
+/* E: the first or the second guard, and the node whose counter it asks about, 0 where there is no guard. The edge is
+ * enabled when both hold. */
 enum { CURRANTPLANE_NO_GUARD = 0, CURRANTPLANE_IS_ONE = 1, CURRANTPLANE_IS_MORE = 2 };
 static inline uint8_t currantplane_guard(const uint8_t *edge, int second)
 {
@@ -248,7 +255,8 @@ static inline uint8_t currantplane_guarded(const uint8_t *edge, int second)
     return second ? (uint8_t)(edge[1] >> 3 & 15) : edge[7];
 }
 
-/* E: the update of new node 0 to 11. The new counter is the constant and the old counters that are added. */
+/* E, but not to a fault: the update of a node below the target's k. Its new counter is the constant plus the old
+ * counters that are added. */
 static inline uint16_t currantplane_update(const uint8_t *edge, size_t node)
 {
     return currantplane_word(edge + 8 + 2 * node);
