@@ -11,8 +11,9 @@
 //!   R  lengths of both tables, both counts, which table, number; where the record begins, its length
 //!   Z  the end: how many trials there were
 
+use native::damage::{drawn_routine, many_nodes, spoil_shape};
 use native::draw::{damage_record, damaged_image, image, statement, Draw};
-use native::draw::{relinking_routine, routine, testing_routine};
+use native::rings::{exact, fork, full, plain_ring, ring, ring_at_border, FULL};
 use reference::{Refusal, Stepped, Translated};
 use std::collections::HashSet;
 use std::io::Write;
@@ -25,11 +26,8 @@ const OTHER: usize = 2_500;
 const HEAPS: usize = 10_200;
 const FEW: usize = 2_600;
 
-/// The bytes of the bench's tables, and of tables that every accepted listing fits.
+/// The bytes of the bench's tables.
 const BENCH: [usize; 2] = [4_096, 8_192];
-const FULL: [usize; 2] = [32_768, 65_536];
-
-type Record = [u8; 32];
 
 #[derive(Default)]
 struct Stream {
@@ -63,11 +61,6 @@ impl Stream {
     }
 }
 
-/// The answer of the second translator with full tables.
-fn full(input: &[u8]) -> Translated {
-    reference::translate(input, &mut vec![0; FULL[0]], &mut vec![0; FULL[1]])
-}
-
 /// The records in use; all bytes after them are zero.
 fn in_use(mut table: Vec<u8>, count: usize) -> Vec<u8> {
     let rest = table.split_off(32 * count);
@@ -86,201 +79,6 @@ fn translation(out: &mut Stream, input: &[u8], lengths: [usize; 2], full: Transl
     out.block(&in_use(edges, told.edges));
     out.numbers(&[full.refusal.into(), full.place, full.locations, full.edges]);
     told
-}
-
-/// A shape with as many nodes as there can be, or nearly: six cells that are held by pointers come together two by two,
-/// and the last one leads to itself, to null or nowhere.
-fn many_nodes(d: &mut Draw) -> Record {
-    let mut cells = vec![0; 6];
-    let mut roots: Vec<usize> = (0..6).collect();
-    while roots.len() > 1 + d.below(2) {
-        for _ in 0..2 {
-            let root = roots.swap_remove(d.below(roots.len()));
-            cells[root] = cells.len() as u8;
-        }
-        roots.push(cells.len());
-        cells.push(0xfe);
-    }
-    let end = [0xfe, 0xff, cells.len() as u8][d.below(3)];
-    cells.push(if usize::from(end) == cells.len() { end } else { 0xfd });
-    roots.iter().for_each(|&root| cells[root] = end);
-    reference::fold(&[0, 1, 2, 3, 4, 5], &cells).record
-}
-
-/// Small and large routines of three kinds, one of three damaged.
-fn drawn_routine(d: &mut Draw, i: usize) -> Vec<u8> {
-    // more large ones than the routines' own numbering gives
-    let size = [0, 1, 2, 5, 5][i % 5];
-    let mut input = [routine, relinking_routine, testing_routine][i % 3](d, size);
-    if d.one_in(6) {
-        let shape = many_nodes(d);
-        let last = input.len() - 32;
-        input[last..].copy_from_slice(&shape);
-    }
-    match d.below(9) {
-        0 => damage_anywhere(d, &mut input),
-        1 | 2 => damage_towards(d, &mut input, 1 + i % 10),
-        _ => {}
-    }
-    input
-}
-
-/// A byte changed, an end cut off, a record or statements added.
-fn damage_anywhere(d: &mut Draw, input: &mut Vec<u8>) {
-    match d.below(4) {
-        0 => input.truncate(d.below(input.len() + 1)),
-        1 => input.extend_from_within(..32),
-        2 => (0..d.below(66)).for_each(|_| drop(input.splice(0..0, input[..32].to_vec()))),
-        _ => {
-            let at = d.below(input.len());
-            input[at] = d.number() as u8;
-        }
-    }
-}
-
-/// Damage that most often gives this refusal.
-fn damage_towards(d: &mut Draw, input: &mut Vec<u8>, refusal: usize) {
-    let statements = input.chunks(32).filter(|record| record[0] == 0x53).count();
-    let shapes = input.len() / 32 - statements;
-    let (s, h) = (32 * d.below(statements), 32 * (statements + d.below(shapes)));
-    let any = d.number() as u8;
-    match refusal {
-        1 if d.one_in(4) => input.clear(),
-        1 => input.truncate(input.len() - 1 - d.below(31)),
-        2 if d.one_in(3) => drop(input.drain(..32 * statements)),
-        2 => (statements..65).for_each(|_| drop(input.splice(0..0, input[..32].to_vec()))),
-        3 if d.one_in(3) => input.truncate(32 * statements),
-        3 => (shapes..17).for_each(|_| input.extend_from_within(h..h + 32)),
-        4 if d.one_in(2) => input.extend_from_within(s..s + 32),
-        4 => input[32 * d.below(statements + shapes)] = any,
-        5 => input[s + 1] = any.max(13),
-        6 if d.one_in(2) => input[s + 2 + d.below(2)] = any.max(6),
-        6 => input[s + 6 + d.below(26)] = any.max(1),
-        7 => input[s + 4 + d.below(2)] = any.max(statements as u8),
-        8 => input[h + [1, 2, 3, 4, 10, 22, 31][d.below(7)]] = any,
-        9 => spoil_shape(d, &mut input[h..h + 32]),
-        _ => input.extend_from_within(h..h + 32),
-    }
-}
-
-/// Two nodes of a shape swapped, a node more that nothing reaches, or a pointer that lets go.
-fn spoil_shape(d: &mut Draw, record: &mut [u8]) {
-    let nodes = usize::from(record[3]);
-    match d.below(3) {
-        0 if nodes > 1 => {
-            record.swap(10, 11);
-            let swapped = |value: u8| if value < 2 { 1 - value } else { value };
-            record[4..10 + nodes].iter_mut().for_each(|value| *value = swapped(*value));
-        }
-        1 if nodes > 0 => record[4 + d.below(6)] = 0xfe,
-        _ if nodes < 12 => {
-            record[10 + nodes] = 0xfe;
-            record[3] += 1;
-        }
-        _ => {}
-    }
-}
-
-fn s_record(op: u8, u: u8, w: u8, first: usize, second: usize) -> Record {
-    let mut record = [0; 32];
-    record[..6].copy_from_slice(&[0x53, op, u, w, first as u8, second as u8]);
-    record
-}
-
-/// Statements that lead around, with the shapes that they start from.
-struct Ring {
-    statements: Vec<Record>,
-    shapes: Vec<Record>,
-}
-
-/// Two cells held by pointers 0 and 1, pointer 2 beside pointer 0, the others null or undefined.
-fn ring_shape(d: &mut Draw) -> Record {
-    let cells = [[0xfe, 0xfe], [0xff, 0xfe], [1, 0xfe], [0xfe, 0], [0xff, 0xff], [0, 1]][d.below(6)];
-    let mut pointers = [0, 1, 0, 0xfe, 0xfe, 0xfe];
-    pointers[3..].iter_mut().for_each(|pointer| *pointer = 0xfe + d.below(2) as u8);
-    reference::fold(&pointers, &cells).record
-}
-
-/// Chooses and relinks for the most part: so many statements times shapes as the size says. Statement 0 is not of the
-/// ring.
-fn ring(d: &mut Draw, size: usize) -> Ring {
-    let drawn: HashSet<Record> = (0..1 + d.below(12)).map(|_| ring_shape(d)).collect();
-    let mut shapes: Vec<Record> = drawn.into_iter().collect();
-    shapes.sort();
-    let n = (size / shapes.len()).clamp(2, 56);
-    let relinks = d.below(8);
-    let statement = |at: usize, d: &mut Draw| {
-        let (next, other) = (1 + (at + 1) % n, 1 + d.below(n));
-        let (mark, pair) = (3 + d.below(3) as u8, d.below(2) as u8);
-        match d.below(12) {
-            _ if d.below(8) < relinks => s_record(12, pair, 1 - pair, next, 0),
-            0 => s_record(11, 0, 0, next, 0),
-            1 => s_record(1, mark, 0, next, 0),
-            2 => s_record(8, mark, 0, next, other),
-            3 => s_record(4, 0, 0, next, 0),
-            _ => s_record(10, 0, 0, next, other),
-        }
-    };
-    Ring { statements: (0..n).map(|at| statement(at, d)).collect(), shapes }
-}
-
-/// A ring whose listing is about as large as the bench's tables.
-fn ring_at_border(d: &mut Draw) -> Ring {
-    let size = 30 + d.below(60);
-    ring(d, size)
-}
-
-/// Statement 0 sends the ring's shapes into the ring, and one more shape along chooses and skips to a stop. So each
-/// choose is one location and two edges more, and each skip one location and one edge.
-fn fork(ring: &Ring, chooses: usize, skips: usize) -> Vec<u8> {
-    let chain = 1 + ring.statements.len();
-    let mut statements = vec![s_record(8, 2, 0, chain, 1)];
-    statements.extend_from_slice(&ring.statements);
-    for at in chain..chain + chooses {
-        statements.push(s_record(10, 0, 0, at + 1, at + 1));
-    }
-    for at in chain + chooses..chain + chooses + skips {
-        statements.push(s_record(11, 0, 0, at + 1, 0));
-    }
-    statements.push(s_record(0, 0, 0, 0, 0));
-    let alone = reference::fold(&[0xff, 0xff, 0xfe, 0xff, 0xff, 0xff], &[]).record;
-    [&statements[..], &ring.shapes[..], &[alone]].concat().concat()
-}
-
-/// A routine whose full listing has numbers of locations and edges as wanted.
-fn exact(d: &mut Draw, wanted: fn(usize, usize) -> bool) -> (Vec<u8>, Translated) {
-    loop {
-        let ring = ring_at_border(d);
-        let (base, room) = (full(&fork(&ring, 0, 0)), 62 - ring.statements.len());
-        let chains = (0..=room).flat_map(|chooses| (0..=room - chooses).map(move |skips| (chooses, skips)));
-        let fits = |&(c, s): &(usize, usize)| wanted(base.locations + c + s, base.edges + 2 * c + s);
-        let found: Vec<_> = chains.filter(fits).collect();
-        if base.refusal == 0 && !found.is_empty() {
-            let (chooses, skips) = found[d.below(found.len())];
-            let input = fork(&ring, chooses, skips);
-            let listed = full(&input);
-            assert!(listed.refusal == 0 && wanted(listed.locations, listed.edges), "{listed:?}");
-            return (input, listed);
-        }
-    }
-}
-
-/// n statements in a ring over so many shapes without nodes; the first ones choose, the others skip.
-fn plain_ring(d: &mut Draw, n: usize, shapes: usize, chooses: usize) -> (Vec<u8>, Translated) {
-    let first = d.below(64);
-    let mut input = Vec::new();
-    for at in 0..n {
-        let op = if at < chooses { 10 } else { 11 };
-        let second = if at < chooses { d.below(n) } else { 0 };
-        input.extend_from_slice(&s_record(op, 0, 0, (at + 1) % n, second));
-    }
-    for shape in first..first + shapes {
-        let pointers: Vec<u8> = (0..6).map(|bit| 0xfe + (shape >> bit & 1) as u8).collect();
-        input.extend_from_slice(&reference::fold(&pointers, &[]).record);
-    }
-    let listed = full(&input);
-    assert_eq!((listed.locations, listed.edges), (n * shapes, (n + chooses) * shapes));
-    (input, listed)
 }
 
 /// Listings that just fit the bench's tables, and that just do not: which refusal must come.
