@@ -59,12 +59,14 @@ uint8_t translate(struct bench *b)
 /* each record of a table that is in use, read where it stands */
 static void print_table(const struct bench *b, size_t table)
 {
-    size_t locations = b->answer[CURRANTPLANE_LOCATION_COUNT], edges = b->answer[CURRANTPLANE_EDGE_COUNT];
+    size_t counts[] = {b->answer[CURRANTPLANE_LOCATION_COUNT], b->answer[CURRANTPLANE_EDGE_COUNT]};
     const uint8_t *meant = table == CURRANTPLANE_LOCATIONS ? b->locations : b->edges;
-    size_t part[CURRANTPLANE_ANSWER];
-    for (size_t i = 0; currantplane_record(b->locations, sizeof b->locations, b->edges, sizeof b->edges, locations, edges,
-                                           table, i, part, CURRANTPLANE_ANSWER) == CURRANTPLANE_ACCEPTED; i++)
+    for (size_t i = 0; i < counts[table]; i++) {
+        size_t part[CURRANTPLANE_ANSWER];
+        currantplane_record(b->locations, sizeof b->locations, b->edges, sizeof b->edges, counts[0], counts[1], table,
+                            i, part, CURRANTPLANE_ANSWER);
         print_digits(meant + part[CURRANTPLANE_BEGINS], part[CURRANTPLANE_LENGTH], 0);
+    }
 }
 
 static int translate_command(int count, char **words)
@@ -122,27 +124,29 @@ static int fold_command(int count, char **words)
     return print_fold(&heap);
 }
 
-/* Numbers with commas between; gives how many, or SIZE_MAX. */
-static size_t read_numbers(char *text, size_t most, size_t *numbers, size_t room)
+/* Twelve counters from a list of at most as many, zeros after it. */
+static int read_counters(const char *list, uint32_t *counters)
 {
-    size_t count = 0;
-    for (char *word = strtok(text, ","); word; word = strtok(NULL, ","))
-        if (count == room || !read_number(word, most, &numbers[count++])) return SIZE_MAX;
-    return count;
+    size_t number;
+    for (size_t i = 0; i < CURRANTPLANE_MOST_NODES; i++) {
+        int next = next_number(&list, UINT32_MAX, &number);
+        if (next < 0) return 0;
+        counters[i] = next ? (uint32_t)number : 0;
+    }
+    return *list == 0;
 }
 
 static int unfold_command(int count, char **words)
 {
     struct heap heap = {{0}, {0}, CURRANTPLANE_POINTERS, 0};
     uint8_t shape[CURRANTPLANE_RECORD];
-    size_t numbers[CURRANTPLANE_MOST_NODES], place;
-    uint32_t counters[CURRANTPLANE_MOST_NODES] = {0};
+    size_t place;
+    uint32_t counters[CURRANTPLANE_MOST_NODES];
     if (count != 3) return bad_use("unfold takes a shape, counters and a number of cells");
     size_t length = read_digits(words[0], shape, sizeof shape);
-    size_t given = read_numbers(words[1], UINT32_MAX, numbers, CURRANTPLANE_MOST_NODES);
-    if (length == SIZE_MAX || given == SIZE_MAX || !read_number(words[2], sizeof heap.cells, &heap.cell_count))
+    if (length == SIZE_MAX || !read_counters(words[1], counters)
+        || !read_number(words[2], sizeof heap.cells, &heap.cell_count))
         return bad_use("unfold takes a shape of 32 bytes, at most twelve counters, and at most 240 cells");
-    for (size_t i = 0; i < given; i++) counters[i] = (uint32_t)numbers[i];
     uint8_t refusal = currantplane_unfold(shape, length, counters, CURRANTPLANE_MOST_NODES, heap.pointers,
                                           heap.pointer_count, heap.cells, heap.cell_count, &place);
     if (refusal != CURRANTPLANE_ACCEPTED) return print_refusal(refusal, place);
@@ -183,17 +187,15 @@ static int step_command(int count, char **words)
 }
 
 /* The routine's statements one after the other, a pick at each choose. */
-static int run_routine(struct heap *heap, const size_t *picks, size_t pick_count)
+static int run_routine(struct heap *heap, const char *picks)
 {
-    size_t at = 0, used = 0, place;
+    size_t at = 0, place;
     for (int steps = 0; steps < MOST_STEPS; steps++) {
         const uint8_t *statement = currantplane_at(bench.input, at);
         uint8_t answer[CURRANTPLANE_STEP_ANSWER];
         size_t pick = 0;
-        if (statement[1] == CURRANTPLANE_CHOOSE) {
-            if (used == pick_count) return puts("no pick is left") < 0;
-            pick = picks[used++];
-        }
+        if (statement[1] == CURRANTPLANE_CHOOSE && next_number(&picks, UINT8_MAX, &pick) != 1)
+            return puts("no pick is left") < 0;
         printf("statement %zu: ", at);
         uint8_t refusal = currantplane_step(heap->pointers, heap->pointer_count, heap->cells, heap->cell_count, statement,
                                             CURRANTPLANE_RECORD, (uint8_t)pick, free_cell(heap), answer,
@@ -210,16 +212,15 @@ static int run_routine(struct heap *heap, const size_t *picks, size_t pick_count
 static int run_command(int count, char **words)
 {
     struct heap heap;
-    size_t picks[MOST_STEPS], pick_count = 0;
+    const char *picks = count == 4 ? words[3] : "";
     if (count < 3 || count > 4 || !read_heap(words + 1, &heap)) return bad_use("run takes a file, a heap and picks");
-    if (count == 4) pick_count = read_numbers(words[3], UINT8_MAX, picks, MOST_STEPS);
-    if (pick_count == SIZE_MAX) return bad_use("picks are numbers below 256 with commas between");
+    if (!is_list(picks, UINT8_MAX)) return bad_use("picks are numbers below 256 with commas between");
     if (!read_routine(&bench, words[0])) return bad_use("the routine cannot be read");
     /* only a routine that passes the checks has a statement at every target */
     uint8_t refusal = translate(&bench);
     if (refusal != CURRANTPLANE_ACCEPTED && refusal < CURRANTPLANE_NO_LOCATION)
         return print_refusal(refusal, bench.answer[CURRANTPLANE_PLACE]);
-    return run_routine(&heap, picks, pick_count);
+    return run_routine(&heap, picks);
 }
 
 static int size_command(int count, char **words)

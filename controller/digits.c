@@ -24,18 +24,36 @@ size_t read_digits(const char *text, uint8_t *bytes, size_t most)
     return length / 2;
 }
 
-int read_number(const char *text, size_t most, size_t *number)
+int next_number(const char **list, size_t most, size_t *number)
 {
+    const char *at = *list;
     size_t read = 0;
-    if (*text == 0) return 0;
-    for (; *text; text++) {
-        if (*text < '0' || *text > '9') return 0;
-        size_t value = (size_t)(*text - '0');
-        if (value > most || read > (most - value) / 10) return 0;
+    if (*at == 0) return 0;
+    if (*at < '0' || *at > '9') return -1;
+    for (; *at >= '0' && *at <= '9'; at++) {
+        size_t value = (size_t)(*at - '0');
+        if (value > most || read > (most - value) / 10) return -1;
         read = 10 * read + value;
     }
+    if (*at == ',' && at[1] != 0) at++;
+    else if (*at != 0) return -1;
+    *list = at;
     *number = read;
     return 1;
+}
+
+int read_number(const char *text, size_t most, size_t *number)
+{
+    return next_number(&text, most, number) == 1 && *text == 0;
+}
+
+int is_list(const char *text, size_t most)
+{
+    size_t number;
+    int next;
+    do next = next_number(&text, most, &number);
+    while (next == 1);
+    return next == 0;
 }
 
 void print_digits(const uint8_t *bytes, size_t length, int dash)

@@ -9,8 +9,13 @@
  * more than `most`. */
 size_t read_digits(const char *text, uint8_t *bytes, size_t most);
 
-/* Reads a number in base 10 that is at most `most`. Gives whether the text is one. */
+/* Reads the next number of a list with commas between, in base 10 and at most `most`, and moves on. Gives 1, 0 at the end
+ * of the list, and -1 where there is no such number. */
+int next_number(const char **list, size_t most, size_t *number);
+
+/* Gives whether the text is one such number; whether it is a list of them. */
 int read_number(const char *text, size_t most, size_t *number);
+int is_list(const char *text, size_t most);
 
 /* Prints bytes as lower-case hex and ends the line; no bytes are `-` where `dash` is set. */
 void print_digits(const uint8_t *bytes, size_t length, int dash);
