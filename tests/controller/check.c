@@ -10,7 +10,7 @@
 #include <stdlib.h>
 #include <string.h>
 
-enum { REPORTS = 10, MOST_STACK = 2048, FIELDS = 32 };
+enum { REPORTS = 10, MOST_STACK = 1024, FIELDS = 32 };
 
 static struct tally {
     const char *name;
