@@ -96,7 +96,6 @@ refused-below : (r : Routine) (t : Listing) (i : ℕ) → IsFull r t → i < len
     → i < length (t .locs)
 refused-below r t i f h =
     let n = length (t .locs) in
-    let E = explored (r .stmts) (r .starts) in
     bool-case (ltb i n) (λ q. ltb-true i n q)
     (λ q. let le = ltb-false i n q in
     let l = ap (λ (w : Listing). length (w .locs)) f in
