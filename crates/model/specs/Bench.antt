@@ -91,11 +91,11 @@ pub record EqualsFull (a b : ℕ) (s : List ℕ) : Type 0 where
   pub locationBytes : translate s a b .tables .locBytes ≡ cutTo a (translateFull s .tables .locBytes)
   pub edgeBytes : translate s a b .tables .edgeBytes ≡ cutTo b (translateFull s .tables .edgeBytes)
 
--- "A failed check gives the full translator's refusal"; and 1 to 10 come from a failed check alone
+-- "A failed check gives the full translator's refusal": exactly a failed check gives 1 to 10, here and there
 abbrev pub FailsAsFull : ℕ → ℕ → List ℕ → Type 0
 FailsAsFull a b s = (x : Refusal)
-    → (check s ≡ bad x → (translate s a b .verdict ≡ isRefused x) × (translateFull s .verdict ≡ isRefused x))
-    × (x .number ≤ 10 → (translate s a b .verdict ≡ isRefused x) ↔ (translateFull s .verdict ≡ isRefused x))
+    → ((check s ≡ bad x) ↔ ((translate s a b .verdict ≡ isRefused x) × (x .number ≤ 10)))
+    × ((check s ≡ bad x) ↔ ((translateFull s .verdict ≡ isRefused x) × (x .number ≤ 10)))
 
 -- "Where the full listing doesn't fit, the bench gets 11 or 12 by the same rule, applied to its own places": told from
 -- the full listing, and from the full translator's bytes where it has one

@@ -2,7 +2,7 @@
 -- the input, and 11 and 12 told from the full translator's bytes.
 use Prim.Native.Nat.{_-_, _≤_, ℕ}
 use mathlib.Core.Path.{_∙_, _≡_, ap, ap₂, refl, subst, sym}
-use mathlib.Core.Logic.{_⊎_, inl, inr, ⊎-elim}
+use mathlib.Core.Logic.{_↔_, _⊎_, inl, inr, ⊎-elim}
 use mathlib.Core.Bool.{false}
 use mathlib.Core.List.{List, _++_, append-nil, map, map-map}
 use native.Mathlib.Omega.{arith}
@@ -26,6 +26,7 @@ use Rattle.model.proofs.records.Bytes.{table-cut}
 use Rattle.model.proofs.records.Checked.{bad-good, check-good, good-inj}
 use Rattle.model.proofs.records.Checks.{not-both, refused-inj}
 use Rattle.model.proofs.records.EdgeBack.{edge-from, edge-to}
+use Rattle.model.proofs.records.Refusals.{bad-number, refused-input}
 
 -- ---- accepted
 
@@ -163,20 +164,19 @@ refused-cases s a b x z = by-case (translate-cases s a b)
     )
     by-case (inr (inr (r, t, e, p, q))) = not-both (translate s a b .verdict) x (ap (λ (o : Outcome). o .verdict) q) z
 
-low-failed : (s : List ℕ) (a b : ℕ) (x : Refusal) → x .number ≤ 10 → translate s a b .verdict ≡ isRefused x
-    → check s ≡ bad x
-low-failed s a b x h z = ⊎-elim (λ e. e)
-    (λ k. absurd (⊎-elim (λ (n : x .number ≡ 11). omega arith) (λ (n : x .number ≡ 12). omega arith) (k .1)))
-    (refused-cases s a b x z)
+-- exactly a failed check gives 1 to 10
+failed-low : (s : List ℕ) (a b : ℕ) (x : Refusal)
+    → (check s ≡ bad x) ↔ ((translate s a b .verdict ≡ isRefused x) × (x .number ≤ 10))
+failed-low s a b x = (
+  (λ e. (bad-translate s a b x e, bad-number s x (refused-input s x e) .1)),
+  λ k. let h = k .1 in
+      ⊎-elim (λ e. e)
+      (λ m. absurd (⊎-elim (λ (n : x .number ≡ 11). omega arith) (λ (n : x .number ≡ 12). omega arith) (m .1)))
+      (refused-cases s a b x (k .0)),
+)
 
 pub fails-as-full : (s : List ℕ) (a b : ℕ) → FailsAsFull a b s
-fails-as-full s a b x = (
-  (λ e. (bad-translate s a b x e, bad-translate s 32768 65536 x e)),
-  λ h. (
-    (λ z. bad-translate s 32768 65536 x (low-failed s a b x h z)),
-    λ z. bad-translate s a b x (low-failed s 32768 65536 x h z),
-  ),
-)
+fails-as-full s a b x = (failed-low s a b x, failed-low s 32768 65536 x)
 
 -- ---- the edges of the full tables
 
