@@ -1,4 +1,4 @@
-//! The proved library, called from Rust. Nothing checks these declarations against the Rattle source, so they are few and plain:
+//! The proved library, called from Rust. Only `tests/declarations` compares these declarations with the source, so they are few and plain:
 //! a slice passes as a pointer and a length, a lent number as a pointer.
 //!
 //! No two things that are lent to one call may overlap where one of them is written: no lent slice that a call writes may share a

@@ -2,6 +2,7 @@
 
 use crate::arguments::{wrong, Arguments};
 use crate::automaton::{check, tables, Automaton, Places, Refusal, ALL_PLACES, MOST_EDGES, MOST_LOCATIONS};
+use crate::bench;
 use crate::graph;
 use crate::help;
 use crate::listing::Listing;
@@ -92,18 +93,19 @@ fn disassemble(words: &[String]) -> Result<Done, Failure> {
 }
 
 fn translate(words: &[String], screen: Screen) -> Result<Done, Failure> {
-    let known = &[("--hex", false), ("--dot", false), ("--svg", true), ("--locations", true), ("--edges", true)];
+    let known =
+        &[("--hex", false), ("--dot", false), ("--svg", true), ("--bench", false), ("--locations", true), ("--edges", true)];
     let given = Arguments::read("translate", words, known)?;
     given.only_one(&["--hex", "--dot", "--svg"])?;
-    let places = Places {
-        locations: given.number("--locations", MOST_LOCATIONS, MOST_LOCATIONS)?,
-        edges: given.number("--edges", MOST_EDGES, MOST_EDGES)?,
-    };
+    let (places, on_bench) = (places(&given)?, given.has("--bench"));
     let source = Source::open(&given.file)?;
     if given.has("--hex") {
         return Ok(hex(&source.records, places));
     }
-    let refused = |r: Refusal| refusal::failure(r, &source, places);
+    let refused = |r: Refusal| match on_bench {
+        true => bench::failure(r, &source),
+        false => refusal::failure(r, &source, places),
+    };
     let automaton = source.automaton(places).map_err(refused)?;
     let routine = source.routine().map_err(refused)?;
     let dot = || graph::dot(&source, &routine, &automaton);
@@ -113,7 +115,20 @@ fn translate(words: &[String], screen: Screen) -> Result<Done, Failure> {
     if given.has("--dot") {
         return Ok(Done::printed(dot()));
     }
-    Ok(Done::printed(Listing { source: &source, routine: &routine, automaton: &automaton, style: screen.style }.text()))
+    let listing = Listing { source: &source, routine: &routine, automaton: &automaton, style: screen.style };
+    Ok(Done::printed(if on_bench { listing.text_on_bench() } else { listing.text() }))
+}
+
+/// How large the tables are. Those of the bench have their own sizes, so no other can be asked for beside them.
+fn places(given: &Arguments) -> Result<Places, Failure> {
+    given.only_one(&["--bench", "--locations"])?;
+    given.only_one(&["--bench", "--edges"])?;
+    if given.has("--bench") {
+        return Ok(bench::PLACES);
+    }
+    let locations = given.number("--locations", MOST_LOCATIONS, MOST_LOCATIONS)?;
+    let edges = given.number("--edges", MOST_EDGES, MOST_EDGES)?;
+    Ok(Places { locations, edges })
 }
 
 /// Exactly what the program `translate` prints.

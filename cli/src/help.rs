@@ -10,6 +10,8 @@ const TOP: &str = "\
 currantplane: translates list routines into counter automata, for people
 
   currantplane translate FILE     the automaton as a listing, in hex, as a graph or as a picture
+  currantplane translate FILE --bench
+                                  the same, and whether it fits the tables of the controller bench
   currantplane show FILE location 17
                                   one location or edge, by its number, in hex and in words
   currantplane run FILE           the routine on a heap and the automaton beside it, step by step
@@ -26,6 +28,7 @@ NO_COLOR is set.
 ";
 
 const TRANSLATE: &str = "\
+currantplane translate FILE [--hex | --dot | --svg OUT] [--bench]
 currantplane translate FILE [--hex | --dot | --svg OUT] [--locations N] [--edges N]
 
 Prints the automaton of a routine: each location with its statement and its shape, each edge with
@@ -37,6 +40,9 @@ enabled when both hold.
                    bytes of the records alone
   --dot            a graph for Graphviz
   --svg OUT        a picture, written to OUT; needs Graphviz (Debian package `graphviz`)
+  --bench          with the tables of the controller bench, for 128 locations and 256 edges. The
+                   listing says how much of them is used, a refusal for want of a place (11, 12)
+                   how large the full listing is; nothing is added to --hex, --dot and --svg
   --locations N    the places of the location table; without it, 1024, which is the most
   --edges N        the places of the edge table; without it, 2048, which is the most
 

@@ -3,6 +3,7 @@
 
 pub mod arguments;
 pub mod automaton;
+pub mod bench;
 pub mod chains;
 pub mod commands;
 pub mod drawing;

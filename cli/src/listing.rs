@@ -1,6 +1,7 @@
 //! The listing that a person reads.
 
 use crate::automaton::{Automaton, Edge, Location};
+use crate::bench;
 use crate::drawing::{indented, shape_lines};
 use crate::names;
 use crate::record::{Op, Routine};
@@ -19,14 +20,23 @@ pub struct Listing<'a> {
 
 impl Listing<'_> {
     pub fn text(&self) -> String {
+        self.body() + &self.totals() + &self.faults()
+    }
+
+    /// The same for the bench, with how much of its tables is used.
+    pub fn text_on_bench(&self) -> String {
+        self.body() + &self.totals() + &bench::used(self.automaton) + &self.faults()
+    }
+
+    /// What comes before the totals: every location with its edges.
+    fn body(&self) -> String {
         let mut out = self.head();
         for number in 0..self.automaton.locations.len() {
             out.push('\n');
             out.push_str(&self.location(number, &self.automaton.locations[number]));
             out.push_str(&self.edges(number));
         }
-        out.push('\n');
-        out + &self.totals()
+        out + "\n"
     }
 
     fn head(&self) -> String {
@@ -103,20 +113,25 @@ impl Listing<'_> {
         let locations = &self.automaton.locations;
         let is_stop = |s: usize| self.routine.statements[s].op == Op::Stop;
         let stops = locations.iter().filter(|l| is_stop(l.statement)).count();
-        let faults: Vec<String> = (0..locations.len()).filter(|&n| locations[n].fault != 0).map(|n| n.to_string()).collect();
-        let mut out = format!(
+        let faults = locations.iter().filter(|l| l.fault != 0).count();
+        format!(
             "{} ({}, {}, {}), {}\n",
             names::count(locations.len(), "location"),
             names::count(self.routine.shapes.len(), "start"),
             names::count(stops, "stop"),
-            names::count(faults.len(), "fault"),
+            names::count(faults, "fault"),
             names::count(self.automaton.edges.len(), "edge")
-        );
+        )
+    }
+
+    /// Which locations have a fault, and what that says.
+    fn faults(&self) -> String {
+        let locations = &self.automaton.locations;
+        let faults: Vec<String> = (0..locations.len()).filter(|&n| locations[n].fault != 0).map(|n| n.to_string()).collect();
         if faults.is_empty() {
-            out.push_str("No location has a fault: no run from the starting shapes faults, however long the lists are.\n");
-            return out;
+            return "No location has a fault: no run from the starting shapes faults, however long the lists are.\n".into();
         }
-        out.push_str(&fill("Locations with a fault:", 4, &with_commas(&faults)));
+        let mut out = fill("Locations with a fault:", 4, &with_commas(&faults));
         for kind in 1..=3 {
             let n = locations.iter().filter(|l| l.fault == kind).count();
             if n > 0 {

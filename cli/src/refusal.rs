@@ -70,6 +70,11 @@ pub fn words(refusal: Refusal, source: &Source, places: Places) -> String {
 /// The explanation of a refusal with what is wrong in this case.
 pub fn explained(refusal: Refusal, source: &Source, here: Option<String>) -> String {
     let (means, change) = meaning(refusal.number);
+    told(refusal, source, [means, change], here)
+}
+
+/// The same with other words for what it means and what to change.
+pub fn told(refusal: Refusal, source: &Source, [means, change]: [&str; 2], here: Option<String>) -> String {
     let mut out = format!("{}: refused {}{}\n", source.name, refusal.number, place_words(refusal, source));
     out.push_str(&lines_of(refusal, source));
     out.push_str(&paragraph("  meaning: ", 11, means));

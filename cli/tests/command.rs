@@ -20,7 +20,8 @@ fn exit_statuses() {
     assert_eq!(status(&["disassemble", "examples/tortoise.records"], b""), 0);
     assert_eq!(status(&["disassemble", "-"], &[0; 32]), 1);
     assert_eq!(status(&["translate", "examples/leak.txt", "--locations", "1024", "--edges=2048"], b""), 0);
-    let wrong: [&[&str]; 21] = [
+    assert_eq!(status(&["translate", "--bench", "examples/leak.txt"], b""), 0);
+    let wrong: [&[&str]; 25] = [
         &[],
         &["translat", "-"],
         &["translate"],
@@ -34,6 +35,10 @@ fn exit_statuses() {
         &["translate", "examples/reverse.txt", "--svg"],
         &["translate", "examples/reverse.txt", "--locations", "1025"],
         &["translate", "examples/reverse.txt", "--edges", "-1"],
+        &["translate", "examples/reverse.txt", "--bench=1"],
+        &["translate", "examples/reverse.txt", "--bench", "--bench"],
+        &["translate", "examples/reverse.txt", "--bench", "--locations", "128"],
+        &["translate", "examples/reverse.txt", "--edges=256", "--bench"],
         &["assemble", "examples/reverse.records"],
         &["disassemble", "examples/reverse.txt"],
         &["show", "examples/reverse.txt"],
@@ -69,9 +74,10 @@ fn help_says_what_is_proved() {
         assert!(said.contains("What is proved: ") && said.contains("What is not proved: "), "{said}");
         assert!(said.lines().all(|l| l.len() <= 100), "{said}");
     }
-    for option in ["--hex", "--dot", "--svg", "--locations", "--edges"] {
+    for option in ["--hex", "--dot", "--svg", "--bench", "--locations", "--edges"] {
         assert!(text(&printed(&["help", "translate"], b"")).contains(option));
     }
+    assert!(text(&printed(&["help"], b"")).contains("translate FILE --bench\n"));
     for option in ["--heap", "--shape", "--picks", "--steps"] {
         assert!(text(&printed(&["help", "run"], b"")).contains(option));
     }

@@ -205,6 +205,7 @@ fn senseless_arguments() {
         "help",
         "--hex",
         "--dot",
+        "--bench",
         "--heap",
         "--picks",
         "1,2",

@@ -17,6 +17,8 @@ fn said_of(input: &[u8], number: u8) -> String {
     assert!(said.starts_with(&format!("standard input: refused {number}")), "{number}: {said}");
     assert!(said.contains("\n  meaning: ") && said.contains("\n  change:  "), "{said}");
     assert!(said.lines().all(|l| l.chars().count() <= 100), "{said}");
+    // the bench's tables have nothing to do with the checks of the input
+    assert_eq!(tool(&["translate", "-", "--bench"], input), done, "{said}");
     said
 }
 

@@ -12,6 +12,10 @@ use crate::selftest;
 use crate::text::{write_counters, write_record, write_values, Lines};
 use crate::translate::{translate, EDGES, LOCATIONS};
 
+/// The places of the tables that `translate` uses, and those of the bench.
+const FULL: [usize; 2] = [LOCATIONS, EDGES];
+const BENCH: [usize; 2] = [128, 256];
+
 /// The exit status for a result, a refusal, and wrong usage or bad text.
 pub const RESULT: u8 = 0;
 pub const REFUSED: u8 = 1;
@@ -60,13 +64,14 @@ fn dispatch(words: &[String], input: &mut dyn Read) -> Result<Answer, String> {
         [] => Err("no command; see 'reference --help'".to_string()),
         ["--help" | "-h" | "help"] => result(help::GENERAL.to_string()),
         ["help", command] | [command, "--help" | "-h"] => help_of(command),
-        ["translate"] => run_translate(input),
+        ["translate"] => run_translate(input, FULL),
+        ["translate", "--bench"] => run_translate(input, BENCH),
         ["fold"] => run_fold(&read_all(input)?),
         ["unfold"] => run_unfold(&read_all(input)?),
         ["step"] => run_step(&read_all(input)?),
         ["record"] => run_record(&read_all(input)?),
         ["selftest", ..] => run_selftest(&words[1..]),
-        ["translate" | "fold" | "unfold" | "step" | "record", word, ..] => {
+        ["translate", "--bench", word, ..] | ["translate" | "fold" | "unfold" | "step" | "record", word, ..] => {
             Err(format!("'{word}' is not expected; see 'reference {} --help'", words[0]))
         }
         [command, ..] => Err(format!("no command '{command}'; see 'reference --help'")),
@@ -94,10 +99,10 @@ fn read_all(input: &mut dyn Read) -> Result<Vec<u8>, String> {
     }
 }
 
-fn run_translate(input: &mut dyn Read) -> Result<Answer, String> {
+/// Translates into tables with so many places for locations and for edges.
+fn run_translate(input: &mut dyn Read, places: [usize; 2]) -> Result<Answer, String> {
     let input = read_all(&mut input.take(INPUT_BYTES))?;
-    let mut locations = vec![0; LOCATIONS * RECORD];
-    let mut edges = vec![0; EDGES * RECORD];
+    let [mut locations, mut edges] = places.map(|places| vec![0; places * RECORD]);
     let answer = translate(&input, &mut locations, &mut edges);
     if answer.refusal != 0 {
         let (number, place) = (answer.refusal, answer.place);

@@ -20,11 +20,15 @@ refusal (or a selftest that fails), 2 for wrong usage or bad text.
 ";
 
 pub const TRANSLATE: &str = "\
-usage: reference translate < FILE
+usage: reference translate [--bench] < FILE
 
 Reads records of 32 bytes (at most 4,096 bytes are read): 1 to 64 S, then 1 to
 16 H. Prints each L, then each E, as 64 hex digits a line, or one line
 'refused NUMBER PLACE'.
+
+There are places for 1,024 locations and 2,048 edges. With --bench there are
+places for 128 locations and 256 edges, as on the controller bench: a listing
+that does not fit them is refused with 11 or 12, and all else is the same.
 ";
 
 pub const FOLD: &str = "\

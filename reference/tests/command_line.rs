@@ -57,6 +57,47 @@ fn translate_reads_at_most_4096_bytes() {
     assert_eq!((ran.status, &ran.output[..]), (1, "refused 3 0\n"));
 }
 
+/// 64 times the same op on pointers 0 and 1 in a circle, from so many shapes:
+/// two lists that meet, and other pointers null or undefined.
+fn circle(op: u8, shapes: u8) -> Vec<u8> {
+    let next = |number: u8| (number + 1) % 64;
+    let statement = |number| if op == 10 { s(10, 0, 0, next(number), next(number)) } else { s(op, 0, 1, next(number), 0) };
+    let other = |number: u8| if number == 0 { NULL } else { UNDEF };
+    let shape = |number: u8| h([0, 2, other(number & 1), other(number & 2), NULL, NULL], &[1, NULL, 1]);
+    let records: Vec<Record> = (0..64).map(statement).chain((0..shapes).map(shape)).collect();
+    input(&records)
+}
+
+#[test]
+fn translate_with_the_tables_of_the_bench() {
+    let bench = ["translate", "--bench"];
+    check(&bench, &p1(), 0, &p1_output());
+    // 128 locations and 256 edges fill the tables.
+    let full = run(&["translate"], &circle(10, 2));
+    assert_eq!((full.status, full.output.lines().count()), (0, 128 + 256));
+    check(&bench, &circle(10, 2), 0, &full.output);
+    // Of three shapes, each location leads to the third after it.
+    let full = run(&["translate"], &circle(10, 3));
+    assert_eq!((full.status, full.output.lines().count()), (0, 192 + 384));
+    check(&bench, &circle(10, 3), 1, "refused 11 125\n");
+    // Relinks have three edges. The 86th location that is no fault is the
+    // second one of statement 21, after 4 and 20 times 5 and a fault.
+    let full = run(&["translate"], &circle(12, 4));
+    assert_eq!((full.status, full.output.lines().count()), (0, 320 + 768));
+    check(&bench, &circle(12, 4), 1, "refused 12 106\n");
+}
+
+#[test]
+fn a_failed_check_prints_the_same_for_the_bench() {
+    let bench = ["translate", "--bench"];
+    check(&bench, &[], 1, "refused 1 0\n");
+    let twice = [p1(), h(pointers(&[0]), &[NULL]).to_vec()].concat();
+    check(&bench, &twice, 1, "refused 10 3\n");
+    // Read at most 4,096 bytes, too: 64 statements and 64 shapes.
+    let long = [input(&[stop(); 64]), input(&[h(NULLS, &[]); 64]), vec![0]].concat();
+    check(&bench, &long, 1, "refused 3 0\n");
+}
+
 #[test]
 fn fold_and_unfold() {
     let heap = b"# a heap\npointers 2 null null null undef null\n\ncells null unused 0\n";
@@ -192,6 +233,10 @@ fn wrong_usage() {
     check_wrong(&["fly"], b"", "no command 'fly'");
     check_wrong(&["help", "fly"], b"", "no command 'fly'");
     check_wrong(&["translate", "x"], b"", "'x' is not expected");
+    check_wrong(&["translate", "--bench", "x"], b"", "'x' is not expected; see 'reference translate --help'");
+    check_wrong(&["translate", "x", "--bench"], b"", "'x' is not expected");
+    check_wrong(&["translate", "--bench", "--bench"], b"", "'--bench' is not expected");
+    check_wrong(&["fold", "--bench"], b"", "'--bench' is not expected");
     check_wrong(&["fold", "x"], b"", "reference fold --help");
     check_wrong(&["record", "x"], b"", "reference record --help");
     check_wrong(&["selftest", "--seed"], b"", "--seed asks for a number");
@@ -211,6 +256,7 @@ fn help_tells_of_every_command() {
         check(&["help", command], b"", 0, &own.output);
         assert!(own.output.lines().all(|line| line.len() <= 80));
     }
+    assert!(run(&["help", "translate"], b"").output.contains("reference translate [--bench]"));
     check(&["help"], b"", 0, &general.output);
 }
 

@@ -3,37 +3,10 @@
 
 mod common;
 
+use common::random::Random;
 use common::*;
 use reference::record_part;
 use std::collections::BTreeMap;
-
-/// A small generator (xorshift): the same numbers every time.
-struct Random(u64);
-
-impl Random {
-    fn next(&mut self) -> usize {
-        self.0 ^= self.0 << 13;
-        self.0 ^= self.0 >> 7;
-        self.0 ^= self.0 << 17;
-        self.0 as usize
-    }
-
-    /// A number below this one, or 0.
-    fn below(&mut self, limit: usize) -> usize {
-        self.next() % limit.max(1)
-    }
-
-    /// Around this number, far below it, or any at all.
-    fn near(&mut self, number: usize) -> usize {
-        match self.below(8) {
-            0 => number,
-            1 | 2 => number.saturating_sub(1),
-            3 => number.saturating_add(1),
-            4 => [usize::MAX, self.next(), self.next() >> self.below(64)][self.below(3)],
-            _ => self.below(number),
-        }
-    }
-}
 
 /// One call: the lengths and counts of both tables, the mark and the number.
 #[derive(Debug)]

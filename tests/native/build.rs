@@ -10,7 +10,7 @@ fn main() {
         let run = |c: &mut Command| assert!(c.status().unwrap().success(), "{c:?}");
         run(Command::new("gcc")
             .args(["-std=c11", "-O3", "-march=x86-64-v2", "-c"])
-            .arg(format!("-DJOB={}", std::env::var("JOB").expect("./bench sets it")))
+            .arg(format!("-DJOB={}", std::env::var("JOB").expect("./speed sets it")))
             .arg("-o")
             .arg(format!("{out}/peer.o"))
             .arg(format!("{peer}/peer.c")));

@@ -1,15 +1,13 @@
 // positions INPUT: how long an edge takes, without the checks of the input and without the search for known locations, and how long in
-// the translator in C. Linked behind some bytes of padding by ./bench, since the time of the search depends by half on where its loop
+// the translator in C. Linked behind some bytes of padding by ./speed, since the time of the search depends by half on where its loop
 // lies in the program. One line: edge, one record looked at, edge in C (all ns), ratio, one translation (us).
 //
 // The number of records looked at is known from the listing, so two unknowns are fitted to the times in tables of several sizes, as in
-// src/bin/bench.rs.
-#include <stdint.h>
+// src/bin/speed.rs.
+#include <currantplane.h>
 #include <stdio.h>
 #include <time.h>
 
-uint8_t currantplane_translate(const uint8_t *input, size_t input_len, uint8_t *locations, size_t locations_len, uint8_t *edges,
-                               size_t edges_len, size_t *answer, size_t answer_len);
 int peer_translate(const uint8_t *input, size_t input_len, uint8_t *locations, size_t locations_len, uint8_t *edges, size_t edges_len,
                    uint32_t *a, uint32_t *b, uint32_t *number, uint32_t *place);
 

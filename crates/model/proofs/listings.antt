@@ -7,4 +7,6 @@ pub mod Once
 pub mod Moves
 pub mod FullListing
 pub mod Outcomes
+pub mod Unplaced
+pub mod Small
 pub mod Parts

@@ -5,4 +5,5 @@ pub mod PromisesListings
 pub mod PromisesRuns
 pub mod PromisesTables
 pub mod PromisesStatements
+pub mod PromisesBench
 pub mod Shelf

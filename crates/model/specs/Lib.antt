@@ -12,4 +12,5 @@ pub mod Runs
 pub mod Structs
 pub mod Notions
 pub mod Listings
+pub mod Bench
 pub mod Cases

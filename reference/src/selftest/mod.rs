@@ -15,7 +15,7 @@ mod tables;
 mod undefined;
 
 use crate::automaton::Automaton;
-use crate::input::read_routine;
+use crate::input::{read_routine, Refusal};
 use crate::random::Random;
 use crate::records::hex;
 use crate::routines::random_routine;
@@ -51,6 +51,23 @@ pub fn run(seed: u64, routines: u64) -> Result<Counts, String> {
         (Some(missing), _) => Err(format!("{counts}never met: {missing}")),
         (None, Some(few)) => Err(format!("{counts}too few: {few}")),
     }
+}
+
+/// Inputs that pass all checks, without end. A seed gives the same ones again.
+pub fn sound_inputs(seed: u64) -> impl Iterator<Item = Vec<u8>> {
+    let mut random = Random::new(seed);
+    std::iter::repeat_with(move || random_routine(&mut random).input())
+}
+
+/// Inputs that fail a check, without end, each with its refusal. The refusals
+/// 1 to 10 take turns.
+pub fn unsound_inputs(seed: u64) -> impl Iterator<Item = (Vec<u8>, Refusal)> {
+    let mut random = Random::new(seed);
+    (1..=10).cycle().map(move |refusal| {
+        let drawn = random_routine(&mut random);
+        let (input, (number, place)) = mutate::change(&mut random, &drawn, refusal);
+        (input, Refusal { number, place })
+    })
 }
 
 /// Everything about one input that passes the checks.

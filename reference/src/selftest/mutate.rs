@@ -10,7 +10,7 @@ use crate::statement::{Op, OPS};
 use crate::translate::translate;
 
 /// An input with the refusal and the place that are due.
-type Due = (Vec<u8>, (u8, usize));
+pub type Due = (Vec<u8>, (u8, usize));
 
 /// Tests one change of an input; all changes take turns by `number`.
 pub fn test(random: &mut Random, counts: &mut Counts, drawn: &Drawn, number: u64) -> Result<(), String> {
@@ -20,7 +20,8 @@ pub fn test(random: &mut Random, counts: &mut Counts, drawn: &Drawn, number: u64
     any_bytes(random, drawn)
 }
 
-fn change(random: &mut Random, drawn: &Drawn, refusal: u8) -> Due {
+/// An input of this refusal, from 1 to 10.
+pub fn change(random: &mut Random, drawn: &Drawn, refusal: u8) -> Due {
     match refusal {
         1 => length(random, drawn),
         2 => statement_count(random, drawn),

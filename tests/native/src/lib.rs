@@ -1,6 +1,8 @@
 //! The proved library's calls, and what its tests draw at random and compare.
 
 pub mod compare;
+pub mod damage;
 pub mod draw;
+pub mod rings;
 
 pub use currantplane::{fold, record, step, translate, unfold, Refusal};

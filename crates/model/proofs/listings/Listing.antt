@@ -47,6 +47,11 @@ extend-prefix i (e ∷ es) t =
     prefix-trans (t .locs) (addEdge i t e .locs) (extend i (e ∷ es) t .locs) (edge-prefix i t e)
     (extend-prefix i es (addEdge i t e))
 
+pub extend-front : (i : ℕ) (es : List Edge) (t : Listing) → Prefix (t .links) (extend i es t .links)
+extend-front i [] t = prefix-refl (t .links)
+extend-front i (e ∷ es) t = prefix-trans (t .links) (addEdge i t e .links) (extend i (e ∷ es) t .links) (_, refl)
+    (extend-front i es (addEdge i t e))
+
 pub extend-links : (i : ℕ) (es : List Edge) (t : Listing) → length (extend i es t .links)
     ≡ length (t .links) + length es
 extend-links i [] t = omega arith
@@ -149,19 +154,28 @@ pub explore-next : (sts : List Stmt) (cl ce f i : ℕ) (t u : Listing) → i < l
 explore-next sts cl ce f i t u h p = rw (elem-some (t .locs) i (failed 0 leak) h, explore) (rw (p, explore))
 
 module _ (sts : List Stmt) (hs : List Heap) where
-  pub explored-prefix : (i n : ℕ) → i ≤ n → Prefix (explored sts hs i .locs) (explored sts hs n .locs)
-  explored-prefix i zero h =
+  -- what the edges of a location keep, further exploration keeps
+  explored-on : (R : Listing → Listing → Type 0) → ((t : Listing) → R t t)
+      → ((t u v : Listing) → R t u → R u v → R t v) → ((i : ℕ) (es : List Edge) (t : Listing) → R t (extend i es t))
+      → (i n : ℕ) → i ≤ n → R (explored sts hs i) (explored sts hs n)
+  explored-on R same then more i zero h =
       let e : zero ≡ i = omega arith in
-      subst (λ k. Prefix (explored sts hs k .locs) (explored sts hs zero .locs)) e
-      (prefix-refl (explored sts hs zero .locs))
-  explored-prefix i (suc n) h =
+      subst (λ k. R (explored sts hs k) (explored sts hs zero)) e (same (explored sts hs zero))
+  explored-on R same then more i (suc n) h =
       eq-case i (suc n)
-      (λ e. subst (λ k. Prefix (explored sts hs k .locs) (explored sts hs (suc n) .locs)) (sym e)
-      (prefix-refl (explored sts hs (suc n) .locs)))
+      (λ e. subst (λ k. R (explored sts hs k) (explored sts hs (suc n))) (sym e) (same (explored sts hs (suc n))))
       (λ e. let ne = eqb-false i (suc n) e in
-      prefix-trans (explored sts hs i .locs) (explored sts hs n .locs) (explored sts hs (suc n) .locs)
-      (explored-prefix i n (omega arith))
-      (extend-prefix n (edgesOf sts (locAt (explored sts hs n .locs) n)) (explored sts hs n)))
+      then (explored sts hs i) (explored sts hs n) (explored sts hs (suc n))
+      (explored-on R same then more i n (omega arith))
+      (more n (edgesOf sts (locAt (explored sts hs n .locs) n)) (explored sts hs n)))
+
+  pub explored-prefix : (i n : ℕ) → i ≤ n → Prefix (explored sts hs i .locs) (explored sts hs n .locs)
+  explored-prefix = explored-on (λ t u. Prefix (t .locs) (u .locs)) (λ t. prefix-refl (t .locs))
+      (λ t u v. prefix-trans (t .locs) (u .locs) (v .locs)) extend-prefix
+
+  pub explored-front : (i n : ℕ) → i ≤ n → Prefix (explored sts hs i .links) (explored sts hs n .links)
+  explored-front = explored-on (λ t u. Prefix (t .links) (u .links)) (λ t. prefix-refl (t .links))
+      (λ t u v. prefix-trans (t .links) (u .links) (v .links)) extend-front
 
   -- past the last location nothing is added
   past-last : (n : ℕ) → length (explored sts hs n .locs) ≤ n → explored sts hs (suc n) ≡ explored sts hs n

@@ -172,7 +172,7 @@ pub bad-translate : (s : List ℕ) (a b : ℕ) (x : Refusal) → check s ≡ bad
 unfolding translate
 bad-translate s a b x e = rw (e, translate)
 
-good-translate : (s : List ℕ) (a b : ℕ) (r : Routine) (o : Explored) → check s ≡ good r
+pub good-translate : (s : List ℕ) (a b : ℕ) (r : Routine) (o : Explored) → check s ≡ good r
     → listing r (places 1024 a) (places 2048 b) ≡ o
     → translate s a b ≡ elim o [ full x ↦ refusedWith a b x | listed t ↦ listedWith a b t ]
 unfolding translate

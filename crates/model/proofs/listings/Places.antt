@@ -7,17 +7,17 @@ use mathlib.Core.List.{List, [], _∷_, map}
 use native.Mathlib.Omega.{arith}
 use lib.Dec.{ltb}
 use lib.ListN.{length, length-map}
-use borrow.Author.Tests.{eqb-false, le-ltb, lt-ltb, ltb-false, ltb-true}
+use borrow.Author.Tests.{le-ltb, lt-ltb, ltb-false, ltb-true}
 use Rattle.model.specs.Base.{any, placeOf}
 use Rattle.model.specs.Edges.{Edge, Loc, at, edgesOf, sameLoc}
 use Rattle.model.specs.Heap.{Heap}
 use Rattle.model.specs.Machine.{Stmt}
 use Rattle.model.specs.Records.{Refusal, refusal}
 use Rattle.model.specs.Translate.{Listing, Routine, addEdges, explore, full, listed, listing}
-use Rattle.model.proofs.listings.Listing.{add-found, add-listed, any-loc, edge-locs, explore-end, explore-full, explore-next, explored-end, explored-prefix, extend-links, extend-prefix, full-listed, listing-whole, loc-place, outcome-case, placed-edge}
+use Rattle.model.proofs.listings.Listing.{add-found, add-listed, any-loc, edge-locs, explore-end, explore-full, explore-next, explored-end, explored-front, explored-prefix, extend-links, extend-prefix, full-listed, listing-whole, loc-place, outcome-case, placed-edge}
 use Rattle.model.specs.Listings.{NoPlace, Placed, Refused, Why, addEdge, explored, extend, locAt, no-edge, no-location}
 use Rattle.model.specs.Notions.{In}
-use Rattle.model.proofs.lists.Logic.{bool-case, eq-case}
+use Rattle.model.proofs.lists.Logic.{bool-case}
 use Rattle.model.proofs.shapes.Same.{place-le, place-none, prefix-length}
 
 -- edges that have places are added
@@ -33,18 +33,6 @@ add-fits cl ce i (e ∷ es) t h =
     (add-fits cl ce i es (addEdge i t e) h))
 
 module _ (sts : List Stmt) (hs : List Heap) where
-  pub explored-links : (i n : ℕ) → i ≤ n → length (explored sts hs i .links) ≤ length (explored sts hs n .links)
-  explored-links i zero h = let e : i ≡ zero = omega arith in rw e (omega arith)
-  explored-links i (suc n) h =
-      eq-case i (suc n) (λ e. rw e (omega arith))
-      (λ e. let ne = eqb-false i (suc n) e in
-      omega (
-        arith,
-        explored-links i n (omega arith),
-        extend-links n (edgesOf sts (locAt (explored sts hs n .locs) n))
-            (explored sts hs n),
-      ))
-
   module _ (cl ce : ℕ) where
     -- with fuel f from location i on, where there are places, the locations below i + f are explored
     explore-reach : (f i n : ℕ) → n ≡ i + f → Placed cl ce (explored sts hs n)
@@ -56,7 +44,8 @@ module _ (sts : List Stmt) (hs : List Heap) where
         (λ q. let lt = ltb-true i (length (t .locs)) q in
         let a = prefix-length (explored sts hs (suc i) .locs) (explored sts hs n .locs)
         (explored-prefix sts hs (suc i) n (omega arith)) in
-        let b = explored-links (suc i) n (omega arith) in
+        let b = prefix-length (explored sts hs (suc i) .links) (explored sts hs n .links)
+        (explored-front sts hs (suc i) n (omega arith)) in
         explore-next sts cl ce f i t (explored sts hs (suc i)) lt (add-fits cl ce i (edgesOf sts (locAt (t .locs) i))
         t (omega arith, omega arith))
         ∙ explore-reach f (suc i) n (omega arith) h)

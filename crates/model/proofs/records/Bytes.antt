@@ -1,5 +1,5 @@
 -- Bytes and two-byte numbers are read back: values, words, updates, and the records of a table.
-use Prim.Native.Nat.{_%_, _*_, _+_, _-_, _/_, _<_, _^_, _≤_, suc, zero, ℕ}
+use Prim.Native.Nat.{_%_, _*_, _+_, _-_, _/_, _<_, _^_, _≤_, min, suc, zero, ℕ}
 use mathlib.Core.Path.{_∙_, _≡_, ap, ap₂, refl, sym}
 use mathlib.Core.Logic.{inl, inr}
 use mathlib.Core.Bool.{Bool, false, true}
@@ -7,10 +7,11 @@ use mathlib.Core.List.{List, [], _++_, _∷_, append-assoc, map}
 use native.Mathlib.Nat.{add-mul-mod-self-left, mod-add-div, mod-eq-of-lt, one-mul, pow-suc, zero-mul}
 use native.Mathlib.Omega.{arith}
 use lib.Dec.{eqb}
-use lib.ListN.{drop, getD, length, length-append, length-replicate, replicate, take}
-use lib.Seq.{drop-append-add, drop-at, take-at}
+use lib.ListN.{drop, getD, length, length-append, length-replicate, replicate, replicate-append-replicate, take}
+use lib.Seq.{drop-append-add, drop-at, take-append-add, take-at}
 use borrow.Author.Tests.{eqb-true, ne-eqb}
 use Rattle.model.specs.Base.{all, joined}
+use Rattle.model.specs.Bench.{cutTo}
 use Rattle.model.specs.Edges.{Update}
 use Rattle.model.specs.Heap.{Val, cell, null, undef}
 use Rattle.model.specs.Records.{bits, filled, isZero, recordAt, updateCode, valByte, valOf}
@@ -113,6 +114,13 @@ joined-length (r ∷ rs) h = omega (
       (λ x q. h x (inr q)),
 )
 
+take-zeros : (k n : ℕ) → take k (replicate {A = ℕ} n 0) ≡ replicate (min k n) 0
+take-zeros zero n = let e : 0 ≡ min 0 n = omega arith in ap (λ m. replicate {A = ℕ} m 0) e
+take-zeros (suc k) zero = let e : 0 ≡ min (suc k) 0 = omega arith in ap (λ m. replicate {A = ℕ} m 0) e
+take-zeros (suc k) (suc n) =
+    let e : suc (min k n) ≡ min (suc k) (suc n) = omega arith in
+    ap (λ (z : List ℕ). 0 ∷ z) (take-zeros k n) ∙ ap (λ m. replicate {A = ℕ} m 0) e
+
 pub table-empty : (n : ℕ) → tableOf n [] ≡ replicate n 0
 table-empty n = let e : n - 32 * 0 ≡ n = omega arith in ap (λ m. replicate m 0) e
 
@@ -129,6 +137,22 @@ table-length n rs h k = omega (
 pub table-rest : (n : ℕ) (rs : List (List ℕ)) → ((r : List ℕ) → In r rs → length r ≡ 32)
     → drop (32 * length rs) (tableOf n rs) ≡ replicate (n - 32 * length rs) 0
 table-rest n rs h = drop-at (joined rs) (replicate (n - 32 * length rs) 0) (32 * length rs) (joined-length rs h)
+
+-- the same records in tables of two lengths: one is the other, cut off or with zeros behind
+pub table-cut : (a n : ℕ) (rs : List (List ℕ)) → ((r : List ℕ) → In r rs → length r ≡ 32) → 32 * length rs ≤ a
+    → 32 * length rs ≤ n → tableOf a rs ≡ cutTo a (tableOf n rs)
+table-cut a n rs h k l =
+    let m = 32 * length rs in
+    let j = joined-length rs h in
+    let p : a ≡ length (joined rs) + (a - m) = omega arith in
+    let z : min (a - m) (n - m) + (a - length (tableOf n rs)) ≡ a - m = omega (arith, table-length n rs h l) in
+    ap (λ q. joined rs ++ replicate q 0) (sym z)
+    ∙ ap (λ (q : List ℕ). joined rs ++ q) (sym (replicate-append-replicate (min (a - m) (n - m)) _ 0))
+    ∙ sym (append-assoc (joined rs) _ _)
+    ∙ ap (λ (q : List ℕ). q ++ replicate (a - length (tableOf n rs)) 0)
+    (ap (λ (q : List ℕ). joined rs ++ q) (sym (take-zeros (a - m) (n - m)))
+    ∙ sym (take-append-add (joined rs) (replicate (n - m) 0) (a - m))
+    ∙ ap (λ q. take q (tableOf n rs)) (sym p))
 
 -- a list made n long by zeros
 pub filled-length : (n : ℕ) (l : List ℕ) → length l ≤ n → length (filled n l) ≡ n

@@ -1,6 +1,6 @@
 -- What the checks of the input say of an accepted one: its starting shapes are shapes with six pointers, and no two
 -- are equal.
-use Prim.Native.Nat.{_%_, _*_, _/_, suc, zero, ℕ}
+use Prim.Native.Nat.{_%_, _*_, _/_, _≤_, suc, zero, ℕ}
 use Rattle.model.proofs.records.Checks.{none-failed}
 use mathlib.Core.Path.{_∙_, _≡_, ap, refl, subst, sym}
 use mathlib.Core.Logic.{inl, inr}
@@ -8,10 +8,10 @@ use mathlib.Core.Option.{Option, none, some}
 use mathlib.Core.Bool.{_||_, cond, false, not, true}
 use mathlib.Core.List.{List, [], _∷_, map}
 use native.Mathlib.Omega.{arith}
-use lib.Dec.{eqb}
-use lib.ListN.{drop, length, length-drop}
+use lib.Dec.{eqb, leb}
+use lib.ListN.{drop, length, length-drop, length-map}
 use lib.Seq.{length-take-le}
-use borrow.Author.Tests.{eqb-true, not-true}
+use borrow.Author.Tests.{eqb-true, leb-true, not-true}
 use Rattle.model.specs.Base.{all, any, count, sameList}
 use Rattle.model.specs.Heap.{Heap}
 use Rattle.model.specs.Records.{Refusal, isH, isS, layoutH, refusal, refusalH, refusalS, shapeOf, shapeRecord, checksH}
@@ -20,7 +20,7 @@ use Rattle.model.specs.Translate.{Routine, bad, badKind, badRecord, betw
 use Rattle.model.specs.Notions.{Canon, Distinct, In}
 use Rattle.model.proofs.shapes.Canonical.{canonical-canon}
 use Rattle.model.proofs.expansion.Facts.{test-closed}
-use Rattle.model.proofs.lists.Sorted.{kinds-sorted, not-both}
+use Rattle.model.proofs.lists.Sorted.{Sorted, kinds-sorted, not-both}
 use Rattle.model.proofs.lists.Lists.{any-in, in-drop, in-map, some-none}
 use Rattle.model.proofs.lists.Logic.{and-l, and-r, bool-case, clash, or-false-r}
 use Rattle.model.proofs.shapes.Same.{same-bytes-refl}
@@ -101,8 +101,9 @@ chunks-wide zero s l r i = absurd i
 chunks-wide (suc m) s l r (inl e) = ap length e ∙ length-take-le 32 s (omega arith)
 chunks-wide (suc m) s l r (inr i) = chunks-wide m (drop 32 s) (omega (arith, length-drop 32 s)) r i
 
--- a starting shape of an accepted input
+-- the starting shapes of an accepted input
 pub record GoodStarts (r : Routine) : Type 0 where
+  pub few : length (r .starts) ≤ 16
   pub shapes : (h : Heap) → In h (r .starts) → Canon h × (length (h .ptrs) ≡ 6)
   pub distinct : Distinct (r .starts)
 
@@ -113,9 +114,9 @@ pub good-inj : {q r : Routine} → good q ≡ good r → q ≡ r
 good-inj {q} {r} e = cc
 
 records-good : (n : ℕ) (rs : List (List ℕ)) (r : Routine) → ((x : List ℕ) → In x rs → length x ≡ 32)
-    → all isH (drop n rs) ≡ true
+    → all isH (drop n rs) ≡ true → length (drop n rs) ≤ 16
     → checkRecords n rs ≡ good r → GoodStarts r
-records-good n rs r w h e = by-bad (badRecord n 0 [] rs) refl
+records-good n rs r w h l e = by-bad (badRecord n 0 [] rs) refl
   where
     by-bad : (o : Option Refusal) → badRecord n 0 [] rs ≡ o → GoodStarts r
     by-bad (some x) q = bad-good (rw (q, checkRecords) at e)
@@ -125,6 +126,7 @@ records-good n rs r w h e = by-bad (badRecord n 0 [] rs) refl
         good-h n (a .0) (drop n rs) (a .1) h (λ x i. w x (in-drop x n rs i)) in
         let k = good-inj (rw (q, checkRecords) at e) in
         subst GoodStarts k (record {
+          few = omega (arith, length-map (drop n rs) shapeOf);
           shapes = λ x i. let m = in-map shapeOf x (drop n rs) i in
               let z = g (m .0) (m .1) in
               subst (λ y. Canon y × (length (y .ptrs) ≡ 6)) (sym (m .2)) (
@@ -135,12 +137,13 @@ records-good n rs r w h e = by-bad (badRecord n 0 [] rs) refl
           distinct = distinct-h n (a .0) (drop n rs) (a .1) h g;
         })
 
-counts-good : (rs : List (List ℕ)) (r : Routine) → ((x : List ℕ) → In x rs → length x ≡ 32)
-    → all isH (drop (count isS rs) rs) ≡ true
+counts-good : (rs : List (List ℕ)) (r : Routine) → ((x : List ℕ) → In x rs → length x ≡ 32) → Sorted rs
     → checkCounts rs ≡ good r → GoodStarts r
 counts-good rs r w h e = bool-case (between 1 64 (count isS rs))
     (λ a. let e1 = rw (a, checkCounts) at e in bool-case (between 1 16 (count isH rs))
-    (λ b. records-good (count isS rs) rs r w h (rw (b, checkCounts) at e1))
+    (λ b. let m = leb-true (count isH rs) 16 (and-r (leb 1 (count isH rs)) (leb (count isH rs) 16) b) in
+    records-good (count isS rs) rs r w (h .shapes) (omega (arith, h .whole, length-drop (count isS rs) rs))
+    (rw (b, checkCounts) at e1))
     (λ b. bad-good (rw (b, checkCounts) at e1)))
     (λ a. bad-good (rw (a, checkCounts) at e))
 
@@ -150,7 +153,7 @@ kinds-good rs r w e = by-kind (badKind false 0 rs) refl
   where
     by-kind : (o : Option ℕ) → badKind false 0 rs ≡ o → GoodStarts r
     by-kind (some i) q = bad-good (rw (q, checkKinds) at e)
-    by-kind none q = counts-good rs r w (kinds-sorted 0 rs q .shapes) (rw (q, checkKinds) at e)
+    by-kind none q = counts-good rs r w (kinds-sorted 0 rs q) (rw (q, checkKinds) at e)
 
 -- an accepted input has good starting shapes
 pub check-good : (s : List ℕ) (r : Routine) → check s ≡ good r → GoodStarts r

@@ -1,4 +1,4 @@
-//! bench: times of the proved library, of the second translator and, where it was linked, of a translator in C, on the same inputs in
+//! speed: times of the proved library, of the second translator and, where it was linked, of a translator in C, on the same inputs in
 //! one run. Prints, and judges nothing.
 
 use std::hint::black_box;

@@ -1,0 +1,40 @@
+/* The tables of the controller bench. */
+#ifndef BENCH_H
+#define BENCH_H
+
+#include <currantplane.h>
+
+enum {
+    BENCH_LOCATIONS = 128,
+    BENCH_EDGES = 256,
+    BENCH_INPUT = 4096 /* what is read of a routine, as the program `translate` reads it */
+};
+
+/* The bench has one routine and one listing at a time, in memory that is set aside once. */
+struct bench {
+    uint8_t input[BENCH_INPUT];
+    uint8_t locations[CURRANTPLANE_RECORD * BENCH_LOCATIONS];
+    uint8_t edges[CURRANTPLANE_RECORD * BENCH_EDGES];
+    size_t input_length;
+    size_t answer[CURRANTPLANE_ANSWER];
+};
+
+struct heap {
+    uint8_t pointers[CURRANTPLANE_POINTERS];
+    uint8_t cells[CURRANTPLANE_MOST_CELLS];
+    size_t pointer_count, cell_count;
+};
+
+/* Reads a routine from a file, `-` for standard input, and gives whether it could. */
+int read_routine(struct bench *bench, const char *name);
+
+/* Translates it into the bench's tables; the refusal's number. */
+uint8_t translate(struct bench *bench);
+
+/* The lowest cell that is not in use, the number of cells if there is none. */
+size_t free_cell(const struct heap *heap);
+
+/* Prints what the program takes: code, data, and the deepest stack over these routines. */
+int print_sizes(struct bench *bench, int count, char **names);
+
+#endif

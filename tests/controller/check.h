@@ -1,0 +1,87 @@
+/* What the parts of the check share: looks that are counted and reported, the stream of trials, and what was met. */
+#ifndef CHECK_H
+#define CHECK_H
+
+#include "lent.h"
+
+/* Each kind of look is one test. */
+enum kind { TRANSLATIONS, RULE, READERS, PARTS, FOLDS, UNFOLDINGS, STEPS, RECORDS, GUARDS, ONLY_READ, SHELF, KINDS };
+
+/* A trial or a case begins: what is given is forgotten, and buffers are arranged by its number. */
+void begin(const char *name, uint64_t number);
+
+/* Counts a look. A bad one is reported with the trial's number and what was given. Answers whether it was good. */
+int look(enum kind kind, int good, const char *what);
+uint64_t all_failed(void);
+
+/* After a call: every guard, every buffer that is only read, and every buffer that is written, against what is
+ * expected. */
+void compare(enum call which, enum kind kind);
+
+/* The stream. What is given is kept for reports, so its bytes stay where they are until the next trial. */
+uint64_t given_number(const char *name);
+size_t given_bytes(const char *name, uint8_t *into, size_t most);
+uint64_t told_number(void);
+size_t told_bytes(uint8_t *into, size_t most);
+/* Ends the program where a stream is not one that `trials` writes. */
+void sound(int good);
+
+/* Refusals are counted by where they came, and each with a floor must have come so often. */
+enum group { AT_BENCH, ELSEWHERE, OF_FOLD, OF_UNFOLD, OF_STEP, OF_RECORD, GROUPS };
+void met_refusal(enum group group, uint8_t refusal);
+
+/* Other things that must have come so often. */
+enum met {
+    /* at the bench's sizes */
+    BENCH_TRIALS, BENCH_128, BENCH_129, BENCH_256, BENCH_257, BENCH_FULL,
+    /* in other tables */
+    JUST_FIT, RECORD_SHORT, BYTE_SHORT, NO_BYTES, ODD_LENGTH,
+    /* in any */
+    PAST_FULL, RECORDS_READ, TWELVE_NODES,
+    FOLD_TRIALS, TWELVE_FOLDED, UNFOLD_TRIALS,
+    STEP_TRIALS, FAULT_1, FAULT_2, FAULT_3, STOPS, SECOND_BRANCHES,
+    RECORD_TRIALS,
+    /* buffers, of all calls */
+    NULLS, ODD_ADDRESSES, AT_PAGES, METS
+};
+void met(enum met what, uint64_t times);
+
+void translation_trial(void);
+void record_trial(void);
+void fold_trial(void);
+void unfold_trial(void);
+void step_trial(void);
+
+/* What is told of a call; the counts are those of a translation. */
+struct told {
+    uint8_t refusal;
+    size_t place, locations, edges;
+};
+
+struct heap {
+    size_t pointers_length, cells_length;
+    uint8_t pointers[16], cells[300];
+};
+
+struct translation {
+    const uint8_t *input;
+    size_t input_length, locations_length, edges_length;
+    struct told told;
+    const uint8_t *locations, *edges; /* the records told of */
+};
+
+/* One call each, with every byte afterwards compared with what is told. That of a translation answers the refusal that
+ * came. A refused unfolding leaves the heap, of which the lengths are read alone. A step's pick and cell are those in
+ * `given`. */
+uint8_t try_translation(enum kind kind, const struct translation *t);
+void try_fold(enum kind kind, const struct heap *heap, const struct told *told, const uint8_t shape[32],
+              const uint32_t counters[12]);
+void try_unfold(enum kind kind, const uint8_t *shape, size_t shape_length, const uint32_t *counters, size_t count,
+                const struct heap *heap, const struct told *told);
+void try_step(enum kind kind, const struct heap *before, const uint8_t *statement, size_t statement_length,
+              const struct heap *after, const struct told *told, const uint8_t answer[4]);
+
+/* The shelf cases: how many passed; those that failed are added to `failed`. */
+unsigned shelf_cases(unsigned *failed);
+
+#endif

@@ -1,0 +1,59 @@
+/* Nothing but the header, as C99 and as C++17: it needs no other, each of its functions reads what the request says of
+ * the record, and the calls are found. Answers 0 where all of this holds, else the number of what does not. */
+#include "currantplane.h"
+
+static const uint8_t location[32] = {0x4c, 7, 3, 2, 0, 1, 0xfe, 0xff, 1, 0xfe, 1, 0xff};
+/* branch 1, the second guard is >= 2 of node 11, from 0x0234 to 0x03ff, the first guard is = 1 of node 9 */
+static const uint8_t edge[64] = {0x45, 1 | 2 << 1 | 11 << 3, 0x34, 0x02, 0xff, 0x03, 1, 9, 0x03, 0x10, 0x00, 0x20, 0xff,
+                                 0x0f};
+
+static int reads_locations(void)
+{
+    static const uint8_t pointers[6] = {0, 1, 0xfe, 0xff, 1, 0xfe};
+    int good = currantplane_statement(location) == 7 && currantplane_fault(location) == CURRANTPLANE_LEAK;
+    for (size_t i = 0; i < 6; i++) good = good && currantplane_pointer(location, i) == pointers[i];
+    good = good && currantplane_successor(location, 0) == 1 && currantplane_successor(location, 1) == 0xff;
+    return good && currantplane_nodes(location) == 2;
+}
+
+static int reads_edges(void)
+{
+    int ends = currantplane_from(edge) == 0x0234 && currantplane_to(edge) == 0x03ff;
+    int first = currantplane_guard(edge, 0) == CURRANTPLANE_IS_ONE && currantplane_guarded(edge, 0) == 9;
+    int second = currantplane_guard(edge, 1) == CURRANTPLANE_IS_MORE && currantplane_guarded(edge, 1) == 11;
+    int next = currantplane_at(edge, 1) == edge + 32 && currantplane_guard(currantplane_at(edge, 1), 1) == 0;
+    return currantplane_branch(edge) == 1 && currantplane_word(edge + 2) == 0x0234 && ends && first && second && next;
+}
+
+static int reads_updates(void)
+{
+    static const uint16_t updates[4] = {0x1003, 0x2000, 0x0fff, 0}, added[4] = {3, 0, 0x0fff, 0};
+    static const int constants[4] = {0, 1, -1, -1};
+    int good = 1;
+    for (size_t i = 0; i < 4; i++) {
+        uint16_t update = currantplane_update(edge, i);
+        good = good && update == updates[i] && currantplane_added(update) == added[i];
+        good = good && currantplane_constant(update) == constants[i];
+    }
+    return good;
+}
+
+/* each call with nothing lent to it */
+static int answers(void)
+{
+    size_t places[3] = {9, 9, 9};
+    int good = currantplane_translate(NULL, 0, NULL, 0, NULL, 0, NULL, 0) == CURRANTPLANE_BAD_LENGTH;
+    good = good && currantplane_record(NULL, 0, NULL, 0, 0, 0, 0, 0, NULL, 0) == CURRANTPLANE_NO_RECORD;
+    good = good && currantplane_fold(NULL, 0, NULL, 0, NULL, 0, NULL, 0, &places[0]) == CURRANTPLANE_BAD_HEAP;
+    good = good && currantplane_unfold(NULL, 0, NULL, 0, NULL, 0, NULL, 0, &places[1]) == CURRANTPLANE_BAD_HEAP;
+    good = good && currantplane_step(NULL, 0, NULL, 0, NULL, 0, 0, 0, NULL, 0, &places[2]) == CURRANTPLANE_BAD_HEAP;
+    return good && places[0] == 0 && places[1] == 0 && places[2] == 0;
+}
+
+int main(void)
+{
+    if (!reads_locations()) return 1;
+    if (!reads_edges()) return 2;
+    if (!reads_updates()) return 3;
+    return answers() ? 0 : 4;
+}

@@ -1,0 +1,218 @@
+/* The request's shelf cases that are executed, with what must come written out. */
+#include "check.h"
+
+#include <stdio.h>
+#include <string.h>
+
+enum { N = CURRANTPLANE_NULL, U = CURRANTPLANE_UNDEFINED, F = CURRANTPLANE_UNUSED };
+
+static const struct told accepted = {0, 0, 0, 0};
+
+/* A table of records, each given by its first bytes. */
+static void put_record(uint8_t *table, size_t number, const uint8_t *first, size_t length)
+{
+    memset(table + 32 * number, 0, 32);
+    memcpy(table + 32 * number, first, length);
+}
+
+static void put_statement(uint8_t *table, size_t number, enum currantplane_op op, uint8_t u, size_t first)
+{
+    uint8_t record[5] = {CURRANTPLANE_RECORD_S, (uint8_t)op, u, 0, (uint8_t)first};
+    put_record(table, number, record, sizeof record);
+}
+
+/* P1: statement 0 frees pointer 0 and goes to 1, which stops; pointer 0 at a list. */
+static void try_p1(size_t locations_length, size_t edges_length, uint8_t refusal)
+{
+    static const uint8_t shape[11] = {CURRANTPLANE_RECORD_H, 0, 0, 1, 0, N, N, N, N, N, N};
+    static const uint8_t start[11] = {CURRANTPLANE_RECORD_L, 0, 0, 1, 0, N, N, N, N, N, N};
+    static const uint8_t freed[10] = {CURRANTPLANE_RECORD_L, 1, 0, 0, U, N, N, N, N, N};
+    static const uint8_t fault[4] = {CURRANTPLANE_RECORD_L, 0, CURRANTPLANE_LEAK, 0};
+    static const uint8_t one[8] = {CURRANTPLANE_RECORD_E, 0, 0, 0, 1, 0, CURRANTPLANE_IS_ONE, 0};
+    static const uint8_t more[8] = {CURRANTPLANE_RECORD_E, 0, 0, 0, 2, 0, CURRANTPLANE_IS_MORE, 0};
+    uint8_t input[96], locations[96], edges[64];
+    put_statement(input, 0, CURRANTPLANE_FREE, 0, 1);
+    put_statement(input, 1, CURRANTPLANE_STOP, 0, 0);
+    put_record(input, 2, shape, sizeof shape);
+    put_record(locations, 0, start, sizeof start);
+    put_record(locations, 1, freed, sizeof freed);
+    put_record(locations, 2, fault, sizeof fault);
+    put_record(edges, 0, one, sizeof one);
+    put_record(edges, 1, more, sizeof more);
+    struct told told = {refusal, 0, refusal ? 0 : 3, refusal ? 0 : 2};
+    struct translation t = {input, sizeof input, locations_length, edges_length, told, locations, edges};
+    try_translation(SHELF, &t);
+}
+
+static void p1_three_locations(void) { try_p1(96, 64, 0); }
+static void p1_two_locations(void) { try_p1(64, 64, CURRANTPLANE_NO_LOCATION); }
+static void p1_one_edge(void) { try_p1(96, 32, CURRANTPLANE_NO_EDGE); }
+static void p1_bench(void) { try_p1(4096, 8192, 0); }
+
+/* Skips to a stop, over shapes without nodes: shape n has undefined pointers where n has ones. No edge splits, so each
+ * shape comes by each statement, and the locations stand shape by shape at each. */
+static void try_skips(size_t statements, size_t shapes, uint8_t refusal)
+{
+    static uint8_t input[32 * 100], locations[32 * 1024], edges[32 * 1024];
+    for (size_t s = 0; s < statements; s++)
+        put_statement(input, s, s + 1 < statements ? CURRANTPLANE_SKIP : CURRANTPLANE_STOP, 0,
+                      s + 1 < statements ? s + 1 : 0);
+    for (size_t h = 0; h < shapes; h++) {
+        uint8_t record[10] = {CURRANTPLANE_RECORD_H, 0, 0, 0};
+        for (size_t p = 0; p < 6; p++) record[4 + p] = h >> p & 1 ? U : N;
+        put_record(input, statements + h, record, sizeof record);
+        record[0] = CURRANTPLANE_RECORD_L;
+        for (size_t s = 0; s < statements; s++) {
+            record[1] = (uint8_t)s;
+            put_record(locations, s * shapes + h, record, sizeof record);
+        }
+    }
+    for (size_t from = 0; from < (statements - 1) * shapes; from++) {
+        size_t to = from + shapes;
+        uint8_t record[6] = {CURRANTPLANE_RECORD_E};
+        for (size_t i = 0; i < 2; i++) {
+            record[2 + i] = (uint8_t)(from >> 8 * i);
+            record[4 + i] = (uint8_t)(to >> 8 * i);
+        }
+        put_record(edges, from, record, sizeof record);
+    }
+    struct told told = {refusal, 0, refusal ? 0 : statements * shapes, refusal ? 0 : (statements - 1) * shapes};
+    struct translation t = {input, 32 * (statements + shapes), sizeof locations, sizeof edges, told, locations, edges};
+    try_translation(SHELF, &t);
+}
+
+static void statements_64(void) { try_skips(64, 2, 0); }
+static void statements_65(void) { try_skips(65, 2, CURRANTPLANE_BAD_STATEMENTS); }
+static void shapes_16(void) { try_skips(3, 16, 0); }
+static void shapes_17(void) { try_skips(3, 17, CURRANTPLANE_BAD_SHAPES); }
+
+/* Two lists, one that ends in null and one with an undefined end. */
+static const uint8_t two_lists[32] = {CURRANTPLANE_RECORD_H, 0, 0, 2, 0, 1, N, N, N, N, N, U};
+
+static void lists_of(struct heap *heap, size_t first, size_t second, size_t cells)
+{
+    static const uint8_t pointers[6] = {0, 0, N, N, N, N};
+    memset(heap, 0, sizeof *heap);
+    heap->pointers_length = 6;
+    heap->cells_length = cells;
+    memcpy(heap->pointers, pointers, 6);
+    heap->pointers[1] = (uint8_t)first;
+    for (size_t c = 0; c < cells; c++) heap->cells[c] = c < first + second ? (uint8_t)(c + 1) : F;
+    heap->cells[first - 1] = N;
+    heap->cells[first + second - 1] = U;
+}
+
+static void sum_240(void)
+{
+    static struct heap heap;
+    static const uint32_t counters[12] = {200, 40};
+    lists_of(&heap, 200, 40, 240);
+    try_unfold(SHELF, two_lists, 32, counters, 12, &heap, &accepted);
+    try_fold(SHELF, &heap, &accepted, two_lists, counters);
+}
+
+static void sum_241(void)
+{
+    static struct heap heap;
+    static const uint32_t counters[12] = {200, 41};
+    static const struct told told = {CURRANTPLANE_BAD_COUNTERS, 0, 0, 0};
+    lists_of(&heap, 200, 40, 240);
+    try_unfold(SHELF, two_lists, 32, counters, 12, &heap, &told);
+}
+
+static void cells_240(void)
+{
+    static struct heap heap;
+    static const uint32_t counters[12] = {100, 39};
+    lists_of(&heap, 100, 39, 240);
+    try_fold(SHELF, &heap, &accepted, two_lists, counters);
+    try_unfold(SHELF, two_lists, 32, counters, 12, &heap, &accepted);
+}
+
+static void cells_241(void)
+{
+    static struct heap heap;
+    static const uint8_t nothing[32];
+    static const uint32_t none[12];
+    static const struct told told = {CURRANTPLANE_BAD_HEAP, 0, 0, 0};
+    lists_of(&heap, 100, 39, 241);
+    try_fold(SHELF, &heap, &told, nothing, none);
+}
+
+/* Each op on a small heap: pointer 0 at cells 0 and 1, pointer 1 at cell 2 with an undefined next, cell 3 not in use.
+ * The pointer and the cell that the step may change, with what they then hold, and what it answers. */
+static void each_op(void)
+{
+    static const struct heap small = {6, 4, {0, 2, N, U, 0, N}, {1, N, U, F}};
+    static const struct {
+        uint8_t op, u, w, second, pointer, pointer_after, cell, cell_after, answer[4];
+    } rows[13] = {
+        {CURRANTPLANE_STOP, 0, 0, 0, 0, 0, 0, 1, {0, 1, 0, 0}},
+        {CURRANTPLANE_SET_NULL, 4, 0, 0, 4, N, 0, 1, {0, 0, 0, 7}},
+        {CURRANTPLANE_COPY, 2, 1, 0, 2, 2, 0, 1, {0, 0, 0, 7}},
+        {CURRANTPLANE_LOAD, 2, 0, 0, 2, 1, 0, 1, {0, 0, 0, 7}},
+        {CURRANTPLANE_CLEAR, 1, 0, 0, 0, 0, 2, N, {0, 0, 0, 7}},
+        {CURRANTPLANE_STORE, 1, 0, 0, 0, 0, 2, 0, {0, 0, 0, 7}},
+        {CURRANTPLANE_NEW, 5, 0, 0, 5, 3, 3, U, {0, 0, 0, 7}},
+        {CURRANTPLANE_FREE, 1, 0, 0, 1, U, 2, F, {0, 0, 0, 7}},
+        {CURRANTPLANE_TEST_NULL, 2, 0, 9, 0, 0, 0, 1, {0, 0, 0, 7}},
+        {CURRANTPLANE_TEST_SAME, 0, 1, 9, 0, 0, 0, 1, {0, 0, 1, 9}},
+        {CURRANTPLANE_CHOOSE, 0, 0, 9, 0, 0, 0, 1, {0, 0, 1, 9}},
+        {CURRANTPLANE_SKIP, 0, 0, 0, 0, 0, 0, 1, {0, 0, 0, 7}},
+        {CURRANTPLANE_RELINK, 1, 0, 0, 0, 0, 2, 1, {0, 0, 0, 7}},
+    };
+    given.pick = 1;
+    given.cell = 3;
+    for (size_t i = 0; i < 13; i++) {
+        uint8_t target = rows[i].op == CURRANTPLANE_STOP ? 0 : 7;
+        uint8_t record[32] = {CURRANTPLANE_RECORD_S, rows[i].op, rows[i].u, rows[i].w, target, rows[i].second};
+        struct heap after = small;
+        after.pointers[rows[i].pointer] = rows[i].pointer_after;
+        after.cells[rows[i].cell] = rows[i].cell_after;
+        try_step(SHELF, &small, record, 32, &after, &accepted, rows[i].answer);
+    }
+}
+
+/* What is only read may overlap: one table for both; and a ring of six cells whose bytes are the pointers too. */
+static void overlaps(void)
+{
+    static const uint8_t table[96], ring[6] = {1, 2, 3, 4, 5, 0};
+    static const uint8_t six_nodes[32] = {CURRANTPLANE_RECORD_H, 0, 0, 6, 0, 1, 2, 3, 4, 5, 1, 2, 3, 4, 5, 0};
+    static const uint32_t ones[12] = {1, 1, 1, 1, 1, 1};
+    size_t answer[3], place;
+    uint8_t shape[32], last = currantplane_record(table, 96, table, 96, 3, 3, CURRANTPLANE_EDGES, 2, answer, 3);
+    uint32_t counters[12];
+    look(SHELF, last == 0 && answer[0] == 0 && answer[1] == 64 && answer[2] == 32, "the last record");
+    look(SHELF, currantplane_fold(ring, 6, ring, 6, shape, 32, counters, 12, &place) == 0 && place == 0, "the ring");
+    look(SHELF, memcmp(shape, six_nodes, 32) == 0 && memcmp(counters, ones, sizeof ones) == 0, "its six nodes");
+}
+
+unsigned shelf_cases(unsigned *failed)
+{
+    static const struct {
+        const char *name;
+        void (*run)(void);
+    } cases[] = {
+        {"P1 in three L places", p1_three_locations}, {"P1 in two L places: 11", p1_two_locations},
+        {"P1 in one E place: 12", p1_one_edge},       {"P1 in the bench's tables", p1_bench},
+        {"64 S", statements_64},                      {"65 S: 2", statements_65},
+        {"16 H", shapes_16},                          {"17 H: 3", shapes_17},
+        {"counters of 240 unfold", sum_240},          {"counters of 241: 15", sum_241},
+        {"240 cells fold", cells_240},                {"241 cells: 13", cells_241},
+        {"a step of each op", each_op},               {"what is read may overlap", overlaps},
+    };
+    unsigned passed = 0;
+    for (size_t i = 0; i < sizeof cases / sizeof cases[0]; i++) {
+        uint64_t before = all_failed();
+        /* each case several times, as buffers stand otherwise each time */
+        for (unsigned turn = 0; turn < 40; turn++) {
+            begin(cases[i].name, turn);
+            cases[i].run();
+        }
+        int good = all_failed() == before;
+        passed += (unsigned)good;
+        *failed += (unsigned)!good;
+        printf("  %-28s %s\n", cases[i].name, good ? "as it must be" : "FAILED");
+    }
+    return passed;
+}

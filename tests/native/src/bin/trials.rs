@@ -1,0 +1,303 @@
+//! trials SEED..: inputs with what the second translator answers, for a program in C (tests/controller) to try on the
+//! proved library. Nothing here calls that library. Each seed gives half of what the program wants to see, on a thread
+//! of its own.
+//!
+//! A trial is a letter with its fields. A number has 8 bytes, the low byte first; bytes stand after how many they are.
+//! What is given stands first, then what is told: refusal, place, and the rest.
+//!   T  input, lengths of both tables; counts, L records, E records; refusal, place and counts with full tables
+//!   F  pointers, cells; shape, twelve counters
+//!   U  record, number of counters, these, lengths of pointers and cells; pointers and cells, none where refused
+//!   S  pointers, cells, statement, pick, cell; answer (four bytes), pointers, cells
+//!   R  lengths of both tables, both counts, which table, number; where the record begins, its length
+//!   Z  the end: how many trials there were
+
+use native::damage::{drawn_routine, many_nodes, spoil_shape};
+use native::draw::{damage_record, damaged_image, image, statement, Draw};
+use native::rings::{exact, fork, full, plain_ring, ring, ring_at_border, FULL};
+use reference::{Refusal, Stepped, Translated};
+use std::collections::HashSet;
+use std::io::Write;
+
+/// How many trials of each kind a seed gives.
+const RANDOM: usize = 8_500;
+const BORDER: usize = 2_500;
+const EXACT: usize = 20;
+const OTHER: usize = 2_500;
+const HEAPS: usize = 10_200;
+const FEW: usize = 2_600;
+
+/// The bytes of the bench's tables.
+const BENCH: [usize; 2] = [4_096, 8_192];
+
+#[derive(Default)]
+struct Stream {
+    bytes: Vec<u8>,
+    trials: usize,
+}
+
+impl Stream {
+    fn begin(&mut self, letter: u8) {
+        self.bytes.push(letter);
+        self.trials += 1;
+    }
+
+    fn number(&mut self, number: usize) {
+        self.bytes.extend_from_slice(&(number as u64).to_le_bytes());
+    }
+
+    fn numbers(&mut self, numbers: &[usize]) {
+        numbers.iter().for_each(|&number| self.number(number));
+    }
+
+    fn block(&mut self, bytes: &[u8]) {
+        self.number(bytes.len());
+        self.bytes.extend_from_slice(bytes);
+    }
+
+    /// A refusal's number and place, both 0 for none.
+    fn refusal(&mut self, refusal: Option<Refusal>) {
+        let Refusal { number, place } = refusal.unwrap_or(Refusal { number: 0, place: 0 });
+        self.numbers(&[number.into(), place]);
+    }
+}
+
+/// The records in use; all bytes after them are zero.
+fn in_use(mut table: Vec<u8>, count: usize) -> Vec<u8> {
+    let rest = table.split_off(32 * count);
+    assert!(rest.iter().all(|&byte| byte == 0));
+    table
+}
+
+fn translation(out: &mut Stream, input: &[u8], lengths: [usize; 2], full: Translated) -> Translated {
+    let [mut locations, mut edges] = lengths.map(|length| vec![0xa5; length]);
+    let told = reference::translate(input, &mut locations, &mut edges);
+    out.begin(b'T');
+    out.block(input);
+    out.numbers(&lengths);
+    out.numbers(&[told.refusal.into(), told.place, told.locations, told.edges]);
+    out.block(&in_use(locations, told.locations));
+    out.block(&in_use(edges, told.edges));
+    out.numbers(&[full.refusal.into(), full.place, full.locations, full.edges]);
+    told
+}
+
+/// Listings that just fit the bench's tables, and that just do not: which refusal must come.
+fn at_the_limits(out: &mut Stream, d: &mut Draw) {
+    type Wanted = fn(usize, usize) -> bool;
+    let limits: [(Wanted, u8); 5] = [
+        (|l, e| l == 128 && e <= 256, 0),
+        (|l, e| l == 129 && e <= 256, 11),
+        (|l, e| l <= 128 && e == 256, 0),
+        (|l, e| l <= 128 && e == 257, 12),
+        (|l, e| l == 128 && e == 256, 0),
+    ];
+    for (wanted, refusal) in limits {
+        let mut different = HashSet::new();
+        while different.len() < EXACT {
+            let (input, listed) = exact(d, wanted);
+            let told = translation(out, &input, BENCH, listed);
+            assert_eq!(told.refusal, refusal);
+            different.insert(input);
+        }
+    }
+    for chooses in 0..EXACT {
+        let (input, listed) = plain_ring(d, 64, 2, 64);
+        assert_eq!(translation(out, &input, BENCH, listed).refusal, 0);
+        let (input, listed) = plain_ring(d, 43, 3, 2 * chooses);
+        assert_eq!(translation(out, &input, BENCH, listed).refusal, 11);
+    }
+}
+
+/// Lengths of tables: any, few places, none, what the full listing needs, and less or more than that.
+fn lengths(d: &mut Draw, full: &Translated) -> [usize; 2] {
+    let [l, e] = [32 * full.locations, 32 * full.edges];
+    match d.below(12) {
+        0 => [d.below(400), d.below(600)],
+        1 => [32 * d.below(12), 32 * d.below(12)],
+        2 => [d.below(40_000), d.below(70_000)],
+        3 => [[0, e], [l, 0], [0, 0], [0, FULL[1]], [FULL[0], 0]][d.below(5)],
+        4 => FULL,
+        5 | 6 => [l, e],
+        7 => [l.saturating_sub(32), e],
+        8 => [l, e.saturating_sub(32)],
+        9 => [l.saturating_sub(1), e],
+        10 => [l, e.saturating_sub(1)],
+        _ => [l + d.below(64), e + d.below(64)],
+    }
+}
+
+fn translations(out: &mut Stream, d: &mut Draw) {
+    for i in 0..RANDOM {
+        let input = drawn_routine(d, i);
+        translation(out, &input, BENCH, full(&input));
+    }
+    for i in 0..BORDER {
+        let ring = if i % 50 == 0 { ring(d, 400) } else { ring_at_border(d) };
+        let input = fork(&ring, i % 3, i % 2);
+        translation(out, &input, BENCH, full(&input));
+    }
+    at_the_limits(out, d);
+    for i in 0..OTHER {
+        let input = if i % 10 == 0 { fork(&ring_at_border(d), 1, 1) } else { drawn_routine(d, i) };
+        let listed = full(&input);
+        translation(out, &input, lengths(d, &listed), listed);
+    }
+}
+
+/// The most cells: small heaps and large ones.
+fn cells(i: usize) -> usize {
+    [3, 8, 16, 60, 240][i % 5]
+}
+
+/// Small and large heaps, some with many nodes.
+fn heap(d: &mut Draw, i: usize) -> (Vec<u8>, Vec<u8>) {
+    if !d.one_in(15) {
+        return image(d, cells(i));
+    }
+    let record = many_nodes(d);
+    let mut counters = [0; 12];
+    counters[..record[3].into()].fill_with(|| 1 + d.below(20) as u32);
+    let (mut pointers, mut cells) = (vec![0; 6], vec![0; 240]);
+    reference::unfold(&record, &counters, &mut pointers, &mut cells).expect("240 cells suffice");
+    (pointers, cells)
+}
+
+fn folds(out: &mut Stream, d: &mut Draw) {
+    for i in 0..HEAPS {
+        let (pointers, cells) = if i % 4 == 0 { heap(d, i) } else { damaged_image(d, cells(i)) };
+        let told = reference::fold(&pointers, &cells);
+        out.begin(b'F');
+        out.block(&pointers);
+        out.block(&cells);
+        out.refusal(told.refusal);
+        out.block(&told.record);
+        out.numbers(&told.counters.map(|counter| counter as usize));
+    }
+}
+
+fn steps(out: &mut Stream, d: &mut Draw) {
+    for i in 0..HEAPS {
+        let (mut pointers, mut cells) = if d.one_in(6) { damaged_image(d, cells(i)) } else { heap(d, i) };
+        let record = if d.one_in(200) { Vec::new() } else { statement(d) };
+        let pick = if d.one_in(5) { d.number() as u8 } else { d.below(2) as u8 };
+        let cell = if d.one_in(20) { usize::MAX - d.below(2) } else { d.below(cells.len() + 2) };
+        out.begin(b'S');
+        out.block(&pointers);
+        out.block(&cells);
+        out.block(&record);
+        out.numbers(&[pick.into(), cell]);
+        let (refusal, answer) = match reference::step(&mut pointers, &mut cells, &record, pick.into(), cell as u64) {
+            Stepped::Refused(refusal) => (Some(refusal), [0; 4]),
+            Stepped::Stop => (None, [0, 1, 0, 0]),
+            Stepped::Fault(fault) => (None, [fault, 0, 0, 0]),
+            Stepped::Moved { branch, next } => (None, [0, 0, branch, next]),
+        };
+        out.refusal(refusal);
+        out.block(&answer);
+        out.block(&pointers);
+        out.block(&cells);
+    }
+}
+
+/// A shape with counters, one of them or their number now and then changed, and the lengths of a heap for them.
+fn drawn_unfolding(d: &mut Draw, i: usize) -> (Vec<u8>, Vec<u32>, [usize; 2]) {
+    let (pointers, cells) = heap(d, i);
+    let folded = reference::fold(&pointers, &cells);
+    let (mut record, mut counters) = (folded.record.to_vec(), folded.counters.to_vec());
+    let sum = counters.iter().sum::<u32>() as usize;
+    if d.one_in(12) {
+        spoil_shape(d, &mut record);
+    }
+    damage_record(d, &mut record);
+    match d.below(16) {
+        0 => counters[d.below(12)] = d.below(3) as u32,
+        1 => counters[d.below(12)] = u32::MAX - d.below(2) as u32,
+        2 => counters.resize(d.below(15), 0),
+        _ => {}
+    }
+    let room = match d.below(40) {
+        0 | 1 => sum.saturating_sub(1),
+        2 => 241 + d.below(20),
+        _ => (sum + [0, 0, 1, 3][d.below(4)]).min(240),
+    };
+    (record, counters, [if d.one_in(30) { d.below(9) } else { 6 }, room])
+}
+
+fn unfoldings(out: &mut Stream, d: &mut Draw) {
+    for i in 0..FEW {
+        let (record, counters, lengths) = drawn_unfolding(d, i);
+        let [mut pointers, mut cells] = lengths.map(|length| vec![0xa5; length]);
+        let refusal = reference::unfold(&record, &counters, &mut pointers, &mut cells).err();
+        if refusal.is_some() {
+            assert!(pointers.drain(..).chain(cells.drain(..)).all(|byte| byte == 0xa5));
+        }
+        out.begin(b'U');
+        out.block(&record);
+        out.number(counters.len());
+        counters.iter().for_each(|&counter| out.number(counter as usize));
+        out.numbers(&lengths);
+        out.refusal(refusal);
+        out.block(&pointers);
+        out.block(&cells);
+    }
+}
+
+/// At a limit, beside it, far below it, or anything.
+fn near(d: &mut Draw, n: usize) -> usize {
+    match d.below(8) {
+        0 => n,
+        1 => n.saturating_add(1),
+        2 => n.saturating_sub(1),
+        3 if d.one_in(3) => [usize::MAX, usize::MAX / 32, usize::MAX / 32 + 1, 1 << 59, 1 << 32][d.below(5)],
+        _ => d.below(n),
+    }
+}
+
+fn records(out: &mut Stream, d: &mut Draw) {
+    let bytes = vec![7; 70_000];
+    for i in 0..FEW {
+        let lengths = [1024, 2048].map(|most| match d.below(4) {
+            0 => d.below(70),
+            1 => d.below(32 * most),
+            2 => 32 * most - 33 + d.below(100),
+            _ => most * 4,
+        });
+        let places = [(lengths[0] / 32).min(1024), (lengths[1] / 32).min(2048)];
+        let counts = if i % 2 == 0 { places.map(|n| d.below(n + 1)) } else { places.map(|n| near(d, n)) };
+        let table = if d.one_in(8) { near(d, 3) } else { d.below(2) };
+        let number = near(d, counts[table.min(1)]);
+        let [locations, edges] = lengths.map(|length| &bytes[..length]);
+        let told = reference::record_part(locations, edges, counts[0], counts[1], table, number);
+        let begins = told.map_or(0, |part| part.as_ptr() as usize - bytes.as_ptr() as usize);
+        out.begin(b'R');
+        out.numbers(&lengths);
+        out.numbers(&counts);
+        out.numbers(&[table, number]);
+        out.refusal(told.err());
+        out.numbers(&[begins, told.map_or(0, <[u8]>::len)]);
+    }
+}
+
+fn batch(seed: u64) -> Stream {
+    let (mut out, mut d) = (Stream::default(), Draw::new(seed));
+    for kind in [translations, folds, steps, unfoldings, records] {
+        kind(&mut out, &mut d);
+    }
+    out
+}
+
+fn main() {
+    let seed = |word: String| word.parse().expect("a seed is a number");
+    let seeds: Vec<u64> = std::env::args().skip(1).map(seed).collect();
+    let running: Vec<_> = seeds.into_iter().map(|seed| std::thread::spawn(move || batch(seed))).collect();
+    let (mut to, mut trials) = (std::io::stdout().lock(), 0);
+    for thread in running {
+        let stream = thread.join().expect("a whole batch");
+        to.write_all(&stream.bytes).expect("a stream that can be written to");
+        trials += stream.trials;
+    }
+    let mut end = Stream::default();
+    end.begin(b'Z');
+    end.number(trials);
+    to.write_all(&end.bytes).expect("a stream that can be written to");
+}
