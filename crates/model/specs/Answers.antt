@@ -2,7 +2,7 @@
 -- nothing.
 use Prim.Native.Nat.{ℕ}
 use mathlib.Core.List.{List, [], _∷_}
-use Rattle.model.specs.Records.{Refusal, refusal, Verdict, isAccepted, isRefused}
+use Rattle.model.specs.Records.{Refusal, refusal, refusalAt, Verdict, isAccepted, isRefused}
 use Rattle.model.specs.Translate.{Outcome}
 use Rattle.model.specs.Image.{Folding, Unfolding, StepAnswer, toNext, toFault, toStop, noStep, Stepping}
 use Rattle.model.specs.declared.Ended.{Ended}
@@ -15,15 +15,15 @@ use Rattle.model.specs.declared.Stepped.the-variants as stepped
 
 abbrev pub verdictOf : Ended → Verdict
 verdictOf ended.Accepted = isAccepted
-verdictOf (ended.Refused n p) = isRefused (refusal n p)
+verdictOf (ended.Refused n p v) = isRefused (refusalAt n p (v .0))
 
 -- the answer of `translate` with the bytes of the two tables
 abbrev pub outcomeOf : Translated → List ℕ → List ℕ → Outcome
 outcomeOf (translated.Listed l e) ls es =
     record { verdict = isAccepted; tables = record { locBytes = ls; edgeBytes = es; locCount = l; edgeCount = e } }
-outcomeOf (translated.Refused n p) ls es =
+outcomeOf (translated.Refused n p v) ls es =
     record {
-      verdict = isRefused (refusal n p);
+      verdict = isRefused (refusalAt n p (v .0));
       tables = record {
         locBytes = ls;
         edgeBytes = es;

@@ -158,7 +158,7 @@ CanonicalIs = (h : Heap) → closed h ≡ true → (canonical h ≡ true)
 pub canonical-is-shape : CanonicalIs
 canonical-is-shape h k =
     let r = kept-is-reachable h k in
-    let q = canonical-is h in (
+    let q = canonical-is h (test-closed h k) in (
       (λ e. let z = q .0 e in (r .0 (kept-test h (z .0)), z .1, z .2)),
       λ z. q .1
           (test-kept h (r .1 (z .0)), z .1, z .2),

@@ -1,7 +1,8 @@
 -- What the checks of the input say of an accepted one: its starting shapes are shapes with six pointers, and no two
 -- are equal.
 use Prim.Native.Nat.{_%_, _*_, _/_, _≤_, suc, zero, ℕ}
-use Rattle.model.proofs.records.Checks.{none-failed}
+use Rattle.model.proofs.records.Checks.{none-failed, pass-after, pass-before}
+use Rattle.model.proofs.records.NodeChecks.{nodes-pass}
 use mathlib.Core.Path.{_∙_, _≡_, ap, refl, subst, sym}
 use mathlib.Core.Logic.{inl, inr}
 use mathlib.Core.Option.{Option, none, some}
@@ -14,7 +15,7 @@ use lib.Seq.{length-take-le}
 use borrow.Author.Tests.{eqb-true, leb-true, not-true}
 use Rattle.model.specs.Base.{all, any, count, sameList}
 use Rattle.model.specs.Heap.{Heap}
-use Rattle.model.specs.Records.{Refusal, isH, isS, layoutH, refusal, refusalH, refusalS, shapeOf, shapeRecord, checksH}
+use Rattle.model.specs.Records.{Refusal, checksH, checksNodes, checksRecord, failedNode, firstFailed, isH, layoutH, refusalAt, refusalH, shapeOf, shapeRecord, isS, unless}
 use Rattle.model.specs.Shape.{canonical}
 use Rattle.model.specs.Translate.{Routine, bad, badKind, badRecord, between, check, checkCounts, checkKinds, checkRecords, chunks, good}
 use Rattle.model.specs.Notions.{Canon, Distinct, In}
@@ -36,24 +37,31 @@ pub accepted-h : (earlier : List (List ℕ)) (r : List ℕ) → refusalH earlier
     → (layoutH r ≡ true) × (canonical (shapeOf r) ≡ true) × (any (sameList eqb r) earlier ≡ false)
 accepted-h earlier r e =
     let p = none-failed (checksH earlier r) refl e in
-    (p .0, p .1 .0, not-true (any (sameList eqb r) earlier) (p .1 .1 .0))
+    let ns = checksNodes (shapeOf r) in
+    let rest = unless 10 (not (any (sameList eqb r) earlier)) ∷ [] in (
+      p .0,
+      nodes-pass (shapeOf r) .0 (pass-before ns rest (p .1)),
+      not-true (any (sameList eqb r) earlier) (pass-after ns rest (p .1) .0),
+    )
 
 -- each record of the list is accepted after those before it
 abbrev Accepted : ℕ → List (List ℕ) → List (List ℕ) → Type 0
 Accepted n earlier [] = Unit {0}
-Accepted n earlier (r ∷ rs) = (cond (isS r) (refusalS n r) (refusalH earlier r) ≡ 0) × Accepted n (r ∷ earlier) rs
+Accepted n earlier (r ∷ rs) = (firstFailed (checksRecord n earlier r) ≡ 0) × Accepted n (r ∷ earlier) rs
 
 records-accepted : (n i : ℕ) (earlier rs : List (List ℕ)) → badRecord n i earlier rs ≡ none → Accepted n earlier rs
 records-accepted n i earlier [] e = tt
 records-accepted n i earlier (r ∷ rs) e =
-    by-refusal (cond (isS r) (refusalS n r) (refusalH earlier r)) refl
+    by-refusal (firstFailed (checksRecord n earlier r)) refl
     (λ z. records-accepted n (suc i) (r ∷ earlier) rs z)
   where
-    by-refusal : (m : ℕ) → cond (isS r) (refusalS n r) (refusalH earlier r) ≡ m
+    by-refusal : (m : ℕ) → firstFailed (checksRecord n earlier r) ≡ m
         → (badRecord n (suc i) (r ∷ earlier) rs ≡ none → Accepted n (r ∷ earlier) rs) → Accepted n earlier (r ∷ rs)
     by-refusal zero q rec = (q, rec (rw (q, badRecord) at e))
-    by-refusal (suc m) q rec = let z : badRecord n i earlier (r ∷ rs) ≡ some (refusal (suc m) i) =
-        rw (q, badRecord) in some-none (sym e ∙ z)
+    by-refusal (suc m) q rec =
+        let z : badRecord n i earlier (r ∷ rs)
+        ≡ some (refusalAt (suc m) i (failedNode (checksRecord n earlier r))) = rw (q, badRecord) in
+        some-none (sym e ∙ z)
 
 later-accepted : (n m : ℕ) (earlier rs : List (List ℕ)) → Accepted n earlier rs → (e : List (List ℕ))
     × Accepted n e (drop m rs)
