@@ -47,6 +47,9 @@ stmtIn d = record { op = opIn d; firstTarget = d .first .0; secondTarget = d .se
 
 -- ---- the first check that fails
 
+abbrev pub failing : ℕ → ℕ → Failure
+failing n v = record { number = n; node = record { 0 = v } }
+
 -- a failure tells the first of the checks that does not pass, and its node
 pub record Tells (cs : List Row) (f : Failure) : Type 0 where
   pub number : f .number ≡ firstFailed cs

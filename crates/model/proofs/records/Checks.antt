@@ -10,6 +10,7 @@ use Rattle.model.specs.Image.{verdictBy}
 use Rattle.model.specs.Records.{Row, Refusal, Verdict, failedNode, firstFailed, isAccepted, isRefused, refusalAt}
 use Rattle.model.proofs.lists.Logic.{and-l, and-r, bool-case, clash, or-cases}
 use Rattle.model.specs.Notions.{CheckedBy, Given, Pass}
+use Rattle.model.specs.Structs.{Tells, failing}
 use lib.Dec.{eqb, leb}
 use borrow.Author.Tests.{eqb-true, leb-true}
 
@@ -45,6 +46,17 @@ none-failed (c ∷ cs) k e =
 pub pass-none : (cs : List Row) → Pass cs → firstFailed cs ≡ 0
 pass-none [] p = refl
 pass-none (c ∷ cs) p = rw (p .0, firstFailed) (pass-none cs (p .1))
+
+-- the same of a failure
+pub given-tells : (cs : List Row) (n v : ℕ) → Given cs n v → Tells cs (failing n v)
+given-tells cs n v g = let r = given-failed cs n v g in record { number = sym (r .0); node = sym (r .1) }
+
+pub pass-tells : (cs : List Row) → Pass cs → Tells cs (failing 0 0)
+pass-tells cs p = record { number = sym (pass-none cs p); node = sym (node-none cs p) }
+  where
+    node-none : (xs : List Row) → Pass xs → failedNode xs ≡ 0
+    node-none [] q = refl
+    node-none (c ∷ xs) q = rw (q .0, failedNode) (node-none xs (q .1))
 
 -- a list of checks after another
 pub failed-before : (xs ys : List Row) (m : ℕ) → firstFailed xs ≡ suc m → firstFailed (xs ++ ys) ≡ suc m
