@@ -1,10 +1,11 @@
 // The answers of the calls in numbers, written over the start of what the caller lends, as far as it reaches.
 use model::Ended;
+use model::Node;
 use model::Stepped;
 ghost use mathlib.Core.Path.{_≡_};
 ghost use Prim.Native.Nat.{min};
 ghost use lib.ListN.{set};
-ghost use Rattle.model.specs.Answers.{stepAnswerOf, stepNumbers, verdictOf};
+ghost use Rattle.model.specs.Answers.{refusalOf, stepAnswerOf, stepNumbers, verdictOf};
 ghost use Rattle.model.specs.Image.{stepVerdict};
 ghost use Rattle.answers.specs.Numbers.{over, told, IsTold};
 
@@ -53,6 +54,27 @@ pub fn tell(answer: &mut [usize], place: usize, first: usize, second: usize)
     tell_one(answer, 2, second);
 }
 
+// Puts a refusal's node at the fourth place of the answer.
+pub fn tell_node(answer: &mut [usize], node: Node)
+    ensures { λ _. ⌜ now (answer .exit) ≡ set (now (answer .entry)) 3 (node .0) ⌝ }
+{
+    tell_one(answer, 3, node.0 as usize);
+}
+
+// The node of a refusal, 0 for none.
+pub fn ended_node(ended: Ended) -> Node
+    ensures { λ r. ⌜ r .0 ≡ refusalOf (verdictOf ended) .node ⌝ }
+{
+    match ended {
+        Ended::Accepted => Node(0),
+        Ended::Refused {
+            number: _,
+            place: _,
+            node,
+        } => node,
+    }
+}
+
 // Answers a refusal's number, 0 for none, and writes its place.
 pub fn tell_ended(ended: Ended, place: &mut usize) -> u8
     ensures { λ r. ⌜ IsTold (verdictOf ended) r (now (place .exit)) ⌝ }
@@ -62,7 +84,11 @@ pub fn tell_ended(ended: Ended, place: &mut usize) -> u8
             *place = 0;
             0
         }
-        Ended::Refused { number, place: p } => {
+        Ended::Refused {
+            number,
+            place: p,
+            node: _,
+        } => {
             *place = p;
             number
         }
@@ -92,6 +118,10 @@ pub fn step_ended(stepped: Stepped) -> Ended
         Stepped::Went { branch: _, next: _ } => Ended::Accepted,
         Stepped::Faulted { fault: _ } => Ended::Accepted,
         Stepped::Stopped => Ended::Accepted,
-        Stepped::Refused { number, place } => Ended::Refused { number, place },
+        Stepped::Refused { number, place } => Ended::Refused {
+            number,
+            place,
+            node: Node(0),
+        },
     }
 }

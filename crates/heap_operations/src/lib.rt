@@ -5,6 +5,7 @@ use image_checks::step_refusal;
 use image_checks::unfold_refusal;
 use model::Ended;
 use model::Folded;
+use model::Node;
 use model::Statement;
 use model::Stepped;
 use plain_step::take_step;
@@ -45,6 +46,7 @@ pub fn fold(pointers: &[u8], cells: &[u8]) -> Folded
             ended: Ended::Refused {
                 number: checked.refusal,
                 place: 0,
+                node: Node(0),
             },
             shape: [0u8; model::RECORD],
             counters: [0u32; model::MOST_NODES],
@@ -58,11 +60,13 @@ pub fn unfold(rec: &[u8], counters: &[u32], pointers: &mut [u8], cells: &mut [u8
     ensures { λ r. ⌜ unfoldingOf r (now (pointers .exit)) (now (cells .exit))
         ≡ unfoldImage (now (rec .entry)) (now (counters .entry)) (now (pointers .entry)) (now (cells .entry)) ⌝ }
 {
-    let refusal = unfold_refusal(rec, counters, pointers.len(), cells.len());
-    if refusal != 0 {
+    let failure = unfold_refusal(rec, counters, pointers.len(), cells.len());
+    if failure.number != 0 {
+        let node = failure.node;
         return Ended::Refused {
-            number: refusal,
+            number: failure.number,
             place: 0,
+            node,
         };
     }
     unfolding::unfold_shape(rec, counters, pointers, cells);

@@ -5,7 +5,7 @@ use mathlib.Core.Path.{_≡_}
 use mathlib.Core.List.{List}
 use lib.ListN.{length}
 use Rattle.model.specs.Base.{recordSize, mostStatements, mostShapes}
-use Rattle.model.specs.Records.{refusal}
+use Rattle.model.specs.Records.{refusalAt}
 use Rattle.model.specs.Translate.{Checked as CheckedInput, bad, good, Routine, routineOf}
 use Rattle.model.specs.Listings.{recordsOf}
 use Rattle.input.specs.declared.Checked.{Checked}
@@ -17,11 +17,10 @@ routineIn n s = routineOf n (recordsOf s)
 
 abbrev pub checkedOf : Checked → List ℕ → CheckedInput
 checkedOf (Good n m) s = good (routineIn n s)
-checkedOf (Bad k p) s = bad (refusal k p)
+checkedOf (Bad k p v) s = bad (refusalAt k p (v .0))
 
--- n statements and m shapes are the whole input, neither too many; a refusal of the input has one of the numbers 1 to
--- 10
+-- n statements and m shapes are the whole input, neither too many
 abbrev pub GoodCounts : Checked → List ℕ → Type 0
 GoodCounts (Good n m) s = (1 ≤ n) × (n ≤ mostStatements) × (1 ≤ m) × (m ≤ mostShapes)
     × (recordSize * (n + m) ≡ length s)
-GoodCounts (Bad k p) s = (1 ≤ k) × (k ≤ 10)
+GoodCounts (Bad k p v) s = Unit {0}

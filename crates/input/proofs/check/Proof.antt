@@ -6,7 +6,7 @@ use Rattle.input.proofs.check.Statement.{statement}
 use Rattle.input.proofs.check.Tie as tie
 
 returns : tie.Need-returns
-returns c = (check-length (c .before .before .args .input .now) (c .if1 .taken), (omega arith, omega arith))
+returns c = (check-length (c .before .before .args .input .now) (c .if1 .taken), tt)
 
 check-kinds-requires : tie.Need-check-kinds-requires
 check-kinds-requires c κs = length-even _ (c .if1 .left)

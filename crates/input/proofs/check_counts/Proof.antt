@@ -22,7 +22,7 @@ returns c =
     let n = c .before .before .count-statements .ensures in (
       counts-2 (recordsOf s) (ap (between 1 64) (sym n) ∙ sym (c .before .within .ensures)
           ∙ not-true _ (c .if1 .taken)),
-      (omega arith, omega arith),
+      tt,
     )
 
 sub-shapes : tie.Need-sub-shapes
@@ -45,7 +45,7 @@ returns-2 c =
           (ap (between 1 64) (sym n) ∙ sym (c .before .before .before .within .ensures)
           ∙ not-false _ (c .before .before .if1 .left))
           (ap (between 1 16) (sym m) ∙ sym (c .before .within2 .ensures) ∙ not-true _ (c .if2 .taken)),
-      (omega arith, omega arith),
+      tt,
     )
 
 check-records-requires : tie.Need-check-records-requires

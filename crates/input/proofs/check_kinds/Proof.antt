@@ -15,7 +15,7 @@ returns c =
     let a = c .before .before .before .args in
     let p = c .before .wrong-kind .result in
     let f : kindFound (a .records) p ≡ some p = rw (lt-ltb p (a .records) (c .if1 .taken)) in
-    (kinds-4 (recordsOf (a .input .now)) p (sym (c .before .wrong-kind .ensures) ∙ f), (omega arith, omega arith))
+    (kinds-4 (recordsOf (a .input .now)) p (sym (c .before .wrong-kind .ensures) ∙ f), tt)
 
 check-counts-requires : tie.Need-check-counts-requires
 check-counts-requires c κs =

@@ -11,6 +11,7 @@ use Rattle.model.specs.Records.{Row, Refusal, Verdict, failedNode, first
 use Rattle.model.proofs.lists.Logic.{and-l, and-r, bool-case, clash, or-cases}
 use Rattle.model.specs.Notions.{CheckedBy, Given, Pass}
 use Rattle.model.specs.Structs.{Tells, failing}
+use Rattle.model.specs.declared.Failure.{Failure}
 use lib.Dec.{eqb, leb}
 use borrow.Author.Tests.{eqb-true, leb-true}
 
@@ -51,6 +52,9 @@ pass-none (c ∷ cs) p = rw (p .0, firstFailed) (pass-none cs (p .1))
 pub given-tells : (cs : List Row) (n v : ℕ) → Given cs n v → Tells cs (failing n v)
 given-tells cs n v g = let r = given-failed cs n v g in record { number = sym (r .0); node = sym (r .1) }
 
+pub tells-as : {cs : List Row} {f g : Failure} → f ≡ g → Tells cs g → Tells cs f
+tells-as {cs} e t = subst (Tells cs) (sym e) t
+
 pub pass-tells : (cs : List Row) → Pass cs → Tells cs (failing 0 0)
 pass-tells cs p = record { number = sym (pass-none cs p); node = sym (node-none cs p) }
   where
@@ -80,6 +84,29 @@ node-before (c ∷ xs) ys m e =
 pub node-after : (xs ys : List Row) → Pass xs → failedNode (xs ++ ys) ≡ failedNode ys
 node-after [] ys q = refl
 node-after (c ∷ xs) ys q = rw (q .0, failedNode) (node-after xs ys (q .1))
+
+-- a failure of a check that passes and others after it; and of a list of checks after another
+pub tells-past : (c : Row) (cs : List Row) {f : Failure} → c .passes ≡ true → Tells cs f → Tells (c ∷ cs) f
+tells-past c cs p t = record { number = rw (p, firstFailed) (t .number); node = rw (p, failedNode) (t .node) }
+
+pub tells-before : (xs ys : List Row) {f : Failure} → (f .number ≡ 0 → ⊥) → Tells xs f → Tells (xs ++ ys) f
+tells-before xs ys {f} z t = by-number (firstFailed xs) refl
+  where
+    by-number : (m : ℕ) → firstFailed xs ≡ m → Tells (xs ++ ys) f
+    by-number zero e = absurd (z (t .number ∙ e))
+    by-number (suc m) e = record {
+      number = t .number ∙ e ∙ sym (failed-before xs ys m e);
+      node = t .node ∙ sym (node-before xs ys m e);
+    }
+
+pub tells-after : (xs ys : List Row) {f g : Failure} → Numbered xs → Tells xs g → g .number ≡ 0 → Tells ys f
+    → Tells (xs ++ ys) f
+tells-after xs ys k p z t =
+    let none = sym (p .number) ∙ z in
+    record {
+      number = t .number ∙ sym (failed-after xs ys k none);
+      node = t .node ∙ sym (node-after xs ys (none-failed xs k none));
+    }
 
 pub pass-before : (xs ys : List Row) → Pass (xs ++ ys) → Pass xs
 pass-before [] ys p = tt
