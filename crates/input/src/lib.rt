@@ -22,8 +22,15 @@ ghost use Rattle.input.specs.RecordChecks.{kindFits, kindFound, earlier,
 
 // A routine with its numbers of statements and of starting shapes, or the refusal's number, place and node.
 pub enum Checked {
-    Good { statements: usize, shapes: usize },
-    Bad { number: u8, place: usize, node: Node },
+    Good {
+        statements: usize,
+        shapes: usize,
+    },
+    Bad {
+        number: u8,
+        place: usize,
+        node: Node,
+    },
 }
 
 // ---- the kinds of the records, by their tags

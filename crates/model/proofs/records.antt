@@ -2,6 +2,7 @@
 pub mod Ops
 pub mod Checks
 pub mod NodeChecks
+pub mod ToldNodes
 pub mod Bytes
 pub mod EdgeBack
 pub mod ReadBack

@@ -37,14 +37,25 @@ pub struct Failure {
 
 // What `translate` answers: the two record counts, or a refusal's number, place and node.
 pub enum Translated {
-    Listed { locations: usize, edges: usize },
-    Refused { number: u8, place: usize, node: Node },
+    Listed {
+        locations: usize,
+        edges: usize,
+    },
+    Refused {
+        number: u8,
+        place: usize,
+        node: Node,
+    },
 }
 
 // How a call ends that answers nothing else.
 pub enum Ended {
     Accepted,
-    Refused { number: u8, place: usize, node: Node },
+    Refused {
+        number: u8,
+        place: usize,
+        node: Node,
+    },
 }
 
 // What `fold` answers: how it ended, the H record and the counters.

@@ -18,6 +18,7 @@ use Rattle.model.specs.Heap.{Heap}
 use Rattle.model.specs.Records.{Refusal, checksH, checksNodes, checksRecord, failedNode, firstFailed, isH, layoutH, refusalAt, refusalH, shapeOf, shapeRecord, isS, unless}
 use Rattle.model.specs.Shape.{canonical}
 use Rattle.model.specs.Translate.{Routine, bad, badKind, badRecord, between, check, checkCounts, checkKinds, checkRecords, chunks, good}
+use Rattle.model.specs.Listings.{noRecords, recordsOf}
 use Rattle.model.specs.Notions.{Canon, Distinct, In}
 use Rattle.model.proofs.shapes.Canonical.{canonical-canon}
 use Rattle.model.proofs.expansion.Facts.{test-closed}
@@ -163,14 +164,16 @@ kinds-good rs r w e = by-kind (badKind false 0 rs) refl
     by-kind (some i) q = bad-good (rw (q, checkKinds) at e)
     by-kind none q = counts-good rs r w (kinds-sorted 0 rs q) (rw (q, checkKinds) at e)
 
+-- the records of an input have 32 bytes
+pub records-wide : (s : List ℕ) → noRecords s ≡ false → (x : List ℕ) → In x (recordsOf s) → length x ≡ 32
+records-wide s a =
+    let n = or-false-r (eqb (length s) 0) (not (eqb (length s % 32) 0)) a in
+    let m : length s % 32 ≡ 0 = bool-case (eqb (length s % 32) 0) (eqb-true (length s % 32) 0)
+    (λ z. clash refl (sym (ap not z) ∙ n)) in
+    chunks-wide (length s / 32) s (omega arith)
+
 -- an accepted input has good starting shapes
 pub check-good : (s : List ℕ) (r : Routine) → check s ≡ good r → GoodStarts r
 unfolding check
-check-good s r e = bool-case (eqb (length s) 0 || not (eqb (length s % 32) 0))
-    (λ a. bad-good (rw (a, check) at e))
-    (λ a. kinds-good (chunks (length s / 32) s) r (chunks-wide (length s / 32) s
-    (whole-part (or-false-r (eqb (length s) 0) (not (eqb (length s % 32) 0)) a))) (rw (a, check) at e))
-  where
-    whole-part : not (eqb (length s % 32) 0) ≡ false → length s ≡ 32 * (length s / 32)
-    whole-part h = bool-case (eqb (length s % 32) 0) (λ z. let m = eqb-true (length s % 32) 0 z in omega arith)
-        (λ z. clash refl (sym (ap not z) ∙ h))
+check-good s r e = bool-case (noRecords s) (λ a. bad-good (rw (a, check) at e))
+    (λ a. kinds-good (recordsOf s) r (records-wide s a) (rw (a, check) at e))

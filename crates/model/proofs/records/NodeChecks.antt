@@ -36,7 +36,7 @@ each-first p l = place-test (λ v. not (p v)) l ∙ any-not p l
     any-not q (y ∷ m) = bool-case (q y) (λ e. rw e (any-not q m)) (λ e. rw e)
 
 module _ (p : ℕ → Bool) (h : Heap) {f : ℕ} (e : f ≡ placeOf (λ v. not (p v)) (nodes h)) where
-  first-test : ltb f (length (h .slots)) ≡ not (all p (nodes h))
+  pub first-test : ltb f (length (h .slots)) ≡ not (all p (nodes h))
   first-test = ap₂ ltb e (sym (length-numbers 0 (length (h .slots)))) ∙ each-first p (nodes h)
 
   -- one fails, and the row tells the first; or none does

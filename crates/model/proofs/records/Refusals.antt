@@ -255,7 +255,7 @@ record-number rs i m e =
     (λ a. inl (a, failed-number (λ n. mem n numbersS) (checksS (count isS rs) r) refl m (rw a at e)))
     (λ a. inr (a, failed-number (λ n. mem n numbersH) (checksH (take i rs) r) refl m (rw a at e)))
 
-among : (p : ℕ → Bool) (l : List ℕ) → all p l ≡ true → (n : ℕ) → mem n l ≡ true → p n ≡ true
+pub among : (p : ℕ → Bool) (l : List ℕ) → all p l ≡ true → (n : ℕ) → mem n l ≡ true → p n ≡ true
 among p l k n h = all-in p l n k (mem-in n l h)
 
 -- numbers of the input's that are 5 or more

@@ -26,8 +26,7 @@ returns-2 c =
     let text = take (a .at) (a .text .now) in
     let space = take (p .result) (p .last .1 .0) in
     let p-is : space ≡ text ++ 0x20 ∷ [] = p .ensures .1 in
-    let n-is : take (n .result) (n .last .1 .0) ≡ space ++ decimalOf (a .node .0) = n .ensures .1 in
-    (
+    let n-is : take (n .result) (n .last .1 .0) ≡ space ++ decimalOf (a .node .0) = n .ensures .1 in (
       search needs,
       rw t (n-is ∙ ap (λ l. l ++ decimalOf (a .node .0)) p-is ∙ append-snoc text 0x20 (decimalOf (a .node .0))),
     )
