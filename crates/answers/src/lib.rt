@@ -85,12 +85,12 @@ pub fn tell_ended(ended: Ended, place: &mut usize) -> u8
             0
         }
         Ended::Refused {
-            number,
+            number: n,
             place: p,
             node: _,
         } => {
             *place = p;
-            number
+            n
         }
     }
 }

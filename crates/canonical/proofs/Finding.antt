@@ -6,7 +6,7 @@ use native.Mathlib.Omega.{arith}
 use mathlib.Core.Path.{_≡_, refl, sym, ap, ap₂, subst, _∙_}
 use mathlib.Core.Bool.{Bool, true, false, cond, not}
 use mathlib.Core.List.{List, [], _∷_, _++_}
-use lib.Dec.{eqb}
+use lib.Dec.{eqb, ltb}
 use lib.ListN.{length, getD}
 use borrow.Author.Tests.{eq-eqb, eqb-false, ne-eqb}
 use Rattle.model.specs.Base.{any, mem, numbers, placeOf}
@@ -15,6 +15,13 @@ use Rattle.model.proofs.lists.Numbers.{length-numbers, numbers-mem, numbers-sno
 use lib.Seq.{append-snoc}
 
 -- ---- the loop
+
+-- the two tests: a mark below a bound, and a place that holds another number
+abbrev pub below : List ℕ → ℕ → ℕ → Bool
+below marks bound c = ltb (getD marks c 0) bound
+
+abbrev pub moved : List ℕ → ℕ → Bool
+moved order c = not (eqb (getD order c 0) c)
 
 -- the invariant: the place found, f, is as far past i as it is in the numbers from i on
 abbrev pub Found : (ℕ → Bool) → ℕ → ℕ → ℕ → Type 0

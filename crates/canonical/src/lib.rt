@@ -33,12 +33,13 @@ fn first_moved(order: &[u8], n: usize) -> usize
     requires { ⌜ n ≤ length (now order) ⌝ }
     ensures { λ r. ⌜ r ≡ placeOf (λ c. not (eqb (getD (now (order .entry)) c 0) c)) (numbers 0 n) ⌝ }
 {
-    let mut i = 0;
-    while i < n {
-        if order[i] as usize != i {
-            return i;
+    let mut c = 0;
+    while c < n {
+        let visited = order[c] as usize;
+        if visited != c {
+            return c;
         }
-        i += 1;
+        c += 1;
     }
     n
 }

@@ -1,77 +1,49 @@
 -- `canonical::first_moved` meets its contract: the place found is the first of those left. Assumes nothing.
 use Prim.Native.Nat.{_-_, _<_, _≤_}
 use native.Mathlib.Omega.{arith}
-use mathlib.Core.Path.{_≡_, ap, sym, _∙_}
+use mathlib.Core.Path.{ap}
 use mathlib.Core.Bool.{not}
 use borrow.Author.Needs.{needs}
 use borrow.Author.Tests.{eq-eqb, ne-eqb}
-use lib.Dec.{eqb}
-use lib.ListN.{getD}
 use Rattle.model.specs.Base.{numbers, placeOf}
-use Rattle.canonical.proofs.Finding.{Found, found-here, found-later, found-none, found-start}
+use Rattle.canonical.proofs.Finding.{Found, found-here, found-later, found-none, found-start, moved}
 use Rattle.canonical.proofs.first_moved.Statement.{statement}
 use Rattle.canonical.proofs.first_moved.Tie as tie
 
 abbrev Inv-loop : tie.InvT-loop
-Inv-loop order n i₀ i = (i ≤ n) × Found (λ c. not (eqb (getD order c 0) c)) n (placeOf (λ c. not (eqb (getD order c 0) c)) (numbers 0 n)) i
+Inv-loop order n c₀ c = (c ≤ n) × Found (moved order) n (placeOf (moved order) (numbers 0 n)) c
 
 abbrev μ-loop : tie.MeasureT-loop
-μ-loop order n i₀ i = n - i
+μ-loop order n c₀ c = n - c
 
--- src/lib.rt:37:5
 loop-holds : tie.Need-loop-holds Inv-loop μ-loop
-loop-holds c = let a = c .args in (omega arith, found-start (λ c. not (eqb (getD (a .order .now) c 0) c)) (a .n))
+loop-holds c = let a = c .args in (omega arith, found-start (moved (a .order .now)) (a .n))
 
--- src/lib.rt:38:12
-shared-slice-read-if1 : tie.Need-shared-slice-read-if1 Inv-loop μ-loop
-shared-slice-read-if1 c = search needs
+cast-visited : tie.Need-cast-visited Inv-loop μ-loop
+cast-visited c = omega (arith, c .shared-slice-known .given (c .before .before .loop .c))
 
--- src/lib.rt:38:12
-cast-if1 : tie.Need-cast-if1 Inv-loop μ-loop
-cast-if1 c = omega (arith, c .shared-slice-known .given (c .before .before .loop .i))
-
--- src/lib.rt:39:13
 returns : tie.Need-returns Inv-loop μ-loop
 returns c =
     let a = c .before .before .before .before .args in
     let l = c .before .before .before .loop in
-    let h : l .i < a .n = search needs in
-    found-here (λ c. not (eqb (getD (a .order .now) c 0) c)) (l .inv .1) h (ap not (ne-eqb _ _ (c .if1 .taken)))
+    let h : l .c < a .n = search needs in
+    found-here (moved (a .order .now)) (l .inv .1) h (ap not (ne-eqb _ _ (c .if1 .taken)))
 
--- src/lib.rt:41:9
-add-i : tie.Need-add-i Inv-loop μ-loop
-add-i c = search needs
-
--- src/lib.rt:37:5
-loop-less : tie.Need-loop-less Inv-loop μ-loop
-loop-less c = search needs
-
--- src/lib.rt:37:5
 loop-again : tie.Need-loop-again Inv-loop μ-loop
 loop-again c =
     let a = c .before .before .before .before .args in
     let l = c .before .before .before .loop in
-    let h : l .i < a .n = search needs in
-    (omega arith, found-later (λ c. not (eqb (getD (a .order .now) c 0) c)) (l .inv .1) h (ap not (eq-eqb _ _ (c .if1 .left))))
+    let h : l .c < a .n = search needs in
+    (omega arith, found-later (moved (a .order .now)) (l .inv .1) h (ap not (eq-eqb _ _ (c .if1 .left))))
 
--- src/lib.rt:32:1
 returns-2 : tie.Need-returns-2 Inv-loop μ-loop
 returns-2 c =
     let a = c .before .before .args in
     let l = c .before .loop in
-    found-none (λ c. not (eqb (getD (a .order .now) c 0) c)) (l .inv .1) (c .loop-test .left) (l .inv .0)
+    found-none (moved (a .order .now)) (l .inv .1) (c .loop-test .left) (l .inv .0)
 
 pub first-moved-spec : {M : Type 1} → statement M
 first-moved-spec =
     tie.close
-    (tie.spec
-    Inv-loop
-    μ-loop
-    loop-holds
-    shared-slice-read-if1
-    cast-if1
-    returns
-    add-i
-    loop-less
-    loop-again
-    returns-2)
+    (tie.spec Inv-loop μ-loop loop-holds (λ c. search needs) cast-visited returns (λ c. search needs) (λ c. search needs)
+    loop-again returns-2)
