@@ -106,7 +106,8 @@ module _ (s : List ℕ) (a b : ℕ) where
               → outcomeOf (translated.Refused k p noNode) ls′ es′ ≡ translate s a b
           by-end (listed t) e Y = absurd Y
           by-end (full x) e Y =
-              refused-blank a b k p noNode ls′ es′ d d′ ∙ translate-full (refusal k p) (listing-starts room ∙ e ∙ ap full Y)
+              refused-blank a b k p noNode ls′ es′ d d′
+              ∙ translate-full (refusal k p) (listing-starts room ∙ e ∙ ap full Y)
 
 -- the automaton of an outcome is the routine
 pub outcome-automaton : (s : List ℕ) (a b : ℕ) (o : Translated) (ls es : List ℕ) → outcomeOf o ls es ≡ translate s a b

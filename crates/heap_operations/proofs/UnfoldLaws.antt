@@ -29,4 +29,5 @@ module _ (r vs ps cs : List ℕ) {f : Failure} (t : Tells (checksUnfold r vs (le
       × (ds ≡ cellBytesOf (length cs) (unfoldHeap (shapeOf r) (take (byte r 3) vs)))
       → record { verdict = isAccepted; ptrBytes = qs; cellBytes = ds } ≡ unfoldImage r vs ps cs
   unfold-done z (a, b) =
-      (λ i. record { verdict = isAccepted; ptrBytes = a i; cellBytes = b i }) ∙ sym (unfold-zero r vs ps cs (sym (t .number) ∙ z))
+      (λ i. record { verdict = isAccepted; ptrBytes = a i; cellBytes = b i })
+      ∙ sym (unfold-zero r vs ps cs (sym (t .number) ∙ z))

@@ -7,7 +7,6 @@ pub mod Once
 pub mod Moves
 pub mod FullListing
 pub mod Outcomes
-pub mod NodeAnswers
 pub mod Unplaced
 pub mod Small
 pub mod Parts

@@ -45,5 +45,5 @@ returns-2 c =
 pub first-moved-spec : {M : Type 1} → statement M
 first-moved-spec =
     tie.close
-    (tie.spec Inv-loop μ-loop loop-holds (λ c. search needs) cast-visited returns (λ c. search needs) (λ c. search needs)
-    loop-again returns-2)
+    (tie.spec Inv-loop μ-loop loop-holds (λ c. search needs) cast-visited returns (λ c. search needs)
+    (λ c. search needs) loop-again returns-2)

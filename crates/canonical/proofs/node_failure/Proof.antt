@@ -21,34 +21,40 @@ visit-requires c κs =
 
 returns : tie.Need-returns
 returns c =
-    let s = c .before .before .before .before .before .before .before .before .before .before in
-    let w = c .before .before .before .before .before .visit in
+    let f = c .before in
+    let w = f .before .before .before .before .visit in
+    let s = f .before .before .before .before .before .before .before .before .before in
     let room : length (s .args .cells .now) ≤ length (w .last .1 .1 .0) = omega (arith, w .kept .1 .1 .0, s .pre .1) in
-    tells-lost (w .ensures) (s .pre .0) room (c .before .first-below .ensures) (c .if1 .taken)
+    tells-lost (w .ensures) (s .pre .0) room (f .first-below .ensures) (c .if1 .taken)
 
 returns-2 : tie.Need-returns-2
 returns-2 c =
-    let s = c .before .before .before .before .before .before .before .before .before .before .before .before .before in
-    let w = c .before .before .before .before .before .before .before .before .visit in
+    let f = c .before .before .before .before in
+    let w = f .before .before .before .before .visit in
+    let s = f .before .before .before .before .before .before .before .before .before in
     let room : length (s .args .cells .now) ≤ length (w .last .1 .1 .0) = omega (arith, w .kept .1 .1 .0, s .pre .1) in
-    tells-inner (w .ensures) (s .pre .0) room (c .before .before .before .before .first-below .ensures) (c .before .before .before .if1 .left)
+    tells-inner (w .ensures) (s .pre .0) room (f .first-below .ensures) (c .before .before .before .if1 .left)
     (c .before .first-below2 .ensures) (c .if2 .taken)
 
 returns-3 : tie.Need-returns-3
 returns-3 c =
-    let s = c .before .before .before .before .before .before .before .before .before .before .before .before .before .before .before .before in
-    let w = c .before .before .before .before .before .before .before .before .before .before .before .visit in
+    let g = c .before .before .before .before in
+    let f = g .before .before .before in
+    let w = f .before .before .before .before .visit in
+    let s = f .before .before .before .before .before .before .before .before .before in
     let room : length (s .args .cells .now) ≤ length (w .last .1 .1 .0) = omega (arith, w .kept .1 .1 .0, s .pre .1) in
-    tells-moved (w .ensures) (s .pre .0) room (c .before .before .before .before .before .before .before .first-below .ensures) (c .before .before .before .before .before .before .if1 .left)
-    (c .before .before .before .before .first-below2 .ensures) (c .before .before .before .if2 .left) (c .before .first-moved .ensures) (c .if3 .taken)
+    tells-moved (w .ensures) (s .pre .0) room (f .first-below .ensures) (g .before .before .if1 .left)
+    (g .first-below2 .ensures) (c .before .before .before .if2 .left) (c .before .first-moved .ensures) (c .if3 .taken)
 
 returns-4 : tie.Need-returns-4
 returns-4 c =
-    let s = c .before .before .before .before .before .before .before .before .before .before .before .before .before .before .before .before in
-    let w = c .before .before .before .before .before .before .before .before .before .before .before .visit in
+    let g = c .before .before .before .before in
+    let f = g .before .before .before in
+    let w = f .before .before .before .before .visit in
+    let s = f .before .before .before .before .before .before .before .before .before in
     let room : length (s .args .cells .now) ≤ length (w .last .1 .1 .0) = omega (arith, w .kept .1 .1 .0, s .pre .1) in
-    tells-none (w .ensures) (s .pre .0) room (c .before .before .before .before .before .before .before .first-below .ensures) (c .before .before .before .before .before .before .if1 .left)
-    (c .before .before .before .before .first-below2 .ensures) (c .before .before .before .if2 .left) (c .before .first-moved .ensures) (c .if3 .left)
+    tells-none (w .ensures) (s .pre .0) room (f .first-below .ensures) (g .before .before .if1 .left)
+    (g .first-below2 .ensures) (c .before .before .before .if2 .left) (c .before .first-moved .ensures) (c .if3 .left)
 
 pub node-failure-spec : {M : Type 1} → statement M
 node-failure-spec =

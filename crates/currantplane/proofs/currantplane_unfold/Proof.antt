@@ -7,9 +7,10 @@ use Rattle.currantplane.proofs.currantplane_unfold.Tie as tie
 
 returns : tie.Need-returns
 returns c =
-    let u = c .before .before .before .before .before .before .before .«unfold» in
+    let n = c .before .before in
+    let u = n .before .before .before .before .before .«unfold» in
     unfolded-as (u .ensures)
-    (record { ended = c .tell-ended .ensures; node = c .before .before .ended-node .ensures; pointers = refl; cells = refl })
+    (record { ended = c .tell-ended .ensures; node = n .ended-node .ensures; pointers = refl; cells = refl })
 
 pub currantplane-unfold-spec : {M : Type 1} → statement M
 currantplane-unfold-spec =

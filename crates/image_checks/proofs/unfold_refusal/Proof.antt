@@ -38,7 +38,9 @@ shape-failure-requires : tie.Need-shape-failure-requires
 shape-failure-requires c κs = let L = laid c in (L .wide, L .layout)
 
 returns-4 : tie.Need-returns-4
-returns-4 c = by.tells-nodes (laid (c .before .before .before)) (c .before .before .shape-failure .ensures) (c .if4 .taken)
+returns-4 c =
+    let n = c .before .before in
+    by.tells-nodes (laid (n .before)) (n .shape-failure .ensures) (c .if4 .taken)
 
 shared-slice-read-k : tie.Need-shared-slice-read-k
 shared-slice-read-k c = omega (arith, laid (c .before .before .before .before) .wide)

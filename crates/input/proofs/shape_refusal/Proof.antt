@@ -26,20 +26,20 @@ returns-2 c =
 
 returns-3 : tie.Need-returns-3
 returns-3 c =
-    let a = c .before .before .before .before .before .before .before .before .before .before .args in
-    let l = c .before .before .before .before .before .before .before in
     let n = c .before .before .before .before .before in
+    let l = n .before in
+    let a = l .before .before .before .before .args in
     tells-as (c .failing2 .ensures) (tells-10 (earlier (a .input .now) (a .i)) (a .rec .now)
-    (sym (l .layout-ok .ensures) ∙ not-false _ (c .before .before .before .before .before .before .if1 .left)) (n .shape-failure .ensures)
+    (sym (l .before .layout-ok .ensures) ∙ not-false _ (l .if1 .left)) (n .shape-failure .ensures)
     (c .before .before .before .if2 .left) (sym (c .before .before .repeats .ensures) ∙ c .before .if3 .taken))
 
 returns-4 : tie.Need-returns-4
 returns-4 c =
-    let a = c .before .before .before .before .before .before .before .before .before .before .args in
-    let l = c .before .before .before .before .before .before .before in
     let n = c .before .before .before .before .before in
+    let l = n .before in
+    let a = l .before .before .before .before .args in
     tells-as (c .failing3 .ensures) (tells-nothing (earlier (a .input .now) (a .i)) (a .rec .now)
-    (sym (l .layout-ok .ensures) ∙ not-false _ (c .before .before .before .before .before .before .if1 .left)) (n .shape-failure .ensures)
+    (sym (l .before .layout-ok .ensures) ∙ not-false _ (l .if1 .left)) (n .shape-failure .ensures)
     (c .before .before .before .if2 .left) (sym (c .before .before .repeats .ensures) ∙ c .before .if3 .left))
 
 pub shape-refusal-spec : {M : Type 1} → statement M

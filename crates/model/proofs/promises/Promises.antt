@@ -88,8 +88,8 @@ TranslateNumbers = (s : List ℕ) (a b : ℕ) (x : Refusal) → translate s a b 
 pub translate-numbers : TranslateNumbers
 translate-numbers = translate-number
 
--- "Refusals by place of check", those of the input: a refused input has that wrong with it which the number says, at the place
--- given, and nothing before it
+-- "Refusals by place of check", those of the input: a refused input has that wrong with it which the number says, at
+-- the place given, and nothing before it
 abbrev pub InputRefused : Type 0
 InputRefused = (s : List ℕ) (x : Refusal) → check s ≡ bad x → BadInput s x
     × ((a b : ℕ) → translate s a b .verdict ≡ isRefused x)

@@ -15,7 +15,7 @@ use Rattle.model.specs.Translate.{translate}
 use Rattle.model.proofs.expansion.Facts.{test-closed}
 use Rattle.model.proofs.images.Images.{fold-checked, unfold-checked}
 use Rattle.model.proofs.images.Stepping.{step-checked}
-use Rattle.model.proofs.listings.NodeAnswers.{checked-node, checked-none, record-one, record-told, told-refused, translate-nodeless, translate-says, unfold-told}
+use Rattle.model.proofs.images.NodeAnswers.{checked-node, checked-none, record-one, record-told, told-refused, translate-nodeless, translate-says, unfold-told}
 use Rattle.model.proofs.records.ToldNodes.{one-told, otherwise-higher}
 
 -- ==== what is told of the nodes

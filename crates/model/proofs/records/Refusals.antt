@@ -100,11 +100,7 @@ any-swap p (y ∷ l) m x = ap (λ z. p y || z) (any-swap p l m x) ∙ swap (p y)
 -- the order of the earlier records does not matter
 earlier-same : (n : ℕ) (earlier rs : List (List ℕ)) (r : List ℕ) (k : ℕ) → checksAfter n earlier (r ∷ rs) (suc k)
     ≡ checksAfter n (r ∷ earlier) rs k
-earlier-same n earlier rs r k =
-    let x = getD rs k [] in
-    ap (λ (b : Bool). cond (isS x) (checksS n x)
-    (unless 8 (layoutH x) ∷ checksNodes (shapeOf x) ++ unless 10 (not b) ∷ []))
-    (sym (any-swap (sameList eqb x) (take k rs) earlier r))
+earlier-same n earlier rs r k = rw (any-swap (sameList eqb (getD rs k [])) (take k rs) earlier r)
 
 record-cases : (n i : ℕ) (earlier rs : List (List ℕ)) → RecordCases n i earlier rs
 record-cases n i earlier [] = inr (refl, λ k l. absurd (omega arith))

@@ -32,7 +32,8 @@ all-node h p e n q = all-in p (nodes h) n e (numbers-in 0 (length (h .slots)) n 
 place-numbers : (i k n : ℕ) → i ≤ n → n < i + k → i + placeOf (eqb n) (numbers i k) ≡ n
 place-numbers i zero n lo hi = absurd (omega arith)
 place-numbers i (suc k) n lo hi = eq-case n i (λ e. rw (eq-eqb n i e) (omega arith))
-    (λ e. let ne = eqb-false n i e in rw e (let r = place-numbers (suc i) k n (omega arith) (omega arith) in omega arith))
+    (λ e. let ne = eqb-false n i e in
+    let r = place-numbers (suc i) k n (omega arith) (omega arith) in rw e (omega arith))
 
 -- a list of k numbers in which each number below k stands at its own place
 in-place : (l : List ℕ) (k : ℕ) → length l ≡ k → ((n : ℕ) → n < k → placeOf (eqb n) l ≡ n) → l ≡ numbers 0 k

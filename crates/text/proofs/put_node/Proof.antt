@@ -19,10 +19,11 @@ returns c =
 
 returns-2 : tie.Need-returns-2
 returns-2 c =
-    let a = c .before .before .before .before .before .before .before .before .before .before .before .before .before .args in
+    let e = c .before .before .before .before .before .before .before .before .before .before in
+    let a = e .before .before .before .args in
+    let t : tellsNode (a .number) ≡ true = sym (e .before .tells-node .ensures) ∙ not-false _ (e .if1 .left) in
     let p = c .before .before .before .before .before .before .before .put in
     let n = c .before .before .put-number in
-    let t : tellsNode (a .number) ≡ true = sym (c .before .before .before .before .before .before .before .before .before .before .before .tells-node .ensures) ∙ not-false _ (c .before .before .before .before .before .before .before .before .before .before .if1 .left) in
     let text = take (a .at) (a .text .now) in
     let space = take (p .result) (p .last .1 .0) in
     let p-is : space ≡ text ++ 0x20 ∷ [] = p .ensures .1 in

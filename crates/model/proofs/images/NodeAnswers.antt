@@ -30,13 +30,16 @@ use Rattle.model.proofs.records.ShapeBack.{layout-closed, layout-writab
 use Rattle.model.proofs.records.ToldNodes.{given-as-told, one-told}
 
 -- the verdict of a call by its checks, in numbers
+abbrev Numbers : List Row → Verdict → Type 0
+Numbers cs v = (refusalOf v .number ≡ firstFailed cs) × (refusalOf v .node ≡ failedNode cs)
+
 verdict-told : (cs : List Row) → Numbered cs → {v : Verdict} → v ≡ verdictBy (firstFailed cs) (failedNode cs)
-    → (refusalOf v .number ≡ firstFailed cs) × (refusalOf v .node ≡ failedNode cs)
-verdict-told cs k {v} e = by-number (firstFailed cs) refl
+    → Numbers cs v
+verdict-told cs k {v} e = subst (Numbers cs) (sym e) (by-number (firstFailed cs) refl)
   where
-    by-number : (m : ℕ) → firstFailed cs ≡ m → (refusalOf v .number ≡ firstFailed cs) × (refusalOf v .node ≡ failedNode cs)
-    by-number zero q = (ap (λ y. refusalOf y .number) e ∙ rw q refl, ap (λ y. refusalOf y .node) e ∙ rw q (pass-tells cs (none-failed cs k q) .node))
-    by-number (suc m) q = (ap (λ y. refusalOf y .number) e ∙ rw q refl, ap (λ y. refusalOf y .node) e ∙ rw q refl)
+    by-number : (m : ℕ) → firstFailed cs ≡ m → Numbers cs (verdictBy (firstFailed cs) (failedNode cs))
+    by-number zero q = (rw q refl, rw q (pass-tells cs (none-failed cs k q) .node))
+    by-number (suc m) q = (rw q refl, rw q refl)
 
 -- ---- a record that keeps the layout
 
@@ -54,7 +57,8 @@ module _ (r : List ℕ) (w : length r ≡ 32) (l : layoutH r ≡ true) where
   record-one = one-told (shapeOf r) (test-closed (shapeOf r) (layout-closed r w l))
 
   nodes-told : (rest : List Row) → all (λ (c : Row). not (tellsNode (c .number))) rest ≡ true
-      → GivenAsTold (shapeOf r) (firstFailed (checksNodes (shapeOf r) ++ rest)) (failedNode (checksNodes (shapeOf r) ++ rest))
+      → GivenAsTold (shapeOf r) (firstFailed (checksNodes (shapeOf r) ++ rest))
+      (failedNode (checksNodes (shapeOf r) ++ rest))
   nodes-told = given-as-told (shapeOf r) (test-closed (shapeOf r) (layout-closed r w l))
 
   -- among the H records of an input
