@@ -2,10 +2,11 @@
 use model::Ended;
 use model::Node;
 use model::Stepped;
+use model::Unfolded;
 ghost use mathlib.Core.Path.{_≡_};
 ghost use Prim.Native.Nat.{min};
 ghost use lib.ListN.{set};
-ghost use Rattle.model.specs.Answers.{refusalOf, stepAnswerOf, stepNumbers, verdictOf};
+ghost use Rattle.model.specs.Answers.{refusalOf, stepAnswerOf, stepNumbers, unfoldedVerdict, verdictOf};
 ghost use Rattle.model.specs.Image.{stepVerdict};
 ghost use Rattle.answers.specs.Numbers.{over, told, IsTold};
 
@@ -61,20 +62,6 @@ pub fn tell_node(answer: &mut [usize], node: Node)
     tell_one(answer, 3, node.0 as usize);
 }
 
-// The node of a refusal, 0 for none.
-pub fn ended_node(ended: Ended) -> Node
-    ensures { λ r. ⌜ r .0 ≡ refusalOf (verdictOf ended) .node ⌝ }
-{
-    match ended {
-        Ended::Accepted => Node(0),
-        Ended::Refused {
-            number: _,
-            place: _,
-            node,
-        } => node,
-    }
-}
-
 // Answers a refusal's number, 0 for none, and writes its place.
 pub fn tell_ended(ended: Ended, place: &mut usize) -> u8
     ensures { λ r. ⌜ IsTold (verdictOf ended) r (now (place .exit)) ⌝ }
@@ -84,13 +71,32 @@ pub fn tell_ended(ended: Ended, place: &mut usize) -> u8
             *place = 0;
             0
         }
-        Ended::Refused {
-            number: n,
+        Ended::Refused { number, place: p } => {
+            *place = p;
+            number
+        }
+    }
+}
+
+// Answers the number of an unfolding's refusal, 0 for none, and writes its place and its node.
+pub fn tell_unfolded(unfolded: Unfolded, place: &mut usize, node: &mut u8) -> u8
+    ensures { λ r. ⌜ IsTold (unfoldedVerdict unfolded) r (now (place .exit)) ⌝ }
+    ensures { λ r. ⌜ now (node .exit) ≡ refusalOf (unfoldedVerdict unfolded) .node ⌝ }
+{
+    match unfolded {
+        Unfolded::Accepted => {
+            *place = 0;
+            *node = 0;
+            0
+        }
+        Unfolded::Refused {
+            number,
             place: p,
-            node: _,
+            node: v,
         } => {
             *place = p;
-            n
+            *node = v.0;
+            number
         }
     }
 }
@@ -118,10 +124,6 @@ pub fn step_ended(stepped: Stepped) -> Ended
         Stepped::Went { branch: _, next: _ } => Ended::Accepted,
         Stepped::Faulted { fault: _ } => Ended::Accepted,
         Stepped::Stopped => Ended::Accepted,
-        Stepped::Refused { number, place } => Ended::Refused {
-            number,
-            place,
-            node: Node(0),
-        },
+        Stepped::Refused { number, place } => Ended::Refused { number, place },
     }
 }

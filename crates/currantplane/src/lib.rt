@@ -2,7 +2,6 @@
 // slices, as far as these reach. Each call answers the refusal's number, 0 for none, and writes its place. What a call
 // writes must not overlap with anything else that is lent to it: the contracts are about slices that are apart. The
 // calls are declared in `bindings/` and `include/currantplane.h`, which `tests/declarations` compares with this file.
-use answers::ended_node;
 use answers::lay;
 use answers::lay_counters;
 use answers::step_ended;
@@ -10,6 +9,7 @@ use answers::step_numbers;
 use answers::tell;
 use answers::tell_ended;
 use answers::tell_node;
+use answers::tell_unfolded;
 use model::Counts;
 use model::Node;
 use model::Translated;
@@ -121,9 +121,11 @@ pub extern "C" fn currantplane_unfold(
         (unfoldImage (now (shape .entry)) (now (counters .entry)) (now (pointers .entry)) (now (cells .entry)))
         r (now (place .exit)) (now (node .exit)) (now (pointers .exit)) (now (cells .exit)) ⌝ }
 {
-    let ended = heap_operations::unfold(shape, counters, pointers, cells);
-    *node = ended_node(ended).0;
-    tell_ended(ended, place)
+    tell_unfolded(
+        heap_operations::unfold(shape, counters, pointers, cells),
+        place,
+        node,
+    )
 }
 
 // Writes the fault, 1 for a stop, the branch and the next statement over `answer`.

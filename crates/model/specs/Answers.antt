@@ -10,12 +10,18 @@ use Rattle.model.specs.declared.Ended.the-variants as ended
 use Rattle.model.specs.declared.Translated.{Translated}
 use Rattle.model.specs.declared.Translated.the-variants as translated
 use Rattle.model.specs.declared.Folded.{Folded}
+use Rattle.model.specs.declared.Unfolded.{Unfolded}
+use Rattle.model.specs.declared.Unfolded.the-variants as unfolded
 use Rattle.model.specs.declared.Stepped.{Stepped}
 use Rattle.model.specs.declared.Stepped.the-variants as stepped
 
 abbrev pub verdictOf : Ended → Verdict
 verdictOf ended.Accepted = isAccepted
-verdictOf (ended.Refused n p v) = isRefused (refusalAt n p (v .0))
+verdictOf (ended.Refused n p) = isRefused (refusal n p)
+
+abbrev pub unfoldedVerdict : Unfolded → Verdict
+unfoldedVerdict unfolded.Accepted = isAccepted
+unfoldedVerdict (unfolded.Refused n p v) = isRefused (refusalAt n p (v .0))
 
 -- the answer of `translate` with the bytes of the two tables
 abbrev pub outcomeOf : Translated → List ℕ → List ℕ → Outcome
@@ -36,8 +42,8 @@ abbrev pub foldingOf : Folded → Folding
 foldingOf f = record { verdict = verdictOf (f .ended); recordBytes = f .shape; counts = f .counters }
 
 -- the answer of `unfold` with the bytes of the pointers and cells
-abbrev pub unfoldingOf : Ended → List ℕ → List ℕ → Unfolding
-unfoldingOf e ps cs = record { verdict = verdictOf e; ptrBytes = ps; cellBytes = cs }
+abbrev pub unfoldingOf : Unfolded → List ℕ → List ℕ → Unfolding
+unfoldingOf u ps cs = record { verdict = unfoldedVerdict u; ptrBytes = ps; cellBytes = cs }
 
 abbrev pub stepAnswerOf : Stepped → StepAnswer
 stepAnswerOf (stepped.Went b n) = toNext b (n .0)

@@ -48,8 +48,14 @@ pub enum Translated {
     },
 }
 
-// How a call ends that answers nothing else.
+// How a call ends that tells no node.
 pub enum Ended {
+    Accepted,
+    Refused { number: u8, place: usize },
+}
+
+// What `unfold` answers: how it ended, with a refusal's node too.
+pub enum Unfolded {
     Accepted,
     Refused {
         number: u8,

@@ -23,7 +23,7 @@ returns c =
 returns-2 : tie.Need-returns-2
 returns-2 c =
     let g = c .before .ended .given .0 in
-    let e : c .before .before .before .args .ended ≡ ended.Refused (g .0) (g .1 .0) (g .1 .1 .0) = search needs in
+    let e : c .before .before .before .args .ended ≡ ended.Refused (g .0) (g .1 .0) = search needs in
     told-as e
 
 pub tell-ended-spec : {M : Type 1} → statement M

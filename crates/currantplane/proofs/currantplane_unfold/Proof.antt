@@ -7,13 +7,12 @@ use Rattle.currantplane.proofs.currantplane_unfold.Tie as tie
 
 returns : tie.Need-returns
 returns c =
-    let n = c .before .before in
-    let u = n .before .before .before .before .before .«unfold» in
+    let t = c .tell-unfolded in
+    let u = c .before .before .before .before .before .before .before .«unfold» in
     unfolded-as (u .ensures)
-    (record { ended = c .tell-ended .ensures; node = n .ended-node .ensures; pointers = refl; cells = refl })
+    (record { ended = t .ensures .0; node = t .ensures .1; pointers = refl; cells = refl })
 
 pub currantplane-unfold-spec : {M : Type 1} → statement M
 currantplane-unfold-spec =
     tie.close
-    (tie.spec (λ c κs. search needs) (λ c κs. search needs) (λ c κs. search needs) (λ c. search needs)
-    (λ c. search needs) returns)
+    (tie.spec (λ c κs. search needs) (λ c κs. search needs) (λ c. search needs) (λ c. search needs) returns)

@@ -6,12 +6,14 @@ use mathlib.Core.Path.{_≡_, ap, refl, sym}
 use mathlib.Core.List.{List, [], _∷_}
 use native.Mathlib.Omega.{arith}
 use lib.ListN.{drop}
-use Rattle.model.specs.Answers.{outcomeOf, stepAnswerOf, stepNumbers, verdictOf}
+use Rattle.model.specs.Answers.{outcomeOf, stepAnswerOf, stepNumbers, verdictOf, unfoldedVerdict}
 use Rattle.model.specs.Image.{StepAnswer, noStep, toFault, toNext, toStop}
 use Rattle.model.specs.Records.{isAccepted, refusal, refusalAt}
 use Rattle.model.specs.Translate.{Outcome}
 use Rattle.model.specs.declared.Ended.{Ended}
 use Rattle.model.specs.declared.Ended.the-variants as ended
+use Rattle.model.specs.declared.Unfolded.{Unfolded}
+use Rattle.model.specs.declared.Unfolded.the-variants as unfolded
 use Rattle.model.specs.declared.Stepped.{Stepped}
 use Rattle.model.specs.declared.Stepped.the-variants as stepped
 use Rattle.model.specs.declared.Translated.{Translated}
@@ -22,10 +24,17 @@ never e = absurd (omega arith)
 
 pub verdict-one : (a b : Ended) → verdictOf a ≡ verdictOf b → a ≡ b
 verdict-one ended.Accepted ended.Accepted e = refl
-verdict-one ended.Accepted (ended.Refused n p v) e = never (cc)
-verdict-one (ended.Refused n p v) ended.Accepted e = never (cc)
-verdict-one (ended.Refused n p v) (ended.Refused m q w) e = let x = refused-inj e in
-    λ i. ended.Refused (x i .number) (x i .place) (record { 0 = x i .node })
+verdict-one ended.Accepted (ended.Refused n p) e = never (cc)
+verdict-one (ended.Refused n p) ended.Accepted e = never (cc)
+verdict-one (ended.Refused n p) (ended.Refused m q) e = let x = refused-inj e in
+    λ i. ended.Refused (x i .number) (x i .place)
+
+pub unfolded-one : (a b : Unfolded) → unfoldedVerdict a ≡ unfoldedVerdict b → a ≡ b
+unfolded-one unfolded.Accepted unfolded.Accepted e = refl
+unfolded-one unfolded.Accepted (unfolded.Refused n p v) e = never (cc)
+unfolded-one (unfolded.Refused n p v) unfolded.Accepted e = never (cc)
+unfolded-one (unfolded.Refused n p v) (unfolded.Refused m q w) e = let x = refused-inj e in
+    λ i. unfolded.Refused (x i .number) (x i .place) (record { 0 = x i .node })
 
 pub step-one : (a b : Stepped) → stepAnswerOf a ≡ stepAnswerOf b → a ≡ b
 step-one (stepped.Went b n) (stepped.Went c m) e =

@@ -9,7 +9,7 @@ use mathlib.Core.List.{List, [], _∷_}
 use native.Mathlib.Omega.{arith}
 use lib.ListN.{drop, getD, length, replicate}
 use Rattle.model.specs.Base.{mem}
-use Rattle.model.specs.Answers.{outcomeOf, stepAnswerOf, stepNumbers, verdictOf}
+use Rattle.model.specs.Answers.{outcomeOf, stepAnswerOf, stepNumbers, verdictOf, unfoldedVerdict}
 use Rattle.model.specs.Heap.{IsHeap}
 use Rattle.model.specs.Image.{answered, checksImage, checksStep, checksUnfold, foldImage, heapOf, stepImage, stepVerdict, toFault, unfoldImage}
 use Rattle.model.proofs.records.Checks.{accepted-by}
@@ -18,12 +18,13 @@ use Rattle.model.specs.Records.{Refusal, filled, isAccepted, isRefused, 
 use Rattle.model.specs.Shape.{counters, shape}
 use Rattle.model.specs.Translate.{Routine, bad, check, good, translate}
 use Rattle.model.specs.declared.Ended.{Ended}
+use Rattle.model.specs.declared.Unfolded.{Unfolded}
 use Rattle.model.specs.declared.Stepped.{Stepped}
 use Rattle.model.specs.declared.Translated.{Translated}
 use Rattle.model.proofs.images.Images.{fold-accepted, fold-checked, fold-gives, fold-lengths, fold-refused, fold-verdict, image-accepted, unfold-checked, unfold-lengths, unfold-refused}
 use Rattle.model.specs.Listings.{BadInput, GoodInput, recordRefusal, recordsOf, numbersInput, numbersTranslate, numbersS, numbersH}
 use Rattle.model.specs.Notions.{CheckedBy, Halted}
-use Rattle.model.proofs.images.OneToOne.{halted-numbers, outcome-one, step-one, verdict-one}
+use Rattle.model.proofs.images.OneToOne.{halted-numbers, outcome-one, step-one, unfolded-one, verdict-one}
 use Rattle.model.proofs.listings.Outcomes.{bad-translate, fitting, places-most, refused-tables, translate-number}
 use Rattle.model.proofs.records.Refusals.{accepted-input, bad-number, good-accepted, record-number, refused-input}
 use Rattle.model.proofs.images.Stepping.{step-answers, step-checked, step-faults, step-lengths, step-stays}
@@ -33,11 +34,12 @@ use Rattle.model.proofs.images.Stepping.{step-answers, step-checked, st
 -- no two answers say the same: a finished call is never told as a refusal, nor a fault as a step
 abbrev pub AnswersDiffer : Type 0
 AnswersDiffer = ((a b : Ended) → verdictOf a ≡ verdictOf b → a ≡ b)
+    × ((a b : Unfolded) → unfoldedVerdict a ≡ unfoldedVerdict b → a ≡ b)
     × ((a b : Stepped) → stepAnswerOf a ≡ stepAnswerOf b → a ≡ b)
     × ((a b : Translated) (ls es : List ℕ) → outcomeOf a ls es ≡ outcomeOf b ls es → a ≡ b)
 
 pub answers-differ : AnswersDiffer
-answers-differ = (verdict-one, step-one, outcome-one)
+answers-differ = (verdict-one, unfolded-one, step-one, outcome-one)
 
 -- "The two record counts are reported, both 0 on a refusal." A refused translation leaves both tables all zero.
 abbrev pub RefusalClears : Type 0
