@@ -31,17 +31,10 @@ static int bad_use(const char *what)
     return BAD_USE;
 }
 
-/* the refusals about a node */
-static int tells_node(uint8_t number)
-{
-    return number == CURRANTPLANE_UNREACHABLE || number == CURRANTPLANE_NOT_CORE
-           || number == CURRANTPLANE_BAD_NUMBERING;
-}
-
 static int print_refusal(uint8_t number, size_t place, size_t node)
 {
     printf("refused %u %zu", (unsigned)number, place);
-    if (tells_node(number)) printf(" %zu", node);
+    if (currantplane_tells_node(number)) printf(" %zu", node);
     putchar('\n');
     return 0;
 }

@@ -9,8 +9,7 @@ static uint8_t input[4096], locations[32 * 128], edges[32 * 256];
 static void print_refusal(uint8_t number, const size_t answer[CURRANTPLANE_ANSWER])
 {
     printf("refused %u %zu", (unsigned)number, answer[CURRANTPLANE_PLACE]);
-    if (number == CURRANTPLANE_UNREACHABLE || number == CURRANTPLANE_NOT_CORE || number == CURRANTPLANE_BAD_NUMBERING)
-        printf(" %zu", answer[CURRANTPLANE_NODE]);
+    if (currantplane_tells_node(number)) printf(" %zu", answer[CURRANTPLANE_NODE]);
     printf("\n");
 }
 

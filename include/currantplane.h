@@ -116,6 +116,13 @@ enum currantplane_refusal {
                                       * gives it; told with the first such node */
 };
 
+/* whether a refusal is about a node of a shape, which is then told with it */
+static inline int currantplane_tells_node(uint8_t refusal)
+{
+    return refusal == CURRANTPLANE_UNREACHABLE || refusal == CURRANTPLANE_NOT_CORE
+           || refusal == CURRANTPLANE_BAD_NUMBERING;
+}
+
 /* ---- calls */
 
 /* Translates a routine into the automaton's locations and edges.

@@ -64,6 +64,8 @@ static int tells_nodes(void)
     uint8_t unfolded = currantplane_unfold(routine + 32, 32, counters, 12, pointers, 6, cells, 2, &place, &node);
     int good = translated == CURRANTPLANE_NOT_CORE && unfolded == CURRANTPLANE_NOT_CORE && place == 0 && node == 1;
     for (size_t i = 0; i < CURRANTPLANE_ANSWER; i++) good = good && told[i] == wanted[i];
+    for (unsigned n = 0; n < 256; n++)
+        good = good && !currantplane_tells_node((uint8_t)n) == !(n == 9 || n == 18 || n == 19);
     return good;
 }
 
