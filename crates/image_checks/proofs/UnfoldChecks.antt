@@ -7,8 +7,8 @@ use mathlib.Core.Logic.{inl, inr}
 use lib.Dec.{eqb, leb}
 use lib.ListN.{length}
 use borrow.Author.Tests.{eq-eqb, eqb-true, le-leb, lt-leb, ne-eqb}
-use Rattle.model.specs.Image.{checksUnfold, countersFit}
-use Rattle.model.specs.Records.{Row, byte, checksNodes, layoutH, shapeOf, unless}
+use Rattle.model.specs.Image.{checkCounters, checksUnfold, countersFit}
+use Rattle.model.specs.Records.{byte, checksNodes, layoutH, shapeOf, unless}
 use Rattle.model.specs.Structs.{Tells, failing}
 use Rattle.model.specs.declared.Failure.{Failure}
 use Rattle.model.proofs.lists.Logic.{and-l, and-r}
@@ -33,10 +33,6 @@ pub tells-cells : (r vs : List ℕ) (np nc : ℕ) → np ≡ 6 → 240 < nc → 
 tells-cells r vs np nc p n =
     given-tells (checksUnfold r vs np nc) 13 0 (inl (refl, refl, rw (eq-eqb np 6 p, lt-leb nc 240 n)))
 
--- the check after those of the nodes
-abbrev last : List ℕ → List ℕ → ℕ → List Row
-last r vs nc = unless 15 (countersFit (byte r 3) vs nc) ∷ []
-
 module _ {r vs : List ℕ} {np nc : ℕ} where
   good-lengths : Sized r vs np nc → eqb np 6 && leb nc 240 ≡ true
   good-lengths S = rw (eq-eqb np 6 (S .six), le-leb nc 240 (S .few))
@@ -57,23 +53,23 @@ module _ {r vs : List ℕ} {np nc : ℕ} where
   laid-few L = layout-few r (L .wide) (L .layout)
 
   -- what is told behind the lengths and the layout
-  past-layout : Laid r vs np nc → {f : Failure} → Tells (checksNodes (shapeOf r) ++ last r vs nc) f
+  past-layout : Laid r vs np nc → {f : Failure} → Tells (checksNodes (shapeOf r) ++ checkCounters r vs nc ∷ []) f
       → Tells (checksUnfold r vs np nc) f
   past-layout L t =
-      let nodes = checksNodes (shapeOf r) ++ last r vs nc in
+      let nodes = checksNodes (shapeOf r) ++ checkCounters r vs nc ∷ [] in
       let layout = unless 8 (eqb (length r) 32 && layoutH r) in
       tells-past (unless 13 (eqb np 6 && leb nc 240)) (layout ∷ nodes) (good-lengths (L .sized))
       (tells-past layout nodes (rw (eq-eqb (length r) 32 (L .wide)) (L .layout)) t)
 
   module _ (L : Laid r vs np nc) {f : Failure} (t : Tells (checksNodes (shapeOf r)) f) where
     pub tells-nodes : (f .number ≡ 0 → ⊥) → Tells (checksUnfold r vs np nc) f
-    tells-nodes z = past-layout L (tells-before (checksNodes (shapeOf r)) (last r vs nc) z t)
+    tells-nodes z = past-layout L (tells-before (checksNodes (shapeOf r)) (checkCounters r vs nc ∷ []) z t)
 
     module _ (z : f .number ≡ 0) {d : Bool} (m : d ≡ countersFit (byte r 3) vs nc) where
       pub tells-counters : d ≡ false → Tells (checksUnfold r vs np nc) (failing 15 0)
-      tells-counters q = past-layout L (tells-after (checksNodes (shapeOf r)) (last r vs nc) refl t z
-          (given-tells (last r vs nc) 15 0 (inl (refl, refl, sym m ∙ q))))
+      tells-counters q = past-layout L (tells-after (checksNodes (shapeOf r)) (checkCounters r vs nc ∷ []) refl t z
+          (given-tells (checkCounters r vs nc ∷ []) 15 0 (inl (refl, refl, sym m ∙ q))))
 
       pub tells-nothing : d ≡ true → Tells (checksUnfold r vs np nc) (failing 0 0)
-      tells-nothing q = past-layout L (tells-after (checksNodes (shapeOf r)) (last r vs nc) refl t z
-          (pass-tells (last r vs nc) (sym m ∙ q, tt)))
+      tells-nothing q = past-layout L (tells-after (checksNodes (shapeOf r)) (checkCounters r vs nc ∷ []) refl t z
+          (pass-tells (checkCounters r vs nc ∷ []) (sym m ∙ q, tt)))

@@ -6,7 +6,7 @@ use mathlib.Core.List.{List, [], _∷_, _++_}
 use mathlib.Core.Logic.{inl}
 use lib.Dec.{eqb}
 use Rattle.model.specs.Base.{any, sameList}
-use Rattle.model.specs.Records.{Row, checksH, checksNodes, checksRecord, checksS, isS, layoutH, refusalS, shapeOf, unless}
+use Rattle.model.specs.Records.{checkRepeated, checksH, checksNodes, checksRecord, checksS, isS, layoutH, refusalS, shapeOf, unless}
 use Rattle.model.specs.Structs.{Tells, failing}
 use Rattle.model.specs.declared.Failure.{Failure}
 use Rattle.model.proofs.records.Checks.{given-tells, no-node, pass-tells, tells-after, tells-before, tells-past}
@@ -14,27 +14,23 @@ use Rattle.model.proofs.records.Checks.{given-tells, no-node, pass-tells, tells
 -- ---- an H record after the records e, in the order of its tests
 
 module _ (e : List (List ℕ)) (r : List ℕ) where
-  -- the check after those of the nodes
-  abbrev last : List Row
-  last = unless 10 (not (any (sameList eqb r) e)) ∷ []
-
   pub tells-8 : layoutH r ≡ false → Tells (checksH e r) (failing 8 0)
   tells-8 l = given-tells (checksH e r) 8 0 (inl (refl, refl, l))
 
   module _ (l : layoutH r ≡ true) {f : Failure} (t : Tells (checksNodes (shapeOf r)) f) where
     pub tells-nodes : (f .number ≡ 0 → ⊥) → Tells (checksH e r) f
-    tells-nodes z = tells-past (unless 8 (layoutH r)) (checksNodes (shapeOf r) ++ last) l
-        (tells-before (checksNodes (shapeOf r)) last z t)
+    tells-nodes z = tells-past (unless 8 (layoutH r)) (checksNodes (shapeOf r) ++ checkRepeated e r ∷ []) l
+        (tells-before (checksNodes (shapeOf r)) (checkRepeated e r ∷ []) z t)
 
-    past-nodes : f .number ≡ 0 → {g : Failure} → Tells last g → Tells (checksH e r) g
-    past-nodes z u = tells-past (unless 8 (layoutH r)) (checksNodes (shapeOf r) ++ last) l
-        (tells-after (checksNodes (shapeOf r)) last refl t z u)
+    past-nodes : f .number ≡ 0 → {g : Failure} → Tells (checkRepeated e r ∷ []) g → Tells (checksH e r) g
+    past-nodes z u = tells-past (unless 8 (layoutH r)) (checksNodes (shapeOf r) ++ checkRepeated e r ∷ []) l
+        (tells-after (checksNodes (shapeOf r)) (checkRepeated e r ∷ []) refl t z u)
 
     pub tells-10 : f .number ≡ 0 → any (sameList eqb r) e ≡ true → Tells (checksH e r) (failing 10 0)
-    tells-10 z a = past-nodes z (given-tells last 10 0 (inl (refl, refl, ap not a)))
+    tells-10 z a = past-nodes z (given-tells (checkRepeated e r ∷ []) 10 0 (inl (refl, refl, ap not a)))
 
     pub tells-nothing : f .number ≡ 0 → any (sameList eqb r) e ≡ false → Tells (checksH e r) (failing 0 0)
-    tells-nothing z a = past-nodes z (pass-tells last (ap not a, tt))
+    tells-nothing z a = past-nodes z (pass-tells (checkRepeated e r ∷ []) (ap not a, tt))
 
   -- ---- any record, by its kind
 

@@ -97,6 +97,9 @@ countsFit k vs n = all (leb 1) (take k vs) && all isZero (drop k vs) && leb (sum
 abbrev pub countersFit : ℕ → List ℕ → ℕ → Bool
 countersFit k vs n = eqb (length vs) mostNodes && countsFit k vs n
 
+abbrev pub checkCounters : List ℕ → List ℕ → ℕ → Row
+checkCounters r vs nc = unless 15 (countersFit (byte r 3) vs nc)
+
 -- "Unfolding checks the lengths (13), then 8, 9, 15"; 18 and 19 "stand right after 9, in unfolding too"; r a record,
 -- vs the counters, np and nc the lengths of pointers and cells
 abbrev pub checksUnfold : List ℕ → List ℕ → ℕ → ℕ → List Row
@@ -104,7 +107,7 @@ checksUnfold r vs np nc =
     unless 13 (eqb np pointerCount && leb nc mostCells)
     ∷ unless 8 (eqb (length r) recordSize && layoutH r)
     ∷ checksNodes (shapeOf r)
-    ++ unless 15 (countersFit (byte r 3) vs nc)
+    ++ checkCounters r vs nc
     ∷ []
 
 abbrev pub refusalUnfold : List ℕ → List ℕ → ℕ → ℕ → ℕ

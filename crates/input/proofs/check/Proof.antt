@@ -1,6 +1,5 @@
 -- `check` meets its contract: the length first, then the records.
 use mathlib.Core.Path.{_∙_}
-use native.Mathlib.Omega.{arith}
 use Rattle.input.proofs.Outcomes.{check-length, check-rest, length-even}
 use Rattle.input.proofs.check.Statement.{statement}
 use Rattle.input.proofs.check.Tie as tie

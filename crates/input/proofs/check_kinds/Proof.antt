@@ -1,7 +1,6 @@
 -- `check_kinds` meets its contract: the first wrong kind decides, where there is one.
 use mathlib.Core.Path.{_≡_, sym, _∙_}
 use mathlib.Core.Option.{none, some}
-use native.Mathlib.Omega.{arith}
 use borrow.Author.Needs.{needs}
 use borrow.Author.Tests.{lt-ltb, le-ltb}
 use Rattle.model.specs.Listings.{recordsOf}

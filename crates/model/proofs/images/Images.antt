@@ -14,8 +14,8 @@ use lib.ListN.{drop, length, length-append, length-map, length-replicate, replic
 use borrow.Author.Tests.{eq-eqb, eqb-true, le-leb, leb-true}
 use Rattle.model.specs.Base.{all, sum}
 use Rattle.model.specs.Heap.{Heap, IsHeap, Slot, closed}
-use Rattle.model.specs.Image.{Folding, Unfolding, cellBytesOf, countersFit, foldImage, heapOf, lengths, nodeUnfold, refusalImage, refusalUnfold, spread, spreadSlot, strand, strands, unfoldHeap, unfoldImage, checksImage, checksUnfold, verdictBy}
-use Rattle.model.specs.Records.{Row, byte, checksNodes, unless, filled, isZero, layoutH, shapeOf, shapeRecord, slotByte, valByte, valOf, Refusal, isAccepted, isRefused}
+use Rattle.model.specs.Image.{Folding, Unfolding, cellBytesOf, checkCounters, countersFit, foldImage, heapOf, lengths, nodeUnfold, refusalImage, refusalUnfold, spread, spreadSlot, strand, strands, unfoldHeap, unfoldImage, checksImage, checksUnfold, verdictBy}
+use Rattle.model.specs.Records.{byte, checksNodes, filled, isZero, layoutH, shapeOf, shapeRecord, slotByte, valByte, valOf, Refusal, isAccepted, isRefused}
 use Rattle.model.specs.Shape.{canonical, counters, nodeVal, segments, shape}
 use Rattle.model.proofs.records.Bytes.{filled-length}
 use Rattle.model.proofs.shapes.Canon.{fold-canon}
@@ -177,10 +177,6 @@ unfold-refused r vs ps cs x z = number-case (refusalUnfold r vs (length ps) (len
     (λ n e. let q = unfold-suc r vs ps cs n e in
     (ap (λ (f : Unfolding). f .ptrBytes) q, ap (λ (f : Unfolding). f .cellBytes) q))
 
--- the check after those of the nodes
-abbrev last : List ℕ → List ℕ → ℕ → List Row
-last r vs nc = unless 15 (countersFit (byte r 3) vs nc) ∷ []
-
 -- when an unfolding is accepted: 13 for the lengths, then 8, the nodes (9, 18, 19) and 15
 pub unfold-accepted : (r vs : List ℕ) (np nc : ℕ) → (refusalUnfold r vs np nc ≡ 0)
     ↔ ((np ≡ 6) × (nc ≤ 240) × (length r ≡ 32) × (layoutH r ≡ true) × (canonical (shapeOf r) ≡ true)
@@ -191,14 +187,14 @@ unfold-accepted r vs np nc = (
     leb-true nc 240 (and-r (eqb np 6) (leb nc 240) (p .0)),
     eqb-true (length r) 32 (and-l (eqb (length r) 32) (layoutH r) (p .1 .0)),
     and-r (eqb (length r) 32) (layoutH r) (p .1 .0),
-    nodes-pass (shapeOf r) .0 (pass-before (checksNodes (shapeOf r)) (last r vs nc) (p .1 .1)),
-    pass-after (checksNodes (shapeOf r)) (last r vs nc) (p .1 .1) .0,
+    nodes-pass (shapeOf r) .0 (pass-before (checksNodes (shapeOf r)) (checkCounters r vs nc ∷ []) (p .1 .1)),
+    pass-after (checksNodes (shapeOf r)) (checkCounters r vs nc ∷ []) (p .1 .1) .0,
   )),
   λ q. pass-none (checksUnfold r vs np nc) (
     and-both (eqb np 6) (leb nc 240) (eq-eqb np 6 (q .0)) (le-leb nc 240 (q .1)),
     (
       and-both (eqb (length r) 32) (layoutH r) (eq-eqb (length r) 32 (q .2)) (q .3),
-      pass-both (checksNodes (shapeOf r)) (last r vs nc) (nodes-pass (shapeOf r) .1 (q .4)) (q .5, tt),
+      pass-both (checksNodes (shapeOf r)) (checkCounters r vs nc ∷ []) (nodes-pass (shapeOf r) .1 (q .4)) (q .5, tt),
     ),
   ),
 )

@@ -2,21 +2,21 @@
 use Prim.Native.Nat.{_<_, _≤_, suc, zero, ℕ}
 use mathlib.Core.Path.{_∙_, _≡_, ap, refl, subst, sym}
 use mathlib.Core.Logic.{_⊎_, inl, inr, ⊎-elim}
-use mathlib.Core.Bool.{Bool, _&&_, _||_, false, not, true}
+use mathlib.Core.Bool.{_&&_, _||_, false, not, true}
 use mathlib.Core.List.{List, [], _∷_, _++_}
 use native.Mathlib.Omega.{arith}
 use lib.Dec.{eqb, leb, ltb}
 use lib.ListN.{getD, length, take}
 use borrow.Author.Tests.{eq-eqb, le-leb, ltb-false, ltb-true}
-use Rattle.model.specs.Base.{all, any, count, mem, sameList}
+use Rattle.model.specs.Base.{all, count, mem}
 use Rattle.model.specs.Answers.{refusalOf}
 use Rattle.model.specs.Heap.{Heap}
-use Rattle.model.specs.Image.{checksUnfold, countersFit, nodeUnfold, refusalUnfold, unfoldImage, verdictBy}
-use Rattle.model.specs.Listings.{BadInput, GoodInput, RightKinds, RightRecords, bad-kind, bad-length, bad-record, bad-shapes, bad-statements, noRecords, numbersH, numbersS, recordChecks, recordNode, recordRefusal, recordsOf, rightH, rightS}
+use Rattle.model.specs.Image.{checkCounters, checksUnfold, nodeUnfold, refusalUnfold, unfoldImage, verdictBy}
+use Rattle.model.specs.Listings.{BadInput, RightKinds, RightRecords, bad-kind, bad-length, bad-record, bad-shapes, bad-statements, noRecords, numbersH, numbersS, recordNode, recordRefusal, recordsOf, rightH, rightS}
 use Rattle.model.specs.Nodes.{GivenAsTold, OneTold, SaysNode, Told, not-core, nothing, numbered-otherwise, recordOf, unreachable}
 use Rattle.model.specs.Notions.{CheckedBy, Given}
-use Rattle.model.specs.Records.{Refusal, Row, Verdict, byte, checksH, checksNodes, checksRecord, checksS, failedNode, firstFailed, isRefused, isS, layoutH, refusal, refusalAt, refusalH, shapeOf, tellsNode, unless}
-use Rattle.model.specs.Translate.{Outcome, Routine, bad, check, good, places, refusedWith, translate}
+use Rattle.model.specs.Records.{Refusal, Row, Verdict, checkRepeated, checksH, checksNodes, checksS, failedNode, firstFailed, isRefused, isS, layoutH, refusal, refusalAt, refusalH, shapeOf, tellsNode, unless}
+use Rattle.model.specs.Translate.{Outcome, bad, check, places, refusedWith, translate}
 use Rattle.model.proofs.expansion.Facts.{test-closed}
 use Rattle.model.proofs.images.Images.{unfold-verdict}
 use Rattle.model.proofs.listings.Outcomes.{TranslateCases, bad-translate, translate-cases}
@@ -64,14 +64,14 @@ module _ (r : List ℕ) (w : length r ≡ 32) (l : layoutH r ≡ true) where
   -- among the H records of an input
   pub record-told : (e : List (List ℕ)) → GivenAsTold (shapeOf r) (refusalH e r) (failedNode (checksH e r))
   record-told e =
-      let rest = unless 10 (not (any (sameList eqb r) e)) ∷ [] in
+      let rest = checkRepeated e r ∷ [] in
       told-as (unless 8 (layoutH r)) (checksNodes (shapeOf r) ++ rest) l (nodes-told rest refl)
 
   -- in unfolding
   unfolding-told : (vs : List ℕ) (np nc : ℕ) → np ≡ 6 → nc ≤ 240
       → GivenAsTold (shapeOf r) (refusalUnfold r vs np nc) (nodeUnfold r vs np nc)
   unfolding-told vs np nc p q =
-      let rest = unless 15 (countersFit (byte r 3) vs nc) ∷ [] in
+      let rest = checkCounters r vs nc ∷ [] in
       let tail = checksNodes (shapeOf r) ++ rest in
       let layout = unless 8 (eqb (length r) 32 && layoutH r) in
       told-as (unless 13 (eqb np 6 && leb nc 240)) (layout ∷ tail)

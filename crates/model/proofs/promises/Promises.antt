@@ -2,7 +2,7 @@
 -- in PromisesShapes and PromisesListings, demand 3 in PromisesRuns, reading the tables in PromisesTables, and single
 -- statements in PromisesStatements. The words are those of specs/, Notions and Listings.
 use Prim.Native.Nat.{_*_, _-_, _/_, _<_, _≤_, suc, ℕ}
-use mathlib.Core.Path.{_∙_, _≡_, ap}
+use mathlib.Core.Path.{_∙_, _≡_}
 use mathlib.Core.Logic.{_↔_, _⊎_}
 use mathlib.Core.Bool.{false, true}
 use mathlib.Core.List.{List, [], _∷_}

@@ -6,7 +6,7 @@ use Rattle.model.proofs.records.NodeChecks.{nodes-pass}
 use mathlib.Core.Path.{_∙_, _≡_, ap, refl, subst, sym}
 use mathlib.Core.Logic.{inl, inr}
 use mathlib.Core.Option.{Option, none, some}
-use mathlib.Core.Bool.{_||_, cond, false, not, true}
+use mathlib.Core.Bool.{false, not, true}
 use mathlib.Core.List.{List, [], _∷_, map}
 use native.Mathlib.Omega.{arith}
 use lib.Dec.{eqb, leb}
@@ -15,7 +15,7 @@ use lib.Seq.{length-take-le}
 use borrow.Author.Tests.{eqb-true, leb-true, not-true}
 use Rattle.model.specs.Base.{all, any, count, sameList}
 use Rattle.model.specs.Heap.{Heap}
-use Rattle.model.specs.Records.{Refusal, checksH, checksNodes, checksRecord, failedNode, firstFailed, isH, layoutH, refusalAt, refusalH, shapeOf, shapeRecord, isS, unless}
+use Rattle.model.specs.Records.{Refusal, checkRepeated, checksH, checksNodes, checksRecord, failedNode, firstFailed, isH, layoutH, refusalAt, refusalH, shapeOf, shapeRecord, isS}
 use Rattle.model.specs.Shape.{canonical}
 use Rattle.model.specs.Translate.{Routine, bad, badKind, badRecord, between, check, checkCounts, checkKinds, checkRecords, chunks, good}
 use Rattle.model.specs.Listings.{noRecords, recordsOf}
@@ -39,7 +39,7 @@ pub accepted-h : (earlier : List (List ℕ)) (r : List ℕ) → refusalH earlier
 accepted-h earlier r e =
     let p = none-failed (checksH earlier r) refl e in
     let ns = checksNodes (shapeOf r) in
-    let rest = unless 10 (not (any (sameList eqb r) earlier)) ∷ [] in (
+    let rest = checkRepeated earlier r ∷ [] in (
       p .0,
       nodes-pass (shapeOf r) .0 (pass-before ns rest (p .1)),
       not-true (any (sameList eqb r) earlier) (pass-after ns rest (p .1) .0),

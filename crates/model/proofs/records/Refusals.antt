@@ -5,7 +5,7 @@ use Rattle.model.proofs.records.Checks.{failed-number}
 use mathlib.Core.Path.{_∙_, _≡_, ap, ap₂, refl, subst, sym}
 use mathlib.Core.Logic.{_⊎_, inl, inr, ⊎-elim}
 use mathlib.Core.Option.{none, some}
-use mathlib.Core.Bool.{Bool, _&&_, _||_, cond, false, not, or-false, true}
+use mathlib.Core.Bool.{Bool, _&&_, _||_, false, not, or-false, true}
 use mathlib.Core.List.{List, [], _++_, _∷_, append-nil}
 use native.Mathlib.Nat.{zero-add}
 use native.Mathlib.Omega.{arith}
@@ -15,7 +15,7 @@ use Rattle.model.specs.Base.{all, any, count, mem, sameList}
 use borrow.Author.Tests.{leb-true}
 use Rattle.model.proofs.lists.Lists.{all-in, mem-in}
 use Rattle.model.specs.Heap.{next}
-use Rattle.model.specs.Records.{Refusal, Row, checksH, checksNodes, checksRecord, checksS, failedNode, firstFailed, isH, isS, layoutH, refusal, refusalAt, refusalH, refusalS, shapeOf, unless}
+use Rattle.model.specs.Records.{Refusal, Row, checksH, checksRecord, checksS, failedNode, firstFailed, isH, isS, refusal, refusalAt}
 use Rattle.model.specs.Translate.{Routine, bad, badKind, badRecord, between, check, checkCounts, checkKinds, checkRecords, good, routineOf}
 use Rattle.model.proofs.records.Checked.{bad-good, good-inj}
 use Rattle.model.specs.Listings.{BadInput, GoodInput, bad-kind, bad-length, bad-record, bad-shapes, bad-statements, noRecords, numbersH, numbersInput, numbersS, recordChecks, recordRefusal, recordsOf, wrongKind}

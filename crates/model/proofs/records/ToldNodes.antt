@@ -1,7 +1,7 @@
 -- What the checks of the nodes give is what is told of them: 9, 18 or 19 with the first node concerned, or nothing.
 use Prim.Native.Nat.{_<_, suc, zero, ℕ}
 use mathlib.Core.Path.{_∙_, _≡_, ap, refl, subst, sym}
-use mathlib.Core.Logic.{_↔_, inl, inr}
+use mathlib.Core.Logic.{inl, inr}
 use mathlib.Core.Bool.{Bool, false, not, true}
 use mathlib.Core.List.{List, [], _∷_, _++_}
 use native.Mathlib.Omega.{arith}
@@ -9,11 +9,11 @@ use lib.Dec.{eqb, ltb}
 use lib.ListN.{getD, length}
 use borrow.Author.Tests.{eq-eqb, eqb-true, ltb-false, ltb-true}
 use Rattle.model.specs.Base.{all, placeOf}
-use Rattle.model.specs.Heap.{Heap, closed, order}
+use Rattle.model.specs.Heap.{Heap, order}
 use Rattle.model.specs.Records.{Row, checksNodes, failedNode, firstFailed, tellsNode}
-use Rattle.model.specs.Shape.{asVisited, canonical, core, nodes, reachable, visitNumber}
+use Rattle.model.specs.Shape.{asVisited, core, nodes, reachable, visitNumber}
 use Rattle.model.specs.Nodes.{EveryNode, FirstNode, GivenAsTold, OneTold, Told, not-core, nothing, numbered-otherwise, unreachable}
-use Rattle.model.specs.Notions.{Canon, ClosedHeap, Given, Pass, Reaches}
+use Rattle.model.specs.Notions.{ClosedHeap, Reaches}
 use Rattle.model.proofs.lists.Logic.{bool-case, clash, not-false, not-true}
 use Rattle.model.proofs.lists.Numbers.{at-number, length-numbers}
 use Rattle.model.proofs.records.Checks.{failed-after, failed-before, failed-number, given-failed, node-after, node-before, none-failed, pass-none}
