@@ -6,7 +6,7 @@ use mathlib.Core.List.{List, [], _∷_, _++_}
 use mathlib.Core.Logic.{inl}
 use lib.Dec.{eqb}
 use Rattle.model.specs.Base.{any, sameList}
-use Rattle.model.specs.Records.{checkRepeated, checksH, checksNodes, checksRecord, checksS, isS, layoutH, refusalS, shapeOf, unless}
+use Rattle.model.specs.Records.{checkLayout, checkRepeated, checksH, checksNodes, checksRecord, checksS, isS, layoutH, refusalS, shapeOf}
 use Rattle.model.specs.Structs.{Tells, failing}
 use Rattle.model.specs.declared.Failure.{Failure}
 use Rattle.model.proofs.records.Checks.{given-tells, no-node, pass-tells, tells-after, tells-before, tells-past}
@@ -19,11 +19,11 @@ module _ (e : List (List ℕ)) (r : List ℕ) where
 
   module _ (l : layoutH r ≡ true) {f : Failure} (t : Tells (checksNodes (shapeOf r)) f) where
     pub tells-nodes : (f .number ≡ 0 → ⊥) → Tells (checksH e r) f
-    tells-nodes z = tells-past (unless 8 (layoutH r)) (checksNodes (shapeOf r) ++ checkRepeated e r ∷ []) l
+    tells-nodes z = tells-past (checkLayout r) (checksNodes (shapeOf r) ++ checkRepeated e r ∷ []) l
         (tells-before (checksNodes (shapeOf r)) (checkRepeated e r ∷ []) z t)
 
     past-nodes : f .number ≡ 0 → {g : Failure} → Tells (checkRepeated e r ∷ []) g → Tells (checksH e r) g
-    past-nodes z u = tells-past (unless 8 (layoutH r)) (checksNodes (shapeOf r) ++ checkRepeated e r ∷ []) l
+    past-nodes z u = tells-past (checkLayout r) (checksNodes (shapeOf r) ++ checkRepeated e r ∷ []) l
         (tells-after (checksNodes (shapeOf r)) (checkRepeated e r ∷ []) refl t z u)
 
     pub tells-10 : f .number ≡ 0 → any (sameList eqb r) e ≡ true → Tells (checksH e r) (failing 10 0)

@@ -231,13 +231,16 @@ layoutH r =
 abbrev pub checksNodes : Heap → List Row
 checksNodes h = unlessEach 9 (reachable h) h ∷ unlessEach 18 (core h) h ∷ unlessEach 19 (asVisited h) h ∷ []
 
+abbrev pub checkLayout : List ℕ → Row
+checkLayout r = unless 8 (layoutH r)
+
 -- "10: equal to an earlier H"
 abbrev pub checkRepeated : List (List ℕ) → List ℕ → Row
 checkRepeated earlier r = unless 10 (not (any (sameList eqb r) earlier))
 
 -- 18 and 19 "stand right after 9"
 abbrev pub checksH : List (List ℕ) → List ℕ → List Row
-checksH earlier r = unless 8 (layoutH r) ∷ checksNodes (shapeOf r) ++ checkRepeated earlier r ∷ []
+checksH earlier r = checkLayout r ∷ checksNodes (shapeOf r) ++ checkRepeated earlier r ∷ []
 
 abbrev pub refusalH : List (List ℕ) → List ℕ → ℕ
 refusalH earlier r = firstFailed (checksH earlier r)

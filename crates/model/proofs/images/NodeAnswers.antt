@@ -15,7 +15,7 @@ use Rattle.model.specs.Image.{checkCounters, checksUnfold, nodeUnfold, r
 use Rattle.model.specs.Listings.{BadInput, RightKinds, RightRecords, bad-kind, bad-length, bad-record, bad-shapes, bad-statements, noRecords, numbersH, numbersS, recordNode, recordRefusal, recordsOf, rightH, rightS}
 use Rattle.model.specs.Nodes.{GivenAsTold, OneTold, SaysNode, Told, not-core, nothing, numbered-otherwise, recordOf, unreachable}
 use Rattle.model.specs.Notions.{CheckedBy, Given}
-use Rattle.model.specs.Records.{Refusal, Row, Verdict, checkRepeated, checksH, checksNodes, checksS, failedNode, firstFailed, isRefused, isS, layoutH, refusal, refusalAt, refusalH, shapeOf, tellsNode, unless}
+use Rattle.model.specs.Records.{Refusal, Row, Verdict, checkLayout, checkRepeated, checksH, checksNodes, checksS, failedNode, firstFailed, isRefused, isS, layoutH, refusal, refusalAt, refusalH, shapeOf, tellsNode, unless}
 use Rattle.model.specs.Translate.{Outcome, bad, check, places, refusedWith, translate}
 use Rattle.model.proofs.expansion.Facts.{test-closed}
 use Rattle.model.proofs.images.Images.{unfold-verdict}
@@ -65,7 +65,7 @@ module _ (r : List ℕ) (w : length r ≡ 32) (l : layoutH r ≡ true) where
   pub record-told : (e : List (List ℕ)) → GivenAsTold (shapeOf r) (refusalH e r) (failedNode (checksH e r))
   record-told e =
       let rest = checkRepeated e r ∷ [] in
-      told-as (unless 8 (layoutH r)) (checksNodes (shapeOf r) ++ rest) l (nodes-told rest refl)
+      told-as (checkLayout r) (checksNodes (shapeOf r) ++ rest) l (nodes-told rest refl)
 
   -- in unfolding
   unfolding-told : (vs : List ℕ) (np nc : ℕ) → np ≡ 6 → nc ≤ 240
