@@ -153,31 +153,36 @@ module _ (s : List ℕ) (a b : ℕ) (x : Refusal) (z : translate s a b .verdict 
   same : (y : Refusal) → translate s a b ≡ refusedWith a b y → y ≡ x
   same y q = refused-inj (sym (ap (λ (o : Outcome). o .verdict) q) ∙ z)
 
-  pub translate-says : tellsNode (x .number) ≡ true → SaysNode s x × (x .node < 12)
-  translate-says t = by-case (translate-cases s a b)
+  -- something is wrong with the input, or there is no place
+  abbrev Reasons : Type 0
+  Reasons = BadInput s x ⊎ ((i : ℕ) × ((x ≡ refusal 11 i) ⊎ (x ≡ refusal 12 i)))
+
+  reasons : Reasons
+  reasons = by-case (translate-cases s a b)
     where
-      by-case : TranslateCases s a b → SaysNode s x × (x .node < 12)
-      by-case (inl (y, e, q)) = bad-says s x (refused-input s x (e ∙ ap bad (same y q))) t
+      by-case : TranslateCases s a b → Reasons
+      by-case (inl (y, e, q)) = inl (refused-input s x (e ∙ ap bad (same y q)))
       by-case (inr (inl (r, y, e, p, q))) =
-          let f = full-is r (places 1024 a) (places 2048 b) y p in
-          let g = same y q in
-          ⊎-elim (λ (h : y ≡ refusal 11 (f .0)). clash t (ap (λ (v : Refusal). tellsNode (v .number)) (sym g ∙ h)))
-          (λ (h : y ≡ refusal 12 (f .0)). clash t (ap (λ (v : Refusal). tellsNode (v .number)) (sym g ∙ h))) (f .1)
-      by-case (inr (inr (r, t′, e, p, q))) =
+          inr (subst (λ v. (i : ℕ) × ((v ≡ refusal 11 i) ⊎ (v ≡ refusal 12 i))) (same y q)
+          (full-is r (places 1024 a) (places 2048 b) y p))
+      by-case (inr (inr (r, t, e, p, q))) =
           not-both (translate s a b .verdict) x (ap (λ (o : Outcome). o .verdict) q) z
 
-  pub translate-nodeless : tellsNode (x .number) ≡ false → x .node ≡ 0
-  translate-nodeless t = by-case (translate-cases s a b)
+  pub translate-says : tellsNode (x .number) ≡ true → SaysNode s x × (x .node < 12)
+  translate-says t = by-reason reasons
     where
-      by-case : TranslateCases s a b → x .node ≡ 0
-      by-case (inl (y, e, q)) = bad-nodeless s x (refused-input s x (e ∙ ap bad (same y q))) t
-      by-case (inr (inl (r, y, e, p, q))) =
-          let f = full-is r (places 1024 a) (places 2048 b) y p in
-          let g = same y q in
-          ⊎-elim (λ (h : y ≡ refusal 11 (f .0)). ap (λ (v : Refusal). v .node) (sym g ∙ h))
-          (λ (h : y ≡ refusal 12 (f .0)). ap (λ (v : Refusal). v .node) (sym g ∙ h)) (f .1)
-      by-case (inr (inr (r, t′, e, p, q))) =
-          not-both (translate s a b .verdict) x (ap (λ (o : Outcome). o .verdict) q) z
+      by-reason : Reasons → SaysNode s x × (x .node < 12)
+      by-reason (inl B) = bad-says s x B t
+      by-reason (inr (i, inl e)) = clash t (rw e refl)
+      by-reason (inr (i, inr e)) = clash t (rw e refl)
+
+  pub translate-nodeless : tellsNode (x .number) ≡ false → x .node ≡ 0
+  translate-nodeless t = by-reason reasons
+    where
+      by-reason : Reasons → x .node ≡ 0
+      by-reason (inl B) = bad-nodeless s x B t
+      by-reason (inr (i, inl e)) = rw e refl
+      by-reason (inr (i, inr e)) = rw e refl
 
 -- of a call that is told by its checks
 pub checked-node : (cs : List Row) (v : Verdict) → CheckedBy cs v
