@@ -91,10 +91,10 @@ pub fn tell_unfolded(unfolded: Unfolded, place: &mut usize, node: &mut u8) -> u8
         }
         Unfolded::Refused {
             number,
-            place: p,
+            place: at,
             node: v,
         } => {
-            *place = p;
+            *place = at;
             *node = v.0;
             number
         }
