@@ -1,15 +1,17 @@
 -- What fails of an H record, and of any record by its kind.
-use Prim.Native.Nat.{ℕ}
-use mathlib.Core.Path.{_≡_, ap, refl, sym}
+use Prim.Native.Nat.{ℕ, suc, zero}
+use mathlib.Core.Path.{_≡_, _∙_, ap, refl, sym}
 use mathlib.Core.Bool.{true, false, not}
 use mathlib.Core.List.{List, [], _∷_, _++_}
 use mathlib.Core.Logic.{inl}
 use lib.Dec.{eqb}
-use Rattle.model.specs.Base.{any, sameList}
-use Rattle.model.specs.Records.{checkLayout, checkRepeated, checksH, checksNodes, checksRecord, checksS, isS, layoutH, refusalS, shapeOf}
+use Rattle.model.specs.Base.{all, any, mem, sameList}
+use Rattle.model.specs.Records.{Row, checkLayout, checkRepeated, checksH, checksNodes, checksRecord, checksS, isS, layoutH, refusalS, shapeOf}
+use Rattle.model.specs.Listings.{numbersInput}
 use Rattle.model.specs.Structs.{Tells, failing}
 use Rattle.model.specs.declared.Failure.{Failure}
-use Rattle.model.proofs.records.Checks.{given-tells, no-node, pass-tells, tells-after, tells-before, tells-past}
+use Rattle.model.proofs.lists.Logic.{bool-case}
+use Rattle.model.proofs.records.Checks.{failed-number, given-tells, no-node, pass-tells, tells-after, tells-before, tells-past}
 
 -- ---- an H record after the records e, in the order of its tests
 
@@ -39,3 +41,16 @@ module _ (e : List (List ℕ)) (r : List ℕ) where
 
   pub tells-by-h : (n : ℕ) {f : Failure} → isS r ≡ false → Tells (checksH e r) f → Tells (checksRecord n e r) f
   tells-by-h n h t = rw h t
+
+-- a record that fails has one of the input's numbers
+pub number-known : (n : ℕ) (e : List (List ℕ)) (r : List ℕ) {f : Failure} → Tells (checksRecord n e r) f
+    → (f .number ≡ 0 → ⊥) → mem (f .number) numbersInput ≡ true
+number-known n e r {f} t z = by-number (f .number) refl
+  where
+    known : all (λ (c : Row). mem (c .number) numbersInput) (checksRecord n e r) ≡ true
+    known = bool-case (isS r) (λ h. rw h) (λ h. rw h)
+
+    by-number : (k : ℕ) → f .number ≡ k → mem (f .number) numbersInput ≡ true
+    by-number zero q = absurd (z q)
+    by-number (suc k) q = rw q (failed-number (λ m. mem m numbersInput) (checksRecord n e r) known k
+        (sym (t .number) ∙ q))

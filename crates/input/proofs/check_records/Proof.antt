@@ -5,12 +5,13 @@ use mathlib.Core.List.{[]}
 use native.Mathlib.Omega.{arith}
 use lib.ListN.{drop}
 use borrow.Author.Needs.{needs}
-use Rattle.model.specs.Records.{refusalAt}
+use Rattle.model.specs.Records.{recordAt, refusalAt}
 use Rattle.model.specs.Translate.{badRecord}
 use Rattle.model.specs.Listings.{recordsOf}
 use Rattle.input.specs.RecordChecks.{earlier}
 use Rattle.input.proofs.Records.{records-pass, records-fail, records-pass-end}
 use Rattle.input.proofs.Outcomes.{records-bad, records-good}
+use Rattle.input.proofs.Shapes.{number-known}
 use Rattle.input.proofs.check_records.Statement.{statement}
 use Rattle.input.proofs.check_records.Tie as tie
 
@@ -31,7 +32,7 @@ returns c =
       records-bad (a .statements) (recordsOf s) (refusalAt (f .result .number) (l .i) (f .result .node .0))
           (l .inv .1 ∙ records-fail s (a .statements + a .shapes) (omega arith) (a .statements) (l .i) (omega arith)
           (f .ensures) (c .before .if1 .taken)),
-      tt,
+      number-known (a .statements) (earlier s (l .i)) (recordAt s (l .i)) (f .ensures) (c .before .if1 .taken),
     )
 
 loop-again : tie.Need-loop-again Inv-loop μ-loop
