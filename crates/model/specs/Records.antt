@@ -147,7 +147,7 @@ pub data Verdict : Type 0 where
   isAccepted : Verdict
   isRefused : Refusal → Verdict
 
--- a row of 01's table: the number, whether its condition is not met, and the node that is told where it is
+-- a row of 01's table: the number, whether its condition is not met, and the node that is told where it is met
 pub record Row : Type 0 where
   pub number : ℕ
   pub passes : Bool

@@ -1,7 +1,7 @@
 -- What folding and unfolding leave, for all inputs: which refusals they have, that a refusal leaves zeros or what
 -- stood, that lengths are kept, and what an accepted fold gives.
 use Prim.Native.Nat.{_+_, _-_, _≤_, suc, zero, ℕ}
-use Rattle.model.proofs.records.Checks.{accepted-by, accepted-zero, checked-by, checked-nodeless, none-failed, not-both, pass-after, pass-before, pass-both, pass-none}
+use Rattle.model.proofs.records.Checks.{accepted-by, accepted-zero, checked-by, checked-nodeless, none-failed, not-both, pass-both, pass-none, pass-number, passing}
 use Rattle.model.proofs.records.NodeChecks.{nodes-pass}
 use Rattle.model.specs.Notions.{CheckedBy}
 use mathlib.Core.Path.{_∙_, _≡_, ap, refl, sym}
@@ -182,14 +182,15 @@ pub unfold-accepted : (r vs : List ℕ) (np nc : ℕ) → (refusalUnfold r vs np
     ↔ ((np ≡ 6) × (nc ≤ 240) × (length r ≡ 32) × (layoutH r ≡ true) × (canonical (shapeOf r) ≡ true)
     × (countersFit (byte r 3) vs nc ≡ true))
 unfold-accepted r vs np nc = (
-  (λ z. let p = none-failed (checksUnfold r vs np nc) refl z in (
-    eqb-true np 6 (and-l (eqb np 6) (leb nc 240) (p .0)),
-    leb-true nc 240 (and-r (eqb np 6) (leb nc 240) (p .0)),
-    eqb-true (length r) 32 (and-l (eqb (length r) 32) (layoutH r) (p .1 .0)),
-    and-r (eqb (length r) 32) (layoutH r) (p .1 .0),
-    nodes-pass (shapeOf r) .0 (pass-before (checksNodes (shapeOf r)) (checkCounters r vs nc ∷ []) (p .1 .1)),
-    pass-after (checksNodes (shapeOf r)) (checkCounters r vs nc ∷ []) (p .1 .1) .0,
-  )),
+  (λ z. let by : (n : ℕ) → passing n (checksUnfold r vs np nc) ≡ true =
+      λ n. pass-number n (checksUnfold r vs np nc) (none-failed (checksUnfold r vs np nc) refl z) in (
+        eqb-true np 6 (and-l (eqb np 6) (leb nc 240) (by 13)),
+        leb-true nc 240 (and-r (eqb np 6) (leb nc 240) (by 13)),
+        eqb-true (length r) 32 (and-l (eqb (length r) 32) (layoutH r) (by 8)),
+        and-r (eqb (length r) 32) (layoutH r) (by 8),
+        nodes-pass (shapeOf r) .0 (by 9, (by 18, (by 19, tt))),
+        by 15,
+      )),
   λ q. pass-none (checksUnfold r vs np nc) (
     and-both (eqb np 6) (leb nc 240) (eq-eqb np 6 (q .0)) (le-leb nc 240 (q .1)),
     (

@@ -161,8 +161,8 @@ FoldGives = (ps cs : List ℕ) → foldImage ps cs .verdict ≡ isAccepted
 pub fold-is : FoldGives
 fold-is = fold-gives
 
--- "Unfolding checks the lengths (13), then 8, 9, 15": each exactly when its condition is met and none before it; the
--- place is 0
+-- "Unfolding checks the lengths (13), then 8, 9, 15", with 18 and 19 right after 9: each exactly when its condition is
+-- met and none before it, with its node; the place is 0
 abbrev pub UnfoldRefusals : Type 0
 UnfoldRefusals = (r vs ps cs : List ℕ) → CheckedBy (checksUnfold r vs (length ps) (length cs))
     (unfoldImage r vs ps cs .verdict)

@@ -149,7 +149,8 @@ merging-ends = merge-ends
 
 -- ==== shapes
 
--- "9: a node unreachable or not core, or another numbering": the test is passed exactly where there is none of it
+-- "a node unreachable or not core, or another numbering" (9, 18, 19): the test is passed exactly where there is none of
+-- it
 abbrev pub CanonicalIs : Type 0
 CanonicalIs = (h : Heap) → closed h ≡ true → (canonical h ≡ true)
     ↔ (((c : ℕ) → inUse (next h c) ≡ true → Reaches h c) × ((n : ℕ) → n < length (h .slots) → core h n ≡ true)

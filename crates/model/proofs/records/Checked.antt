@@ -1,7 +1,7 @@
 -- What the checks of the input say of an accepted one: its starting shapes are shapes with six pointers, and no two
 -- are equal.
 use Prim.Native.Nat.{_%_, _*_, _/_, _≤_, suc, zero, ℕ}
-use Rattle.model.proofs.records.Checks.{none-failed, pass-after, pass-before}
+use Rattle.model.proofs.records.Checks.{none-failed, pass-number, passing}
 use Rattle.model.proofs.records.NodeChecks.{nodes-pass}
 use mathlib.Core.Path.{_∙_, _≡_, ap, refl, subst, sym}
 use mathlib.Core.Logic.{inl, inr}
@@ -37,13 +37,9 @@ pub record GoodH (r : List ℕ) : Type 0 where
 pub accepted-h : (earlier : List (List ℕ)) (r : List ℕ) → refusalH earlier r ≡ 0
     → (layoutH r ≡ true) × (canonical (shapeOf r) ≡ true) × (any (sameList eqb r) earlier ≡ false)
 accepted-h earlier r e =
-    let p = none-failed (checksH earlier r) refl e in
-    let ns = checksNodes (shapeOf r) in
-    let rest = checkRepeated earlier r ∷ [] in (
-      p .0,
-      nodes-pass (shapeOf r) .0 (pass-before ns rest (p .1)),
-      not-true (any (sameList eqb r) earlier) (pass-after ns rest (p .1) .0),
-    )
+    let by : (n : ℕ) → passing n (checksH earlier r) ≡ true =
+    λ n. pass-number n (checksH earlier r) (none-failed (checksH earlier r) refl e) in
+    (by 8, nodes-pass (shapeOf r) .0 (by 9, (by 18, (by 19, tt))), not-true (any (sameList eqb r) earlier) (by 10))
 
 -- each record of the list is accepted after those before it
 abbrev Accepted : ℕ → List (List ℕ) → List (List ℕ) → Type 0

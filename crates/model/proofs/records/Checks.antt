@@ -3,7 +3,7 @@ use Prim.Native.Nat.{_≤_, suc, zero, ℕ}
 use Rattle.model.specs.Base.{all}
 use mathlib.Core.Path.{_∙_, _≡_, ap, ap₂, refl, subst, sym}
 use mathlib.Core.Logic.{inl, inr}
-use mathlib.Core.Bool.{Bool, _||_, false, true}
+use mathlib.Core.Bool.{Bool, _||_, cond, false, true}
 use mathlib.Core.List.{List, [], _++_, _∷_}
 use native.Mathlib.Omega.{arith}
 use Rattle.model.specs.Image.{verdictBy}
@@ -107,6 +107,15 @@ tells-after xs ys k p z t =
       number = t .number ∙ sym (failed-after xs ys k none);
       node = t .node ∙ sym (node-after xs ys (none-failed xs k none));
     }
+
+-- a check by its number: whether the first with this number passes; true where there is none
+abbrev pub passing : ℕ → List Row → Bool
+passing n [] = true
+passing n (c ∷ cs) = cond (eqb n (c .number)) (c .passes) (passing n cs)
+
+pub pass-number : (n : ℕ) (cs : List Row) → Pass cs → passing n cs ≡ true
+pass-number n [] p = refl
+pass-number n (c ∷ cs) p = bool-case (eqb n (c .number)) (λ e. rw e (p .0)) (λ e. rw e (pass-number n cs (p .1)))
 
 pub pass-before : (xs ys : List Row) → Pass (xs ++ ys) → Pass xs
 pass-before [] ys p = tt
