@@ -15,7 +15,7 @@ use lib.Seq.{length-take-le}
 use borrow.Author.Tests.{eqb-true, leb-true, not-true}
 use Rattle.model.specs.Base.{all, any, count, sameList}
 use Rattle.model.specs.Heap.{Heap}
-use Rattle.model.specs.Records.{Refusal, checkRepeated, checksH, checksNodes, checksRecord, failedNode, firstFailed, isH, layoutH, refusalAt, refusalH, shapeOf, shapeRecord, isS}
+use Rattle.model.specs.Records.{Refusal, checksH, checksRecord, failedNode, firstFailed, isH, layoutH, refusalAt, refusalH, shapeOf, shapeRecord, isS}
 use Rattle.model.specs.Shape.{canonical}
 use Rattle.model.specs.Translate.{Routine, bad, badKind, badRecord, between, check, checkCounts, checkKinds, checkRecords, chunks, good}
 use Rattle.model.specs.Listings.{noRecords, recordsOf}
