@@ -23,7 +23,7 @@ static const char usage[] =
     "POINTERS, CELLS, SHAPE and STATEMENT are hex digits, two for a byte, - for none: six pointers; a byte for\n"
     "each cell, the next cell's number, fe null, ff undefined, fd for a cell that is not in use; records of 32\n"
     "bytes. COUNTERS and PICKS are numbers with commas between. A refusal is printed as 'refused', its number\n"
-    "and its place. Exit status: 0 for an answer, a refusal too; 2 for bad use.\n";
+    "and its place, and for 9, 18 and 19 the node. Exit status: 0 for an answer, a refusal too; 2 for bad use.\n";
 
 static int bad_use(const char *what)
 {
@@ -31,9 +31,11 @@ static int bad_use(const char *what)
     return BAD_USE;
 }
 
-static int print_refusal(uint8_t number, size_t place)
+static int print_refusal(uint8_t number, size_t place, size_t node)
 {
-    printf("refused %u %zu\n", (unsigned)number, place);
+    printf("refused %u %zu", (unsigned)number, place);
+    if (currantplane_tells_node(number)) printf(" %zu", node);
+    putchar('\n');
     return 0;
 }
 
@@ -62,11 +64,16 @@ static void print_table(const struct bench *b, size_t table)
     size_t counts[] = {b->answer[CURRANTPLANE_LOCATION_COUNT], b->answer[CURRANTPLANE_EDGE_COUNT]};
     const uint8_t *meant = table == CURRANTPLANE_LOCATIONS ? b->locations : b->edges;
     for (size_t i = 0; i < counts[table]; i++) {
-        size_t part[CURRANTPLANE_ANSWER];
+        size_t part[CURRANTPLANE_RECORD_ANSWER];
         currantplane_record(b->locations, sizeof b->locations, b->edges, sizeof b->edges, counts[0], counts[1], table,
-                            i, part, CURRANTPLANE_ANSWER);
+                            i, part, CURRANTPLANE_RECORD_ANSWER);
         print_digits(meant + part[CURRANTPLANE_BEGINS], part[CURRANTPLANE_LENGTH], 0);
     }
+}
+
+static int print_translation_refusal(const struct bench *b, uint8_t number)
+{
+    return print_refusal(number, b->answer[CURRANTPLANE_PLACE], b->answer[CURRANTPLANE_NODE]);
 }
 
 static int translate_command(int count, char **words)
@@ -74,7 +81,7 @@ static int translate_command(int count, char **words)
     if (count > 1) return bad_use("translate takes one file");
     if (!read_routine(&bench, count == 1 ? words[0] : "-")) return bad_use("the routine cannot be read");
     uint8_t refusal = translate(&bench);
-    if (refusal != CURRANTPLANE_ACCEPTED) return print_refusal(refusal, bench.answer[CURRANTPLANE_PLACE]);
+    if (refusal != CURRANTPLANE_ACCEPTED) return print_translation_refusal(&bench, refusal);
     print_table(&bench, CURRANTPLANE_LOCATIONS);
     print_table(&bench, CURRANTPLANE_EDGES);
     return 0;
@@ -110,7 +117,7 @@ static int print_fold(const struct heap *heap)
     size_t place;
     uint8_t refusal = currantplane_fold(heap->pointers, heap->pointer_count, heap->cells, heap->cell_count, shape,
                                         sizeof shape, counters, CURRANTPLANE_MOST_NODES, &place);
-    if (refusal != CURRANTPLANE_ACCEPTED) return print_refusal(refusal, place);
+    if (refusal != CURRANTPLANE_ACCEPTED) return print_refusal(refusal, place, 0);
     print_digits(shape, sizeof shape, 0);
     for (size_t i = 0; i < CURRANTPLANE_MOST_NODES; i++)
         printf("%lu%c", (unsigned long)counters[i], i + 1 < CURRANTPLANE_MOST_NODES ? ' ' : '\n');
@@ -139,7 +146,7 @@ static int read_counters(const char *list, uint32_t *counters)
 static int unfold_command(int count, char **words)
 {
     struct heap heap = {{0}, {0}, CURRANTPLANE_POINTERS, 0};
-    uint8_t shape[CURRANTPLANE_RECORD];
+    uint8_t shape[CURRANTPLANE_RECORD], node;
     size_t place;
     uint32_t counters[CURRANTPLANE_MOST_NODES];
     if (count != 3) return bad_use("unfold takes a shape, counters and a number of cells");
@@ -148,8 +155,8 @@ static int unfold_command(int count, char **words)
         || !read_number(words[2], sizeof heap.cells, &heap.cell_count))
         return bad_use("unfold takes a shape of 32 bytes, at most twelve counters, and at most 240 cells");
     uint8_t refusal = currantplane_unfold(shape, length, counters, CURRANTPLANE_MOST_NODES, heap.pointers,
-                                          heap.pointer_count, heap.cells, heap.cell_count, &place);
-    if (refusal != CURRANTPLANE_ACCEPTED) return print_refusal(refusal, place);
+                                          heap.pointer_count, heap.cells, heap.cell_count, &place, &node);
+    if (refusal != CURRANTPLANE_ACCEPTED) return print_refusal(refusal, place, node);
     print_heap(&heap);
     return 0;
 }
@@ -180,7 +187,7 @@ static int step_command(int count, char **words)
         return bad_use("step takes a statement of 32 bytes, a pick below 256 and a cell");
     uint8_t refusal = currantplane_step(heap.pointers, heap.pointer_count, heap.cells, heap.cell_count, statement,
                                         length, (uint8_t)pick, cell, answer, sizeof answer, &place);
-    if (refusal != CURRANTPLANE_ACCEPTED) return print_refusal(refusal, place);
+    if (refusal != CURRANTPLANE_ACCEPTED) return print_refusal(refusal, place, 0);
     print_step(answer);
     print_heap(&heap);
     return 0;
@@ -200,7 +207,7 @@ static int run_routine(struct heap *heap, const char *picks)
         uint8_t refusal = currantplane_step(heap->pointers, heap->pointer_count, heap->cells, heap->cell_count, statement,
                                             CURRANTPLANE_RECORD, (uint8_t)pick, free_cell(heap), answer,
                                             sizeof answer, &place);
-        if (refusal != CURRANTPLANE_ACCEPTED) return print_refusal(refusal, place);
+        if (refusal != CURRANTPLANE_ACCEPTED) return print_refusal(refusal, place, 0);
         if (!print_step(answer)) return print_fold(heap);
         at = answer[CURRANTPLANE_NEXT];
         print_heap(heap);
@@ -216,10 +223,10 @@ static int run_command(int count, char **words)
     if (count < 3 || count > 4 || !read_heap(words + 1, &heap)) return bad_use("run takes a file, a heap and picks");
     if (!is_list(picks, UINT8_MAX)) return bad_use("picks are numbers below 256 with commas between");
     if (!read_routine(&bench, words[0])) return bad_use("the routine cannot be read");
-    /* only a routine that passes the checks has a statement at every target */
+    /* only a routine that passes the checks has a statement at every target; its listing need not fit */
     uint8_t refusal = translate(&bench);
-    if (refusal != CURRANTPLANE_ACCEPTED && refusal < CURRANTPLANE_NO_LOCATION)
-        return print_refusal(refusal, bench.answer[CURRANTPLANE_PLACE]);
+    if (refusal != CURRANTPLANE_ACCEPTED && refusal != CURRANTPLANE_NO_LOCATION && refusal != CURRANTPLANE_NO_EDGE)
+        return print_translation_refusal(&bench, refusal);
     return run_routine(&heap, picks);
 }
 

@@ -34,9 +34,10 @@ static void call_translate(void *m)
 static void call_record(void *m)
 {
     struct bench *b = ((struct measured *)m)->bench;
-    size_t part[CURRANTPLANE_ANSWER];
-    currantplane_record(b->locations, sizeof b->locations, b->edges, sizeof b->edges, b->answer[1], b->answer[2],
-                        CURRANTPLANE_EDGES, 0, part, CURRANTPLANE_ANSWER);
+    size_t part[CURRANTPLANE_RECORD_ANSWER];
+    currantplane_record(b->locations, sizeof b->locations, b->edges, sizeof b->edges,
+                        b->answer[CURRANTPLANE_LOCATION_COUNT], b->answer[CURRANTPLANE_EDGE_COUNT], CURRANTPLANE_EDGES,
+                        0, part, CURRANTPLANE_RECORD_ANSWER);
 }
 
 static void call_fold(void *m)
@@ -51,8 +52,9 @@ static void call_unfold(void *m)
 {
     struct measured *c = m;
     size_t place;
+    uint8_t node;
     currantplane_unfold(c->shape, sizeof c->shape, c->counters, CURRANTPLANE_MOST_NODES, c->heap.pointers,
-                        c->heap.pointer_count, c->heap.cells, c->heap.cell_count, &place);
+                        c->heap.pointer_count, c->heap.cells, c->heap.cell_count, &place, &node);
 }
 
 static void call_step(void *m)

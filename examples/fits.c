@@ -5,13 +5,21 @@
 
 static uint8_t input[4096], locations[32 * 128], edges[32 * 256];
 
+/* three refusals are about a node of a shape, which is printed too */
+static void print_refusal(uint8_t number, const size_t answer[CURRANTPLANE_ANSWER])
+{
+    printf("refused %u %zu", (unsigned)number, answer[CURRANTPLANE_PLACE]);
+    if (currantplane_tells_node(number)) printf(" %zu", answer[CURRANTPLANE_NODE]);
+    printf("\n");
+}
+
 int main(void)
 {
     size_t length = fread(input, 1, sizeof input, stdin), answer[CURRANTPLANE_ANSWER];
     uint8_t refusal = currantplane_translate(input, length, locations, sizeof locations, edges, sizeof edges, answer,
                                              CURRANTPLANE_ANSWER);
     if (refusal != CURRANTPLANE_ACCEPTED) {
-        printf("refused %u %zu\n", (unsigned)refusal, answer[CURRANTPLANE_PLACE]);
+        print_refusal(refusal, answer);
         return 1;
     }
     printf("%zu locations, %zu edges\n", answer[CURRANTPLANE_LOCATION_COUNT], answer[CURRANTPLANE_EDGE_COUNT]);

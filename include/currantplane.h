@@ -6,13 +6,14 @@
  * answers and every byte that it writes is proved, for every input. What a caller owes:
  *   - A pointer with a length points to so many bytes, or to so many numbers, aligned as their type asks. With
  *     length 0 it may be null. Bytes may stand at any address.
- *   - A pointer without a length (`place`) points to one size_t, and is not null.
+ *   - A pointer without a length (`place`, `node`) points to one size_t, or one byte, and is not null.
  *   - Nothing that a call writes overlaps with anything else that it is given. What is only read may overlap.
  * Nothing is kept after a call, nothing is allocated and nothing is locked: there is no state between calls, and
  * calls that write to buffers of their own may run at the same time. No call was seen to use 1 KB of stack.
  *
  * Each call answers the number of the refusal, 0 for none (enum currantplane_refusal), and tells its place, 0 where
- * nothing is refused.
+ * nothing is refused. Refusals 9, 18 and 19 are about a node of a shape: translate and unfold tell its number, 0 to
+ * 11, and 0 with every other refusal and with none.
  */
 #ifndef CURRANTPLANE_H
 #define CURRANTPLANE_H
@@ -36,7 +37,8 @@ enum {
     CURRANTPLANE_MOST_LOCATIONS = 1024, /* the places of a table of locations that are used, however long it is */
     CURRANTPLANE_MOST_EDGES = 2048,     /* and of a table of edges */
     CURRANTPLANE_MOST_INPUT = 32 * (64 + 16), /* the bytes of the longest routine that passes the checks */
-    CURRANTPLANE_ANSWER = 3,            /* the numbers that currantplane_translate and currantplane_record tell */
+    CURRANTPLANE_ANSWER = 4,            /* the numbers that currantplane_translate tells */
+    CURRANTPLANE_RECORD_ANSWER = 3,     /* the numbers that currantplane_record tells */
     CURRANTPLANE_STEP_ANSWER = 4        /* the bytes that currantplane_step tells */
 };
 
@@ -89,13 +91,13 @@ enum currantplane_refusal {
     CURRANTPLANE_BAD_LENGTH = 1,     /* the input is empty, or not a multiple of 32 bytes */
     CURRANTPLANE_BAD_STATEMENTS = 2, /* not 1 to 64 S */
     CURRANTPLANE_BAD_SHAPES = 3,     /* not 1 to 16 H */
-    /* translate; the place is the record's number from 0. step (4 to 7) and unfold (8, 9): the place is 0 */
+    /* translate; the place is the record's number from 0. step (4 to 7) and unfold (8, 9, 18, 19): the place is 0 */
     CURRANTPLANE_BAD_KIND = 4,       /* a record that is neither S nor H, or an S after an H; in a step, no S */
     CURRANTPLANE_BAD_OP = 5,         /* op above 12 */
     CURRANTPLANE_BAD_FIELD = 6,      /* a used pointer above 5, or an unused byte not zero */
     CURRANTPLANE_BAD_TARGET = 7,     /* a used target is no statement; in a step, not below 64 */
     CURRANTPLANE_BAD_LAYOUT = 8,     /* an H record breaks the layout */
-    CURRANTPLANE_BAD_SHAPE = 9,      /* a node is unreachable or not core, or numbered otherwise */
+    CURRANTPLANE_UNREACHABLE = 9,    /* no pointer reaches a node; told with the first such node */
     CURRANTPLANE_REPEATED = 10,      /* equal to an earlier H */
     /* translate; the place is the number of the location being explored, or of the starting shape without one */
     CURRANTPLANE_NO_LOCATION = 11,   /* no place for a new location */
@@ -106,8 +108,20 @@ enum currantplane_refusal {
     CURRANTPLANE_LOST_CELL = 14,     /* a used cell is unreachable */
     CURRANTPLANE_BAD_COUNTERS = 15,  /* not twelve, one of 0 below k or not 0 past it, or a sum above the cells */
     CURRANTPLANE_BAD_ENTRY = 16,     /* a pick above 1 at choose; at new, a cell in use or past the end */
-    CURRANTPLANE_NO_RECORD = 17      /* `table` above 1, a count above its table's places, or no such record */
+    CURRANTPLANE_NO_RECORD = 17,     /* `table` above 1, a count above its table's places, or no such record */
+    /* translate and unfold; looked at right after 9, with its place */
+    CURRANTPLANE_NOT_CORE = 18,      /* all nodes are reachable, and one is held by no pointer and by the next of one
+                                      * node alone; told with the first such node */
+    CURRANTPLANE_BAD_NUMBERING = 19  /* all nodes are reachable and core, and one has another number than the walk
+                                      * gives it; told with the first such node */
 };
+
+/* whether a refusal is about a node of a shape, which is then told with it */
+static inline int currantplane_tells_node(uint8_t refusal)
+{
+    return refusal == CURRANTPLANE_UNREACHABLE || refusal == CURRANTPLANE_NOT_CORE
+           || refusal == CURRANTPLANE_BAD_NUMBERING;
+}
 
 /* ---- calls */
 
@@ -116,24 +130,25 @@ enum currantplane_refusal {
  * input       the routine's records: 1 to 64 S, then 1 to 16 H
  * locations   the table of locations; it has length / 32 places, rounded down, of which 1,024 are used at most
  * edges       the table of edges; it has length / 32 places, rounded down, of which 2,048 are used at most
- * answer      the place of the refusal, the number of locations and the number of edges, in this order
+ * answer      the place of the refusal, the number of locations, the number of edges and the node of the refusal, in
+ *             this order
  *
  * Accepted (0): every location that is reached stands in the table, as an L record at 32 times its number, and
  * every edge likewise, as an E record; all bytes after the last record are zero. A routine is accepted exactly if
  * its input passes every check and its full listing fits both tables; records and counts do not depend on how long
- * these are. Refused (1 to 12): both tables are all zero and both counts are 0. The whole input is looked at first (1,
- * 4, 2, 3), then each record in order, the lowest number first (5 to 10), then the places: the starting shapes' (11),
- * and for each edge in the order found its target's (11) and its own (12).
+ * these are. Refused (1 to 12, 18, 19): both tables are all zero and both counts are 0. The whole input is looked at
+ * first (1, 4, 2, 3), then each record in order (an S: 5, 6, 7; an H: 8, 9, 18, 19, 10), then the places: the starting
+ * shapes' (11), and for each edge in the order found its target's (11) and its own (12).
  *
- * Every byte of both tables is written. Of `answer` as many numbers are written as it has, at most three; the rest
+ * Every byte of both tables is written. Of `answer` as many numbers are written as it has, at most four; the rest
  * of it is left. */
 uint8_t currantplane_translate(const uint8_t *input, size_t input_length,
                                uint8_t *locations, size_t locations_length,
                                uint8_t *edges, size_t edges_length,
                                size_t *answer, size_t answer_length);
 
-/* The places of the three numbers in the answer of a translation. */
-enum { CURRANTPLANE_PLACE = 0, CURRANTPLANE_LOCATION_COUNT = 1, CURRANTPLANE_EDGE_COUNT = 2 };
+/* The places of the four numbers in the answer of a translation. */
+enum { CURRANTPLANE_PLACE = 0, CURRANTPLANE_LOCATION_COUNT = 1, CURRANTPLANE_EDGE_COUNT = 2, CURRANTPLANE_NODE = 3 };
 
 /* Where one record stands in two tables, so that it is read there and not copied.
  *
@@ -178,13 +193,15 @@ uint8_t currantplane_fold(const uint8_t *pointers, size_t pointers_length,
  * pointers   room for six bytes, neither more nor fewer (else 13)
  * cells      room for the heap, at most 240 bytes (else 13); its length is the number of cells of the heap
  * place      0, in every case
+ * node       the node of refusals 9, 18 and 19, else 0
  *
  * Accepted (0): the pointers and every cell are written, the cells past the sum of the counters as 0xfd. Refused
- * (13, 8, 9, 15, looked at in this order): pointers and cells are left as they are. `place` is written. */
+ * (13, 8, 9, 18, 19, 15, looked at in this order): pointers and cells are left as they are. `place` and `node` are
+ * written. */
 uint8_t currantplane_unfold(const uint8_t *shape, size_t shape_length,
                             const uint32_t *counters, size_t counters_length,
                             uint8_t *pointers, size_t pointers_length,
-                            uint8_t *cells, size_t cells_length, size_t *place);
+                            uint8_t *cells, size_t cells_length, size_t *place, uint8_t *node);
 
 /* Carries out one statement on a heap.
  *

@@ -28,6 +28,7 @@ mod raw {
             cells: *mut u8,
             cells_len: usize,
             place: *mut usize,
+            node: *mut u8,
         ) -> u8;
         pub fn currantplane_step(
             pointers: *mut u8,
@@ -67,11 +68,24 @@ mod raw {
     }
 }
 
-/// A refusal's number and its place; the number is 0 where nothing is refused.
+/// The number of a shape's node, 0 to 11.
+#[derive(Clone, Copy, PartialEq, Eq, Debug)]
+pub struct Node(pub u8);
+
+/// A refusal's number, its place and the first node concerned; the number is 0 where nothing is refused, and the node is 0 but
+/// for the refusals 9, 18 and 19.
 #[derive(Clone, Copy, PartialEq, Eq, Debug)]
 pub struct Refusal {
     pub number: u8,
     pub place: usize,
+    pub node: Node,
+}
+
+impl Refusal {
+    /// One that is about no node.
+    fn at(number: u8, place: usize) -> Refusal {
+        Refusal { number, place, node: Node(0) }
+    }
 }
 
 /// Refusal, H record and counters; a refused fold gives zeros.
@@ -90,12 +104,12 @@ pub fn fold(pointers: &[u8], cells: &[u8]) -> (Refusal, [u8; 32], [u32; 12]) {
             &mut place,
         )
     };
-    (Refusal { number, place }, shape, counters)
+    (Refusal::at(number, place), shape, counters)
 }
 
 /// A refused unfolding leaves pointers and cells.
 pub fn unfold(record: &[u8], counters: &[u32], pointers: &mut [u8], cells: &mut [u8]) -> Refusal {
-    let mut place = usize::MAX;
+    let (mut place, mut node) = (usize::MAX, u8::MAX);
     let number = unsafe {
         raw::currantplane_unfold(
             record.as_ptr(),
@@ -107,9 +121,10 @@ pub fn unfold(record: &[u8], counters: &[u32], pointers: &mut [u8], cells: &mut 
             cells.as_mut_ptr(),
             cells.len(),
             &mut place,
+            &mut node,
         )
     };
-    Refusal { number, place }
+    Refusal { number, place, node: Node(node) }
 }
 
 /// Refusal, then fault, stop, branch and next statement.
@@ -130,12 +145,12 @@ pub fn step(pointers: &mut [u8], cells: &mut [u8], statement: &[u8], pick: u8, c
             &mut place,
         )
     };
-    (Refusal { number, place }, answer)
+    (Refusal::at(number, place), answer)
 }
 
 /// Refusal, then the number of locations and the number of edges; a refused translation leaves both tables all zero.
 pub fn translate(input: &[u8], locations: &mut [u8], edges: &mut [u8]) -> (Refusal, [usize; 2]) {
-    let mut answer = [usize::MAX; 3];
+    let mut answer = [usize::MAX; 4];
     let number = unsafe {
         raw::currantplane_translate(
             input.as_ptr(),
@@ -145,11 +160,12 @@ pub fn translate(input: &[u8], locations: &mut [u8], edges: &mut [u8]) -> (Refus
             edges.as_mut_ptr(),
             edges.len(),
             answer.as_mut_ptr(),
-            3,
+            4,
         )
     };
-    let [place, locations, edges] = answer;
-    (Refusal { number, place }, [locations, edges])
+    let [place, locations, edges, node] = answer;
+    // a node is a byte in the library, so nothing is cut off
+    (Refusal { number, place, node: Node(node as u8) }, [locations, edges])
 }
 
 /// Which of the two tables is meant: 0 for the locations, 1 for the edges.
@@ -176,5 +192,5 @@ pub fn record<'a>(locations: &'a [u8], edges: &'a [u8], counts: [usize; 2], tabl
     };
     let [place, begins, length] = answer;
     let meant = if table == LOCATIONS { locations } else { edges };
-    (Refusal { number: refusal, place }, &meant[begins..begins + length])
+    (Refusal::at(refusal, place), &meant[begins..begins + length])
 }

@@ -14,7 +14,7 @@ pub struct Places {
 
 pub const ALL_PLACES: Places = Places { locations: MOST_LOCATIONS, edges: MOST_EDGES };
 
-pub use currantplane::Refusal;
+pub use currantplane::{Node, Refusal};
 
 /// The two tables as they were written, one record after the other.
 pub struct Tables {
@@ -41,11 +41,12 @@ pub fn tables(records: &[u8], places: Places) -> Result<Tables, Refusal> {
     Ok(Tables { locations, edges })
 }
 
-/// Whether the records pass the checks of the input. These come before those of the tables, so tables without a place tell.
+/// Whether the records pass the checks of the input. These come before those of the tables (11, 12), so tables without a place
+/// tell.
 pub fn check(records: &[u8]) -> Result<(), Refusal> {
     match tables(records, Places { locations: 0, edges: 0 }) {
-        Err(refusal) if refusal.number < 11 => Err(refusal),
-        _ => Ok(()),
+        Ok(_) | Err(Refusal { number: 11 | 12, .. }) => Ok(()),
+        Err(refusal) => Err(refusal),
     }
 }
 

@@ -135,7 +135,7 @@ fn places(given: &Arguments) -> Result<Places, Failure> {
 fn hex(records: &[u8], places: Places) -> Done {
     match tables(&records[..records.len().min(MOST_READ)], places) {
         Ok(tables) => Done::printed(hex_lines(&tables.locations) + &hex_lines(&tables.edges)),
-        Err(r) => Done { output: format!("refused {} {}\n", r.number, r.place).into_bytes(), file: None, status: REFUSED },
+        Err(r) => Done { output: refusal::line(r).into_bytes(), file: None, status: REFUSED },
     }
 }
 

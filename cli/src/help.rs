@@ -36,8 +36,8 @@ its condition and its updates, the faults, and totals. Where two guards are give
 enabled when both hold.
 
   --hex            exactly what the program `translate` prints: a record a line, locations then
-                   edges, or `refused NUMBER PLACE`. As the program does, it judges the first 4,096
-                   bytes of the records alone
+                   edges, or `refused NUMBER PLACE`, for 9, 18 and 19 `refused NUMBER PLACE NODE`.
+                   As the program does, it judges the first 4,096 bytes of the records alone
   --dot            a graph for Graphviz
   --svg OUT        a picture, written to OUT; needs Graphviz (Debian package `graphviz`)
   --bench          with the tables of the controller bench, for 128 locations and 256 edges. The
@@ -46,7 +46,9 @@ enabled when both hold.
   --locations N    the places of the location table; without it, 1024, which is the most
   --edges N        the places of the edge table; without it, 2048, which is the most
 
-A refusal is explained: its number, the record or the line, what it means, what to change.
+A refusal is explained: its number, the record or the line, what it means, what to change. Where it
+is about a node of a starting shape (9, 18, 19), the node is named and, in a text, marked; for
+records, 18 and 19 give the whole record as it should be.
 ";
 
 const SHOW: &str = "\

@@ -12,6 +12,7 @@ pub mod help;
 pub mod listing;
 pub mod machine;
 pub mod names;
+pub mod nodes;
 pub mod record;
 pub mod refusal;
 pub mod run;

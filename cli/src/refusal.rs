@@ -1,12 +1,13 @@
 //! Refusals in words: the number and its place come from the proved library, the words from here.
 
 use crate::automaton::{Places, Refusal};
-use crate::record::{Op, Shape, NODES, NULL, POINTERS, SIZE};
+use crate::nodes;
+use crate::record::{Op, NODES, NULL, POINTERS, SIZE};
 use crate::source::{Failure, Source, REFUSED};
 use crate::style::paragraph;
 
 /// What each number from 1 on means, and what to change.
-const MEANINGS: [(&str, &str); 17] = [
+const MEANINGS: [(&str, &str); 19] = [
     (
         "the input is empty, or its length is no multiple of 32 bytes",
         "records have 32 bytes each and no header: complete the last one or cut it off",
@@ -24,11 +25,7 @@ const MEANINGS: [(&str, &str); 17] = [
     ),
     ("a target is no statement", "name a statement of this routine as the target"),
     ("a starting shape breaks the layout of its record", "write the shape as text and let `assemble` lay it out"),
-    (
-        "a node of a starting shape is unreachable or not core, or the nodes are numbered otherwise than at first visit",
-        "a node stands for a whole row of cells, of any length: leave out a node that only one other node leads to, or \
-         that no pointer reaches",
-    ),
+    ("no pointer reaches a node of a starting shape", "let a pointer lead to the node, or leave it out"),
     ("a starting shape stands there twice", "leave one of the two out"),
     (
         "the table has no place for a new location",
@@ -51,11 +48,29 @@ const MEANINGS: [(&str, &str); 17] = [
         "give only 0 and 1 to --picks, or fewer cells to --heap, which has 240 in all",
     ),
     ("no record of the table that is meant has this number", "give a number that is in use; `translate` lists them all"),
+    (
+        "a node of a starting shape is not core: no pointer leads to it, and one node alone does",
+        "leave the node out: its cells belong to the node that leads to it, which stands for a row of any length",
+    ),
+    (
+        "the nodes of a starting shape are not numbered at first visit: from pointer 0 along successors, then from pointer 1, \
+         and so on",
+        "number the nodes as they are visited, or write the shape as text and let `assemble` number it",
+    ),
 ];
 
 /// What a number means and what to change.
 pub fn meaning(number: u8) -> (&'static str, &'static str) {
     MEANINGS[number as usize - 1]
+}
+
+/// The line that the program `translate` prints: the node stands there for three numbers only.
+pub fn line(refusal: Refusal) -> String {
+    let Refusal { number, place, node } = refusal;
+    match nodes::has_node(number) {
+        true => format!("refused {number} {place} {}\n", node.0),
+        false => format!("refused {number} {place}\n"),
+    }
 }
 
 pub fn failure(refusal: Refusal, source: &Source, places: Places) -> Failure {
@@ -64,7 +79,12 @@ pub fn failure(refusal: Refusal, source: &Source, places: Places) -> Failure {
 
 /// The explanation of a refusal, which tables of so many places may have caused.
 pub fn words(refusal: Refusal, source: &Source, places: Places) -> String {
-    explained(refusal, source, here(refusal, source, places))
+    let Some(words) = nodes::words(refusal, source) else {
+        return explained(refusal, source, here(refusal, source, places));
+    };
+    let (means, _) = meaning(refusal.number);
+    let instead = words.instead.map_or(String::new(), |record| format!("  instead: {}\n", hex(&record)));
+    told(refusal, source, [means, &words.change], Some(words.here)) + &instead
 }
 
 /// The explanation of a refusal with what is wrong in this case.
@@ -77,6 +97,9 @@ pub fn explained(refusal: Refusal, source: &Source, here: Option<String>) -> Str
 pub fn told(refusal: Refusal, source: &Source, [means, change]: [&str; 2], here: Option<String>) -> String {
     let mut out = format!("{}: refused {}{}\n", source.name, refusal.number, place_words(refusal, source));
     out.push_str(&lines_of(refusal, source));
+    if nodes::has_node(refusal.number) {
+        out.push_str(&paragraph("  node:    ", 11, &nodes::which(refusal, source)));
+    }
     out.push_str(&paragraph("  meaning: ", 11, means));
     if let Some(here) = here {
         out.push_str(&paragraph("  here:    ", 11, &here));
@@ -90,11 +113,11 @@ fn statements(source: &Source) -> usize {
 }
 
 fn place_words(refusal: Refusal, source: &Source) -> String {
-    let Refusal { number, place } = refusal;
+    let Refusal { number, place, .. } = refusal;
     match number {
         4 => format!(" at record {place}"),
         5..=7 => format!(" at record {place}, which is statement {place}"),
-        8..=10 => format!(" at record {place}, which is starting shape {}", place - statements(source).min(place)),
+        8..=10 | 18 | 19 => format!(" at record {place}, which is starting shape {}", place - statements(source).min(place)),
         _ => String::new(),
     }
 }
@@ -104,18 +127,23 @@ fn lines_of(refusal: Refusal, source: &Source) -> String {
     let record = match refusal.number {
         2 => 64,
         3 => statements(source) + 16,
-        4..=10 => refusal.place,
+        4..=10 | 18 | 19 => refusal.place,
         _ => return String::new(),
     };
     let Some(text) = &source.text else { return hex_of(refusal, source) };
     let Some(&(first, last)) = text.assembled.lines.get(record) else { return String::new() };
     let shown = text.content.lines().enumerate().skip(first - 1).take(last + 1 - first);
-    shown.map(|(at, line)| format!(" {:>4} | {}\n", at + 1, line.trim_end())).collect()
+    let node = nodes::spot(refusal, source);
+    let under = |at: usize, line: &str| match node {
+        Some(spot) if spot.line == at => format!("      | {}\n", spot.caret(line)),
+        _ => String::new(),
+    };
+    shown.map(|(at, line)| format!(" {:>4} | {}\n{}", at + 1, line.trim_end(), under(at + 1, line))).collect()
 }
 
 fn hex_of(refusal: Refusal, source: &Source) -> String {
     match refusal.number {
-        4..=10 => format!("  record:  {}\n", hex(source.record(refusal.place))),
+        4..=10 | 18 | 19 => format!("  record:  {}\n", hex(source.record(refusal.place))),
         _ => String::new(),
     }
 }
@@ -126,7 +154,7 @@ pub fn hex(bytes: &[u8]) -> String {
 
 /// What is wrong in this input, as far as it is more than the meaning.
 fn here(refusal: Refusal, source: &Source, places: Places) -> Option<String> {
-    let Refusal { number, place } = refusal;
+    let Refusal { number, place, .. } = refusal;
     let record = source.record(place);
     match number {
         1 => Some(format!("it has {} bytes{}", source.records.len(), taken_as_records(source))),
@@ -138,7 +166,6 @@ fn here(refusal: Refusal, source: &Source, places: Places) -> Option<String> {
         6 => pointer_words(record),
         7 => target_words(record, statements(source)),
         8 => Some(layout_words(record)),
-        9 => node_words(&Shape::read(record), &node_names(source, place)),
         10 => equal_words(source, place),
         11 if place == places.locations => {
             Some(format!("starting shape {place} finds no place: the table has {}", places.locations))
@@ -202,36 +229,6 @@ fn layout_words(record: &[u8]) -> String {
         Some(at) => format!("byte {at} is 0x{:02x} and must be {}", record[at], wanted(at)),
         None => "the record is not whole".into(),
     }
-}
-
-/// The names that the text gives the nodes, or their numbers.
-fn node_names(source: &Source, place: usize) -> Vec<String> {
-    let given = source.text.as_ref().and_then(|t| t.assembled.nodes.get(place - statements(source).min(place)));
-    let name = |n: usize| given.and_then(|names| names.get(n)).map_or(format!("node {n}"), |name| format!("`{name}`"));
-    (0..NODES).map(name).collect()
-}
-
-fn node_words(shape: &Shape, names: &[String]) -> Option<String> {
-    let mut order: Vec<u8> = Vec::new();
-    for &start in &shape.pointers {
-        let mut value = start;
-        while value < NULL && !order.contains(&value) {
-            order.push(value);
-            value = shape.successors[value as usize];
-        }
-    }
-    let nodes = 0..shape.count;
-    if let Some(lost) = nodes.clone().find(|&n| !order.contains(&(n as u8))) {
-        return Some(format!("no pointer reaches {}", names[lost]));
-    }
-    let holders = |n: usize| nodes.clone().filter(|&m| shape.successors[m] as usize == n).collect::<Vec<_>>();
-    let inner = nodes.clone().find(|&n| !shape.pointers.contains(&(n as u8)) && holders(n).len() < 2);
-    if let Some(n) = inner {
-        let before = &names[holders(n).first().copied()?];
-        return Some(format!("nothing but {before} leads to {0}, so the cells of {0} belong to {before}", names[n]));
-    }
-    let (at, found) = order.iter().enumerate().find(|&(at, &n)| at != n as usize)?;
-    Some(format!("node {found} is visited as number {at}"))
 }
 
 fn equal_words(source: &Source, place: usize) -> Option<String> {

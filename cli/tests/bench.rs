@@ -4,7 +4,7 @@ mod common;
 
 use common::{example, folder, printed, text, tool, Draw, EXAMPLES};
 use std::process::Output;
-use tool::automaton::{tables, Automaton, Refusal, ALL_PLACES};
+use tool::automaton::{tables, Automaton, Node, Refusal, ALL_PLACES};
 use tool::text::assemble;
 
 /// Three edges from each of the shapes below: two keep the shape, and the third is a leak.
@@ -41,10 +41,11 @@ fn full(records: &[u8]) -> Result<Automaton, Refusal> {
 
 /// What the bench must answer by the full listing. The first edge that finds no place is refused, its target's place first.
 fn expected(automaton: &Automaton) -> Option<Refusal> {
+    let at = |number: u8, place: usize| Some(Refusal { number, place, node: Node(0) });
     let refused = |(number, edge): (usize, &tool::automaton::Edge)| match (edge.to < 128, number < 256) {
         (true, true) => None,
-        (true, false) => Some(Refusal { number: 12, place: edge.from }),
-        (false, _) => Some(Refusal { number: 11, place: edge.from }),
+        (true, false) => at(12, edge.from),
+        (false, _) => at(11, edge.from),
     };
     automaton.edges.iter().enumerate().find_map(refused)
 }
@@ -92,8 +93,7 @@ fn too_large(body: &str, [number, explored]: [usize; 2], of_full: &str) {
 fn too_large_by(body: &str, refused: [usize; 2], [locations, edges]: [usize; 2], excess: &str) {
     let automaton = full(&assemble(body).unwrap().records).expect("a full listing");
     assert_eq!([automaton.locations.len(), automaton.edges.len()], [locations, edges]);
-    let place = refused[1];
-    assert_eq!(expected(&automaton), Some(Refusal { number: refused[0] as u8, place }));
+    assert_eq!(expected(&automaton).map(|r| [r.number as usize, r.place]), Some(refused));
     too_large(
         body,
         refused,
@@ -164,7 +164,14 @@ fn a_refused_record() {
     let twice = ring(&["choose"; 64], 3) + "shape\np0 -> a -> c -> null\np1 -> b -> c\n";
     let mut op = assemble(&ring(&["choose"; 64], 3)).unwrap().records;
     op[32 * 63 + 1] = 13;
-    for (input, refused) in [(twice.into_bytes(), "refused 10 67\n"), (op, "refused 5 63\n"), (Vec::new(), "refused 1 0\n")] {
+    let inner = ring(&["choose"; 64], 3) + "shape\np0 -> a -> b\n";
+    let cases = [
+        (twice.into_bytes(), "refused 10 67\n"),
+        (op, "refused 5 63\n"),
+        (Vec::new(), "refused 1 0\n"),
+        (inner.into_bytes(), "refused 18 67 1\n"),
+    ];
+    for (input, refused) in cases {
         for words in [&[][..], &["--hex"], &["--dot"], &["--svg", "-"]] {
             let done = with(words, &input);
             assert_eq!(done.status.code(), Some(1), "{words:?}");
@@ -232,7 +239,7 @@ fn the_bench_goes_by_the_full_listing() {
         assert_eq!(plain.status.code(), Some(0));
         match expected(&automaton) {
             None => assert_eq!(bench, plain),
-            Some(Refusal { number, place }) => {
+            Some(Refusal { number, place, .. }) => {
                 assert_eq!((text(&bench.stdout), bench.status.code()), (format!("refused {number} {place}\n"), Some(1)))
             }
         }

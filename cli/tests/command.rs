@@ -77,6 +77,7 @@ fn help_says_what_is_proved() {
     for option in ["--hex", "--dot", "--svg", "--bench", "--locations", "--edges"] {
         assert!(text(&printed(&["help", "translate"], b"")).contains(option));
     }
+    assert!(text(&printed(&["help", "translate"], b"")).contains("for 9, 18 and 19 `refused NUMBER PLACE NODE`.\n"));
     assert!(text(&printed(&["help"], b"")).contains("translate FILE --bench\n"));
     for option in ["--heap", "--shape", "--picks", "--steps"] {
         assert!(text(&printed(&["help", "run"], b"")).contains(option));

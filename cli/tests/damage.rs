@@ -83,7 +83,7 @@ fn damaged_texts() {
 #[test]
 fn damaged_records() {
     let mut d = Draw::new(6);
-    let mut met = [0; 13];
+    let mut met = [0; 20];
     for round in 0..30_000 {
         let mut records = d.routine(6);
         match d.below(8) {
@@ -107,7 +107,8 @@ fn damaged_records() {
             assert!(said.contains("\n  here:    "), "{said}");
         }
     }
-    assert!(met[1..].iter().all(|&n| n > 10), "{met:?}");
+    // 13 to 17 are about heaps, steps and records by their numbers
+    assert!((1..=12).chain(18..=19).all(|number: usize| met[number] > 10), "{met:?}");
 }
 
 /// What the tool says of the tables of unlink with one byte of an edge changed.

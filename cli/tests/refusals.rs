@@ -2,8 +2,9 @@
 
 mod common;
 
-use common::{example, text, tool};
-use tool::record::{Routine, SIZE};
+use common::{example, records, text, tool};
+use tool::automaton::{Node, Refusal};
+use tool::record::{Routine, NULL, SIZE};
 use tool::text::assemble;
 
 const SMALL: &str = "p0 := p1.next\nchoose else last\nlast: stop\nshape\np0 -> a -> b\np1 -> b\nshape\n";
@@ -64,7 +65,7 @@ fn records_that_are_refused() {
         (changed(3, 9, 2), 8, "here:    byte 9 is 0x02 and must be a node below 2, 0xfe for null or 0xff for undefined"),
         (changed(4, 10, 7), 8, "here:    byte 10 is 0x07 and must be 0"),
         (changed(3, 4, 0xfe), 9, "here:    no pointer reaches node 0"),
-        (changed(3, 5, 0xfe), 9, "here:    nothing but node 0 leads to node 1, so the cells of node 1 belong to node 0"),
+        (changed(3, 5, 0xfe), 18, "here:    nothing but node 0 leads to node 1, so the cells of node 1 belong to node 0"),
         (changed(3, 4, 1), 9, "here:    no pointer reaches node 0"),
         ([&whole[..], &whole[96..128]].concat(), 10, "here:    it is equal to starting shape 0 (record 3)"),
     ];
@@ -79,7 +80,41 @@ fn records_that_are_refused() {
 fn another_numbering() {
     let mut records = assemble("stop\nshape\np0 -> a\np1 -> b\n").unwrap().records;
     records.swap(SIZE + 4, SIZE + 5);
-    assert!(said_of(&records, 9).contains("here:    node 1 is visited as number 0"));
+    assert!(said_of(&records, 19).contains("here:    the walk gives node 0 the number 1\n"));
+}
+
+/// Where nodes are wrong in several ways, 9 is told before 18 and 18 before 19, also at a later node; and the first shape is told.
+#[test]
+fn shapes_with_several_faults() {
+    let (lost, inner, turned): ([u8; 4], [u8; 4], [u8; 2]) = ([2, NULL, NULL, 3], [1, NULL, 3, NULL], [NULL; 2]);
+    let cases: [(Vec<u8>, &str); 8] = [
+        (records(&[(&[0, 1], &lost)]), "refused 9 1 3\n"),
+        (records(&[(&[1, 0], &lost)]), "refused 9 1 3\n"),
+        (records(&[(&[2, 0], &inner)]), "refused 18 1 1\n"),
+        (records(&[(&[1, 0], &lost[..3])]), "refused 18 1 2\n"),
+        (records(&[(&[0, 1], &turned), (&[1, 0], &turned), (&[1], &lost)]), "refused 19 2 0\n"),
+        (records(&[(&[1, 0], &turned), (&[1, 0], &turned)]), "refused 19 1 0\n"),
+        (records(&[(&[0, 1], &turned), (&[0, 1], &turned), (&[1], &lost)]), "refused 10 2\n"),
+        (records(&[(&[0, 5], &lost), (&[1], &lost)]), "refused 8 1\n"),
+    ];
+    for (input, printed) in cases {
+        let done = tool(&["translate", "-", "--hex"], &input);
+        assert_eq!((done.status.code(), text(&done.stdout)), (Some(1), printed.into()));
+        let said = text(&tool(&["translate", "-"], &input).stderr);
+        let (number, _) = printed["refused ".len()..].split_once(' ').unwrap();
+        assert!(said.starts_with(&format!("standard input: refused {number} at record ")), "{said}");
+        assert_eq!(said.contains("\n  node:    "), matches!(number, "9" | "18" | "19"), "{said}");
+    }
+}
+
+#[test]
+fn the_node_is_printed_for_three_numbers_only() {
+    for number in 1..=19 {
+        let told = [9, 18, 19].contains(&number);
+        let expected = format!("refused {number} 4{}\n", if told { " 2" } else { "" });
+        assert_eq!(tool::refusal::line(Refusal { number, place: 4, node: Node(if told { 2 } else { 0 }) }), expected);
+    }
+    assert_eq!(tool::refusal::line(Refusal { number: 9, place: 0, node: Node(0) }), "refused 9 0 0\n");
 }
 
 #[test]
@@ -89,10 +124,10 @@ fn texts_that_are_refused() {
         (statements.as_str(), 2, "   65 | stop\n"),
         (
             "stop\nshape\np0 -> a -> b -> null\n",
-            9,
+            18,
             "at record 1, which is starting shape 0\n    2 | shape\n    3 | p0 -> a -> b -> null\n",
         ),
-        ("stop\nshape\np0 -> a -> b -> null\n", 9, "nothing but `a` leads to `b`, so the cells of `b` belong to `a`"),
+        ("stop\nshape\np0 -> a -> b -> null\n", 18, "nothing but `a` leads to `b`, so the cells of `b` belong to `a`"),
         ("stop\nshape\np0 -> a\nc -> a\n", 9, "no pointer reaches `c`"),
         ("stop\nshape\np0 -> a\nshape # again\np0 -> b\n", 10, "    4 | shape # again\n    5 | p0 -> b\n"),
         ("stop\nshape\np0 -> a\nshape # again\np0 -> b\n", 10, "it is equal to starting shape 0 (record 1, line 2)"),
@@ -116,7 +151,8 @@ fn texts_that_are_refused() {
 fn assemble_and_disassemble_refuse() {
     let twice = "stop\nshape\np0 -> a\nshape\np0 -> b\n";
     let inner = "stop\nshape\np0 -> a -> b\n";
-    for (body, number) in [(twice, 10), (inner, 9)] {
+    let lost = "stop\nshape\np0 -> a\nb -> a\n";
+    for (body, number) in [(twice, 10), (inner, 18), (lost, 9)] {
         let records = assemble(body).unwrap().records;
         for done in [tool(&["assemble", "-"], body.as_bytes()), tool(&["disassemble", "-"], &records)] {
             assert_eq!((done.status.code(), done.stdout.len()), (Some(1), 0));
@@ -164,7 +200,7 @@ fn heaps_and_picks_that_are_refused() {
 
 #[test]
 fn every_number_has_its_own_words() {
-    let all: Vec<_> = (1..=17).map(tool::refusal::meaning).collect();
+    let all: Vec<_> = (1..=19).map(tool::refusal::meaning).collect();
     for (i, words) in all.iter().enumerate() {
         assert!(all[..i].iter().all(|w| w.0 != words.0), "{}", i + 1);
     }

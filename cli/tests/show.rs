@@ -151,5 +151,5 @@ fn numbers_that_are_not_in_use() {
     }
     // a routine that is refused has no records
     let done = tool(&["show", "-", "location", "0"], b"stop\nshape\np0 -> a -> b\n");
-    assert!(text(&done.stderr).contains("refused 9 at record 1"), "{}", text(&done.stderr));
+    assert!(text(&done.stderr).contains("refused 18 at record 1"), "{}", text(&done.stderr));
 }

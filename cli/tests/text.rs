@@ -145,7 +145,9 @@ fn line_ends_marks_and_spaces_do_not_matter() {
 fn nodes_are_numbered_at_first_visit() {
     let body = "stop\nshape\nz -> y -> undefined\np3 -> w -> y\np1 -> z\np0, p2 -> w\n";
     let made = assemble(body).unwrap();
-    assert_eq!(made.nodes, [["w", "y", "z"]]);
+    let names: Vec<&str> = made.nodes[0].iter().map(|node| node.name.as_str()).collect();
+    let spots: Vec<_> = made.nodes[0].iter().map(|node| (node.spot.line, node.spot.column)).collect();
+    assert_eq!((made.nodes.len(), names, spots), (1, vec!["w", "y", "z"], vec![(4, 7), (3, 6), (3, 1)]));
     assert_eq!(made.records[32..54], [0x48, 0, 0, 3, 0, 2, 0, 0, 0xfe, 0xfe, 1, 0xff, 1, 0, 0, 0, 0, 0, 0, 0, 0, 0]);
 }
 
@@ -165,11 +167,13 @@ fn the_page_says_what_is_so() {
         tool::automaton::check(&made.records).unwrap_or_else(|r| panic!("{r:?} in\n{body}"));
     }
     let console = blocks("console");
-    let [shown] = &console[..] else { panic!("one error is shown") };
-    let (asked, answer) = shown.split_once('\n').unwrap();
-    assert_eq!(asked, "$ printf 'loop: p0 := p1.nxt goto loop\\n' | currantplane assemble -");
-    let done = tool(&["assemble", "-"], b"loop: p0 := p1.nxt goto loop\n");
-    assert_eq!((done.status.code(), text(&done.stderr)), (Some(2), answer.to_string()));
+    assert_eq!(console.len(), 2);
+    for (shown, status) in console.iter().zip([2, 1]) {
+        let (asked, answer) = shown.split_once('\n').unwrap();
+        let body = asked.strip_prefix("$ printf '").and_then(|a| a.strip_suffix("' | currantplane assemble -")).unwrap();
+        let done = tool(&["assemble", "-"], body.replace("\\n", "\n").as_bytes());
+        assert_eq!((done.status.code(), text(&done.stderr)), (Some(status), answer.to_string()));
+    }
     let grammar = blocks("ebnf").concat();
     for word in ["choose", "else", "free", "goto", "new", "next", "null", "shape", "skip", "stop", "test", "undefined"] {
         assert!(grammar.contains(&format!("\"{word}\"")), "{word} is not in the grammar");

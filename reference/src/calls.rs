@@ -2,15 +2,16 @@
 
 use crate::fold::{fold_heap, Counters};
 use crate::image::{lengths_fit, read_image, write_image};
-use crate::input::Refusal;
 use crate::machine::{run, Outcome};
 use crate::records::{node_count, Record, NODES, RECORD, STATEMENT, STATEMENTS};
+use crate::refusal::Refusal;
 use crate::statement::{read_statement, Op, Statement};
 use crate::unfold::{check_shape, unfold_shape};
 
-/// A refusal of these calls: the place is 0 for every number.
+/// A refusal of these calls: the place is 0 for every number. Only a shape
+/// that is refused tells a node.
 fn refusal(number: u8) -> Refusal {
-    Refusal { number, place: 0 }
+    Refusal::at(number, 0)
 }
 
 /// The answer of [`fold`]. On a refusal the record and the counters are zero.
@@ -36,14 +37,14 @@ pub fn fold(pointers: &[u8], cells: &[u8]) -> Folded {
 }
 
 /// Unfolds a shape with counters into a lent heap image, whose contents do
-/// not matter. Refuses with 13, 8, 9 or 15; then nothing is written. A list
-/// of counters that is not twelve long is refused with 15.
+/// not matter. Refuses with 13, 8, 9, 18, 19 or 15, in this order; then nothing
+/// is written. A list of counters that is not twelve long is refused with 15.
 pub fn unfold(record: &[u8], counters: &[u32], pointers: &mut [u8], cells: &mut [u8]) -> Result<(), Refusal> {
     if !lengths_fit(pointers, cells) {
         return Err(refusal(13));
     }
     let record = Record::try_from(record).map_err(|_| refusal(8))?;
-    check_shape(&record).map_err(refusal)?;
+    check_shape(&record)?;
     let counters = read_counters(counters, node_count(&record), cells.len()).map_err(refusal)?;
     write_image(&unfold_shape(&record, &counters), pointers, cells);
     Ok(())

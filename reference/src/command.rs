@@ -5,9 +5,9 @@ use std::io::{Read, Write};
 use crate::calls::{fold, step, unfold, Stepped};
 use crate::heap::POINTERS;
 use crate::help;
-use crate::input::Refusal;
 use crate::part::record_part;
 use crate::records::{hex, NULL, RECORD, UNUSED};
+use crate::refusal::Refusal;
 use crate::selftest;
 use crate::text::{write_counters, write_record, write_values, Lines};
 use crate::translate::{translate, EDGES, LOCATIONS};
@@ -37,8 +37,7 @@ fn result(text: String) -> Result<Answer, String> {
 
 fn refused(refusal: Refusal) -> Result<Answer, String> {
     let status = REFUSED;
-    let Refusal { number, place } = refusal;
-    let text = format!("refused {number} {place}\n");
+    let text = format!("refused {refusal}\n");
     Ok(Answer { status, text })
 }
 
@@ -105,8 +104,7 @@ fn run_translate(input: &mut dyn Read, places: [usize; 2]) -> Result<Answer, Str
     let [mut locations, mut edges] = places.map(|places| vec![0; places * RECORD]);
     let answer = translate(&input, &mut locations, &mut edges);
     if answer.refusal != 0 {
-        let (number, place) = (answer.refusal, answer.place);
-        return refused(Refusal { number, place });
+        return refused(Refusal { number: answer.refusal, place: answer.place, node: answer.node });
     }
     let mut text = String::new();
     for (table, count) in [(&locations, answer.locations), (&edges, answer.edges)] {

@@ -52,7 +52,7 @@ pub fn nodes_of_cells(heap: &Heap) -> Vec<Option<usize>> {
 }
 
 /// For each cell, whether a pointer holds it or the next of two or more cells.
-fn core_cells(heap: &Heap) -> Vec<bool> {
+pub fn core_cells(heap: &Heap) -> Vec<bool> {
     let mut holders = vec![0usize; heap.cells.len()];
     for &next in heap.cells.iter().flatten() {
         if let Value::Cell(cell) = next {
@@ -71,7 +71,7 @@ fn core_cells(heap: &Heap) -> Vec<bool> {
 /// The core cells in the order of their first visit. With six pointers there
 /// are never more than twelve: each one that no pointer holds uses up two of
 /// the segments' ends.
-fn number_heads(heap: &Heap, core: &[bool]) -> Vec<usize> {
+pub fn number_heads(heap: &Heap, core: &[bool]) -> Vec<usize> {
     let mut heads = Vec::with_capacity(NODES);
     let mut visited = vec![false; heap.cells.len()];
     for &pointer in &heap.pointers {

@@ -24,7 +24,11 @@ usage: reference translate [--bench] < FILE
 
 Reads records of 32 bytes (at most 4,096 bytes are read): 1 to 64 S, then 1 to
 16 H. Prints each L, then each E, as 64 hex digits a line, or one line
-'refused NUMBER PLACE'.
+'refused NUMBER PLACE', for 9, 18 and 19 'refused NUMBER PLACE NODE':
+   9  a node of the shape is unreachable
+  18  all are reachable, and a node is not core
+  19  only the numbering differs
+NODE is the first node concerned.
 
 There are places for 1,024 locations and 2,048 edges. With --bench there are
 places for 128 locations and 256 edges, as on the controller bench: a listing
@@ -56,7 +60,9 @@ In place of 'length' the lent heap may be given, whose values do not matter:
 Prints the heap:
   pointers VALUE...
   cells VALUE...
-or one line 'refused NUMBER PLACE'.
+or one line 'refused NUMBER PLACE', for 9, 18 and 19 (a node is unreachable, is
+not core, or is numbered otherwise) 'refused NUMBER PLACE NODE' with the first
+such node.
 ";
 
 pub const STEP: &str = "\
@@ -108,8 +114,9 @@ usage: reference selftest [--seed NUMBER] [--routines NUMBER]
 
 Tests random routines, heaps and runs, from a fixed seed unless another one is
 given. Prints what was counted. Fails, with exit status 1, if anything differs,
-if some refusal from 1 to 17 or fault from 1 to 3 was never met, or if tests of
-undefined pointers or relinks came too seldom: each kind that is printed is to
-be met once and once more for every 100 routines. A few hundred routines are
-enough to meet them all. The default is 12,000 routines.
+if some refusal from 1 to 19 or fault from 1 to 3 was never met, or if tests of
+undefined pointers, relinks or damaged H records came too seldom: each kind that
+is printed, and each of the refusals 9, 18 and 19 at each node at which it can
+come, is to be met once and once more for every 100 routines. A few hundred
+routines are enough to meet them all. The default is 12,000 routines.
 ";

@@ -1,20 +1,9 @@
-//! Reading the input of the translator, and its refusals 1 to 10.
+//! Reading the input of the translator, and its refusals 1 to 10, 18 and 19.
 
 use crate::records::{Record, RECORD, SHAPES, START, STATEMENT, STATEMENTS};
+use crate::refusal::{refuse, Refusal};
 use crate::statement::{read_statement, Statement};
 use crate::unfold::check_shape;
-
-/// A refusal number with its place.
-#[derive(Clone, Copy, PartialEq, Eq, Debug)]
-pub struct Refusal {
-    pub number: u8,
-    pub place: usize,
-}
-
-/// A refusal as an error.
-pub fn refuse<T>(number: u8, place: usize) -> Result<T, Refusal> {
-    Err(Refusal { number, place })
-}
 
 /// A routine that passed the checks, with its starting shapes as H records.
 #[derive(Clone, PartialEq, Eq, Debug)]
@@ -37,9 +26,7 @@ pub fn read_routine(input: &[u8]) -> Result<Routine, Refusal> {
     }
     for (place, record) in shape_records.iter().enumerate() {
         let place = statements + place;
-        if let Err(number) = check_shape(record) {
-            return refuse(number, place);
-        }
+        check_shape(record).map_err(|refusal| Refusal { place, ..refusal })?;
         if routine.shapes.contains(record) {
             return refuse(10, place);
         }

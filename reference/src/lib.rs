@@ -7,11 +7,13 @@
 //!
 //! The calls are [`translate`], [`fold`], [`unfold`], [`step`] and
 //! [`record_part`]. None of them panics, whatever the bytes, lengths and
-//! numbers are; each refuses by number and place.
+//! numbers are; each refuses by number and place and, where a shape is refused
+//! for one of its nodes, by the first such node.
 
 mod automaton;
 mod calls;
 pub mod command;
+mod damage;
 mod fold;
 mod heap;
 mod help;
@@ -22,6 +24,7 @@ mod part;
 mod probe;
 mod random;
 mod records;
+mod refusal;
 mod routines;
 pub mod selftest;
 mod statement;
@@ -30,6 +33,6 @@ mod translate;
 mod unfold;
 
 pub use calls::{fold, step, unfold, Folded, Stepped};
-pub use input::Refusal;
 pub use part::record_part;
+pub use refusal::{Node, Refusal};
 pub use translate::{translate, Translated};

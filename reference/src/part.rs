@@ -1,11 +1,11 @@
 //! One record out of the two tables, as a part of its table.
 
-use crate::input::Refusal;
 use crate::records::RECORD;
+use crate::refusal::Refusal;
 use crate::translate::{places, EDGES, LOCATIONS};
 
 /// The one refusal of this call, whatever its reason.
-const NO_RECORD: Refusal = Refusal { number: 17, place: 0 };
+const NO_RECORD: Refusal = Refusal::at(17, 0);
 
 /// The 32 bytes of a record, where they stand in the table that is meant:
 /// `table` is 0 for the locations and 1 for the edges. The counts are those in

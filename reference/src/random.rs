@@ -80,7 +80,7 @@ pub fn random_heap(random: &mut Random, most: usize) -> Heap {
 }
 
 /// A cell so many times in a hundred, otherwise null or undefined.
-fn random_value(random: &mut Random, cells: usize, percent: usize) -> Value {
+pub fn random_value(random: &mut Random, cells: usize, percent: usize) -> Value {
     if cells > 0 && random.chance(percent) {
         Value::Cell(random.below(cells))
     } else if random.chance(65) {

@@ -2,9 +2,10 @@
 
 use std::collections::HashMap;
 
-use crate::input::{read_routine, refuse, Refusal, Routine};
+use crate::input::{read_routine, Routine};
 use crate::probe::{find_edges, Found};
 use crate::records::{branch_byte, location, Record, EDGE, RECORD};
+use crate::refusal::{refuse, Node, Refusal};
 
 /// The most locations and edges, however long the lent tables are.
 pub const LOCATIONS: usize = 1024;
@@ -13,10 +14,12 @@ pub const EDGES: usize = 2048;
 /// The answer of [`translate`]. On a refusal both counts are 0.
 #[derive(Clone, Copy, PartialEq, Eq, Debug)]
 pub struct Translated {
-    /// 0 for none, otherwise 1 to 12.
+    /// 0 for none, otherwise 1 to 12, 18 or 19.
     pub refusal: u8,
     /// The place of the refusal, 0 if there is none.
     pub place: usize,
+    /// The first node concerned, for the refusals 9, 18 and 19; otherwise 0.
+    pub node: Node,
     /// How many L records stand in the first table.
     pub locations: usize,
     /// How many E records stand in the second table.
@@ -35,9 +38,10 @@ pub fn translate(input: &[u8], locations: &mut [u8], edges: &mut [u8]) -> Transl
         Ok(listing) => {
             copy_records(&listing.locations, locations);
             copy_records(&listing.edges, edges);
-            Translated { refusal: 0, place: 0, locations: listing.locations.len(), edges: listing.edges.len() }
+            let (locations, edges) = (listing.locations.len(), listing.edges.len());
+            Translated { refusal: 0, place: 0, node: Node(0), locations, edges }
         }
-        Err(Refusal { number, place }) => Translated { refusal: number, place, locations: 0, edges: 0 },
+        Err(Refusal { number, place, node }) => Translated { refusal: number, place, node, locations: 0, edges: 0 },
     }
 }
 

@@ -1,8 +1,9 @@
 //! Unfolding a shape with counters into a heap, and what a shape must be.
 
-use crate::fold::{fold_heap, Counters};
+use crate::fold::{core_cells, number_heads, Counters};
 use crate::heap::{Heap, Value};
 use crate::records::{breaks_layout, byte_value, node_count, pointer_byte, successor_byte, Record, NODES};
+use crate::refusal::{refuse, Node, Refusal};
 
 /// Unfolds a shape whose layout is sound, with a counter of at least 1 for
 /// each node. Cells are numbered from 0, node by node, head to tail.
@@ -33,25 +34,39 @@ pub fn unfold_shape(record: &Record, counters: &Counters) -> Heap {
     heap
 }
 
-/// Refuses a record that is no shape, with 8 or 9.
+/// Refuses a record that is no shape, with 8, 9, 18 or 19 at place 0.
 ///
-/// A record is a shape when the heap with one cell for each node folds back
-/// into it: a node that is not core would be merged, another numbering would
-/// be put right, and an unreachable node is an unreachable cell.
-pub fn check_shape(record: &Record) -> Result<(), u8> {
+/// It is looked at as the heap with one cell for each node: cell n is then the
+/// head of node n. Each of the last three tells the first node concerned.
+pub fn check_shape(record: &Record) -> Result<(), Refusal> {
     if breaks_layout(record) {
-        return Err(8);
+        return refuse(8, 0);
     }
     let heap = unfold_shape(record, &[1; NODES]);
-    if heap.leaks() || fold_heap(&heap).0 != *record {
-        return Err(9);
+    if let Some(node) = heap.reachable().iter().position(|&reachable| !reachable) {
+        return refuse_node(9, node);
     }
-    Ok(())
+    let core = core_cells(&heap);
+    if let Some(node) = core.iter().position(|&core| !core) {
+        return refuse_node(18, node);
+    }
+    // As all are core, these are all nodes in the order of their first visit.
+    let visits = number_heads(&heap, &core);
+    let number_of = |node: usize| visits.iter().position(|&visited| visited == node);
+    match (0..visits.len()).find(|&node| number_of(node) != Some(node)) {
+        Some(node) => refuse_node(19, node),
+        None => Ok(()),
+    }
+}
+
+fn refuse_node(number: u8, node: usize) -> Result<(), Refusal> {
+    Err(Refusal { number, place: 0, node: Node(node as u8) })
 }
 
 #[cfg(test)]
 mod tests {
     use super::*;
+    use crate::fold::fold_heap;
     use crate::records::{NULL, START, UNDEFINED};
 
     fn shape(pointers: [u8; 6], successors: &[u8]) -> Record {
@@ -83,15 +98,25 @@ mod tests {
         assert_eq!(check_shape(&shape(pointers, &[NULL])), Ok(()));
         assert_eq!(check_shape(&shape(pointers, &[0])), Ok(()));
         assert_eq!(check_shape(&shape(pointers, &[1, 1])), Ok(()));
-        // Not core, unreachable, and two rings of which one is lost.
-        assert_eq!(check_shape(&shape(pointers, &[1, NULL])), Err(9));
-        assert_eq!(check_shape(&shape(pointers, &[NULL, 0])), Err(9));
-        assert_eq!(check_shape(&shape(pointers, &[0, 1])), Err(9));
-        // Another numbering.
-        let mut swapped = pointers;
-        swapped[0] = 1;
-        swapped[1] = 0;
-        assert_eq!(check_shape(&shape(swapped, &[NULL, NULL])), Err(9));
-        assert_eq!(check_shape(&shape(swapped, &[2, NULL])), Err(8));
+        // Unreachable, and two rings of which one is lost.
+        assert_eq!(check_shape(&shape(pointers, &[NULL, 0])), refuse_node(9, 1));
+        assert_eq!(check_shape(&shape(pointers, &[0, 1])), refuse_node(9, 1));
+        // Not core, and the first of two that are not.
+        assert_eq!(check_shape(&shape(pointers, &[1, NULL])), refuse_node(18, 1));
+        assert_eq!(check_shape(&shape(pointers, &[1, 2, NULL])), refuse_node(18, 1));
+        // Another numbering, from the first node and from the second.
+        let swapped = [1, 0, NULL, NULL, NULL, NULL];
+        assert_eq!(check_shape(&shape(swapped, &[NULL, NULL])), refuse_node(19, 0));
+        assert_eq!(check_shape(&shape([0, 1, NULL, NULL, NULL, NULL], &[2, 2, NULL])), refuse_node(19, 1));
+        assert_eq!(check_shape(&shape(swapped, &[2, NULL])), refuse(8, 0));
+    }
+
+    #[test]
+    fn which_of_them_comes_first() {
+        let swapped = [1, 0, NULL, NULL, NULL, NULL];
+        // Nodes 0 and 1 are numbered otherwise, node 2 is not core, node 3 is lost.
+        assert_eq!(check_shape(&shape(swapped, &[NULL, 2, NULL, NULL])), refuse_node(9, 3));
+        assert_eq!(check_shape(&shape(swapped, &[NULL, 2, NULL])), refuse_node(18, 2));
+        assert_eq!(check_shape(&shape(swapped, &[NULL, NULL])), refuse_node(19, 0));
     }
 }

@@ -7,7 +7,7 @@ mod common;
 use common::random::Random;
 use common::*;
 use reference::selftest::{sound_inputs, unsound_inputs};
-use reference::Translated;
+use reference::{Node, Translated};
 
 const FULL: [usize; 2] = [32_768, 65_536];
 const BENCH: [usize; 2] = [4_096, 8_192];
@@ -64,7 +64,7 @@ fn due(full: &Tables, shapes: usize, lengths: [usize; 2]) -> (Tables, Option<Stu
     assert_eq!(stuck.is_none(), fits, "accepted exactly if the listing fits");
     let answer = match stuck {
         None => full.answer,
-        Some(Stuck { refusal, place, .. }) => Translated { refusal, place, locations: 0, edges: 0 },
+        Some(Stuck { refusal, place, .. }) => Translated { refusal, place, node: Node(0), locations: 0, edges: 0 },
     };
     let table = |number: usize, bytes: &[u8]| {
         let records = if fits { &bytes[..32 * counts[number]] } else { &[] };
@@ -169,15 +169,15 @@ fn random_routines_into_tables_of_many_lengths() {
 #[test]
 fn a_failed_check_is_the_same_whatever_the_tables() {
     let mut random = Random(0x2545_f491_4f6c_dd1d);
-    let mut met = [0; 10];
-    for (input, refusal) in unsound_inputs(4).take(2_000) {
+    let mut met = [0; 20];
+    for (input, refusal) in unsound_inputs(4).take(2_400) {
         let any = [random.below(5_000), random.below(9_000)];
         for lengths in [FULL, BENCH, [0, 0], [0, BENCH[1]], [BENCH[0], 0], any] {
-            check_refused(&translated(&input, lengths), refusal.number, refusal.place);
+            check_told(&translated(&input, lengths), refusal);
         }
-        met[usize::from(refusal.number) - 1] += 1;
+        met[usize::from(refusal.number)] += 1;
     }
-    assert_eq!(met, [200; 10]);
+    assert!(met[0] == 0 && met[1..=10] == [200; 10] && met[11..18] == [0; 7] && met[18..] == [200; 2], "{met:?}");
 }
 
 #[test]
@@ -367,7 +367,7 @@ fn check_plan(plan: &Plan) -> Option<Stuck> {
     let input = plan.input();
     let full = translated(&input, FULL);
     let [locations, edges] = plan.counts();
-    assert_eq!(full.answer, Translated { refusal: 0, place: 0, locations, edges }, "{plan:?}");
+    assert_eq!(full.answer, Translated { refusal: 0, place: 0, node: Node(0), locations, edges }, "{plan:?}");
     check_lengths(&input, &full, BENCH)
 }
 

@@ -119,13 +119,14 @@ fn fold_refuses() {
     check(&["fold"], lost, 1, "refused 14 0\n");
 }
 
-/// Wants this refusal at place 0 of an unfolding with these counters.
+/// Wants this refusal at place 0, or node 0, of an unfolding with these counters.
 #[track_caller]
 fn check_unfold(record: &[u8], counters: &[u32], length: usize, number: u8) {
     let words: String = counters.iter().map(|word| format!(" {word}")).collect();
     let record = hex(record);
     let text = format!("record {record}\ncounters{words}\nlength {length}\n");
-    let due = format!("refused {number} 0\n");
+    let node = if number == 9 { " 0" } else { "" };
+    let due = format!("refused {number} 0{node}\n");
     check(&["unfold"], text.as_bytes(), 1, &due);
 }
 

@@ -3,7 +3,7 @@
 mod common;
 
 use common::*;
-use reference::{fold, step, unfold, Refusal, Stepped};
+use reference::{fold, step, unfold, Node, Refusal, Stepped};
 
 /// Pointers 0 and 3 lead over cells 4 and 1 into the ring 2, 0; cell 3 is
 /// not in use.
@@ -51,10 +51,15 @@ fn refused_folds_are_zero() {
 /// lengths, which stays as it is.
 #[track_caller]
 fn check_unfold(record: &[u8], counters: &[u32], lengths: (usize, usize), number: u8) {
+    check_unfold_at(record, counters, lengths, at_0(number));
+}
+
+#[track_caller]
+fn check_unfold_at(record: &[u8], counters: &[u32], lengths: (usize, usize), due: Refusal) {
     let mut pointers = vec![0x33; lengths.0];
     let mut cells = vec![0x44; lengths.1];
     let answer = unfold(record, counters, &mut pointers, &mut cells);
-    assert_eq!(answer, Err(at_0(number)), "{} counters", counters.len());
+    assert_eq!(answer, Err(due), "{} counters", counters.len());
     assert_eq!(pointers, vec![0x33; lengths.0]);
     assert_eq!(cells, vec![0x44; lengths.1]);
 }
@@ -117,7 +122,7 @@ fn counters_that_are_not_twelve() {
 }
 
 #[test]
-fn counters_that_are_not_twelve_come_after_13_8_and_9() {
+fn counters_that_are_not_twelve_come_after_the_record() {
     let one = h(pointers(&[0]), &[NULL]);
     let lost = h(NULLS, &[NULL]);
     let swapped = h(pointers(&[1, 0]), &[NULL; 2]);
@@ -135,9 +140,9 @@ fn counters_that_are_not_twelve_come_after_13_8_and_9() {
         }
         check_unfold(&place, &counters, (6, 240), 8);
         check_unfold(&[0; 32], &counters, (6, 0), 8);
-        for record in [lost, swapped, not_core] {
-            check_unfold(&record, &counters, (6, 240), 9);
-            check_unfold(&record, &counters, (6, 0), 9);
+        for (record, number, node) in [(lost, 9, 0), (not_core, 18, 1), (swapped, 19, 0)] {
+            check_unfold_at(&record, &counters, (6, 240), at_node(number, 0, node));
+            check_unfold_at(&record, &counters, (6, 0), at_node(number, 0, node));
         }
     }
 }
@@ -210,7 +215,7 @@ fn steps_that_stay() {
 #[test]
 fn refusals_of_a_step() {
     let refused = |statement: &[u8], pick, cell| match step_on(statement, pick, cell).0 {
-        Stepped::Refused(Refusal { number, place: 0 }) => number,
+        Stepped::Refused(Refusal { number, place: 0, node: Node(0) }) => number,
         other => panic!("{other:?} is no refusal at place 0"),
     };
     assert_eq!(refused(&[], 0, 0), 4);
@@ -268,7 +273,7 @@ fn places_are_0_wherever_the_error_lies() {
     let mut record = h(nodes, &[NULL; 3]);
     record[31] = 1;
     check_unfold(&record, &counters, (6, 240), 8);
-    check_unfold(&h(nodes, &[NULL; 4]), &counters, (6, 240), 9);
+    check_unfold_at(&h(nodes, &[NULL; 4]), &counters, (6, 240), at_node(9, 0, 3));
     counters[11] = 1;
     check_unfold(&h(nodes, &[NULL; 3]), &counters, (6, 240), 15);
     // The last byte, and the target of the second branch.

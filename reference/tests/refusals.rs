@@ -106,7 +106,7 @@ fn input_order_across_records() {
     let broken = with_byte(shape(), 1, 1);
     let unheld = h(pointers(&[0]), &[NULL, NULL]);
     check_refusal(&input(&[skip(), bad_op, broken]), 5, 1);
-    check_refusal(&input(&[skip(), unheld, broken]), 9, 1);
+    check_due(&input(&[skip(), unheld, broken]), at_node(9, 1, 1));
     check_refusal(&input(&[skip(), broken, unheld]), 8, 1);
     check_refusal(&input(&[skip(), shape(), shape(), broken]), 10, 2);
     check_refusal(&input(&[skip(), shape(), broken, shape()]), 8, 2);
@@ -124,30 +124,66 @@ fn shapes_8() {
 }
 
 #[test]
-fn shapes_9() {
+fn shapes_9_18_19() {
     let refused = [
         // Unreachable, alone or in a ring.
-        h(NULLS, &[NULL]),
-        h(NULLS, &[0]),
-        h(pointers(&[0]), &[NULL, 1]),
-        h(pointers(&[0]), &[NULL, 0]),
-        // Not core: one holder, be it itself or another node.
-        h(pointers(&[0]), &[1, NULL]),
-        h(pointers(&[0]), &[1, 0]),
-        h(pointers(&[0]), &[1, 2, 1]),
+        (h(NULLS, &[NULL]), 9, 0),
+        (h(NULLS, &[0]), 9, 0),
+        (h(pointers(&[0]), &[NULL, 1]), 9, 1),
+        (h(pointers(&[0]), &[NULL, 0]), 9, 1),
+        (h(pointers(&[0]), &[NULL, 2, 1]), 9, 1),
+        (h(pointers(&[1]), &[NULL, NULL]), 9, 0),
+        // Not core: one holder, before it or behind it.
+        (h(pointers(&[0]), &[1, NULL]), 18, 1),
+        (h(pointers(&[0]), &[1, 0]), 18, 1),
+        (h(pointers(&[0]), &[1, 2, 1]), 18, 2),
+        (h(pointers(&[1]), &[NULL, 0]), 18, 0),
         // Another numbering.
-        h(pointers(&[1, 0]), &[NULL, NULL]),
-        h(pointers(&[0, 1]), &[2, 2, NULL]),
-        h(pointers(&[1]), &[0, 0]),
+        (h(pointers(&[1, 0]), &[NULL, NULL]), 19, 0),
+        (h(pointers(&[0, 1]), &[2, 2, NULL]), 19, 1),
+        (h(pointers(&[1]), &[0, 0]), 19, 0),
     ];
-    for record in refused {
-        check_refusal(&input(&[skip(), shape(), record]), 9, 2);
+    for (record, number, node) in refused {
+        check_due(&input(&[skip(), shape(), record]), at_node(number, 2, node));
     }
     let passed =
         [h(pointers(&[0, 2]), &[1, NULL, 1]), h(pointers(&[0]), &[1, 1]), h(pointers(&[NULL, 0]), &[UNDEF]), h([0; 6], &[0])];
     for record in passed {
         let got = into_tables(&input(&[stop(), record]), 32, 0);
         assert_eq!((got.answer.refusal, got.answer.locations), (0, 1));
+    }
+}
+
+#[test]
+fn an_unreachable_node_then_one_not_core_then_the_numbering() {
+    // Pointers 0 and 1 change places, so that 0 and 1 are numbered otherwise;
+    // node 2 stands after node 1 alone; nothing leads to node 3.
+    let swapped = pointers(&[1, 0]);
+    let told = |record: Record, number, node| check_due(&input(&[skip(), record]), at_node(number, 1, node));
+    told(h(swapped, &[NULL, 2, NULL, NULL]), 9, 3);
+    told(h(swapped, &[NULL, 2, NULL]), 18, 2);
+    told(h(swapped, &[NULL, NULL]), 19, 0);
+    // Node 3 leads to node 2 as well, which is core once node 3 is reachable.
+    told(h(swapped, &[NULL, 2, NULL, 2]), 9, 3);
+    told(h(pointers(&[1, 0, 3]), &[NULL, 2, NULL, 2]), 19, 0);
+    // 8 comes before all three.
+    for record in [h(swapped, &[NULL, 2, NULL, NULL]), h(swapped, &[NULL, 2, NULL]), h(swapped, &[NULL, NULL])] {
+        check_refusal(&input(&[skip(), with_byte(record, 31, 1)]), 8, 1);
+    }
+}
+
+#[test]
+fn shapes_9_18_19_beside_10() {
+    let lost = (h(pointers(&[0]), &[NULL, NULL]), 9, 1);
+    let not_core = (h(pointers(&[0]), &[1, NULL]), 18, 1);
+    let swapped = (h(pointers(&[1, 0]), &[NULL, NULL]), 19, 0);
+    for (record, number, node) in [lost, not_core, swapped] {
+        let due = at_node(number, 1, node);
+        // An equal record was refused before it could be repeated.
+        check_due(&input(&[skip(), record, record]), due);
+        check_due(&input(&[skip(), record, shape(), shape()]), due);
+        check_refusal(&input(&[skip(), shape(), shape(), record]), 10, 2);
+        check_due(&input(&[skip(), shape(), record, shape()]), at_node(number, 2, node));
     }
 }
 

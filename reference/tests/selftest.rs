@@ -18,13 +18,24 @@ fn the_fixed_seed_agrees_and_meets_everything() {
     for relinks in [counts.relinks_listed, counts.relinks_run, counts.relinks_stepped] {
         assert!(relinks.iter().all(|&count| count >= 400), "{relinks:?}");
     }
+    for by_node in [counts.nodes_in_inputs, counts.nodes_in_unfolding] {
+        let [lost, not_core, otherwise] = by_node;
+        assert!(lost.iter().chain(&not_core).chain(&otherwise[..11]).all(|&count| count >= 300), "{by_node:?}");
+        assert_eq!(otherwise[11], 0);
+        assert!(by_node.as_flattened().iter().sum::<u64>() >= 10_000);
+    }
+    assert!(counts.orders.iter().all(|&count| count >= 1_000), "{:?}", counts.orders);
 }
 
 #[test]
-fn tests_of_undefined_pointers_and_relinks_that_are_too_few_are_told() {
+fn kinds_that_are_too_few_are_told() {
     let mut counts = Counts { routines: 400, freed_run: 5, ..Counts::default() };
     [counts.undefined_listed, counts.undefined_run, counts.undefined_stepped] = [[5; 5]; 3];
     [counts.relinks_listed, counts.relinks_run, counts.relinks_stepped] = [[5; 10]; 3];
+    [counts.nodes_in_inputs, counts.nodes_in_unfolding] = [[[5; 12]; 3]; 2];
+    counts.orders = [5; 11];
+    // 19 cannot come at node 11.
+    counts.nodes_in_inputs[2][11] = 0;
     assert_eq!(counts.floor(), 5);
     assert_eq!(counts.too_few(), None);
     counts.undefined_run[3] = 4;
@@ -37,6 +48,26 @@ fn tests_of_undefined_pointers_and_relinks_that_are_too_few_are_told() {
     counts.relinks_stepped[6] = 1;
     let relinks = "relink in listings, u >= 2 (3 of 5), relink in steps, u = 1 and w = 1, leak (1 of 5)";
     assert_eq!(counts.too_few(), Some(format!("{due}, {relinks}")));
+    counts.orders[4] = 0;
+    counts.nodes_in_inputs[0][11] = 4;
+    counts.nodes_in_unfolding[2][10] = 0;
+    let nodes = "refusal 9 in inputs at node 11 (4 of 5), refusal 19 in unfolding at node 10 (0 of 5)";
+    let damages = format!("damage in unfolding, 13 before it (0 of 5), {nodes}");
+    assert_eq!(counts.too_few(), Some(format!("{due}, {relinks}, {damages}")));
+}
+
+#[test]
+fn each_refusal_is_wanted_at_each_node_where_it_can_come() {
+    let counts = Counts::default();
+    let told = counts.too_few().expect("nothing was met");
+    for place in ["inputs", "unfolding"] {
+        for (number, last) in [(9, 11), (18, 11), (19, 10)] {
+            for node in 0..=last {
+                assert!(told.contains(&format!("refusal {number} in {place} at node {node} (0 of 1)")), "{told}");
+            }
+        }
+    }
+    assert!(!told.contains("refusal 19 in inputs at node 11") && !told.contains("refusal 19 in unfolding at node 11"));
 }
 
 #[test]

@@ -2,27 +2,9 @@
 
 mod common;
 
+use common::shapes::Defects;
 use common::*;
 use reference::unfold;
-
-/// Whether every node is reachable, core, and numbered at its first visit.
-fn is_shape(pointers: &[u8], successors: &[u8]) -> bool {
-    let nodes = successors.len();
-    let mut visits: Vec<u8> = Vec::new();
-    for &pointer in pointers {
-        let mut at = pointer;
-        while usize::from(at) < nodes && !visits.contains(&at) {
-            visits.push(at);
-            at = successors[usize::from(at)];
-        }
-    }
-    let in_order = visits.iter().copied().eq(0..nodes as u8);
-    let core = |node: u8| {
-        let holders = successors.iter().filter(|&&next| next == node).count();
-        pointers.contains(&node) || holders >= 2
-    };
-    in_order && (0..nodes as u8).all(core)
-}
 
 /// All lists of this length over the values of so many nodes.
 fn all_lists(length: usize, nodes: usize) -> Vec<Vec<u8>> {
@@ -35,9 +17,18 @@ fn all_lists(length: usize, nodes: usize) -> Vec<Vec<u8>> {
     lists
 }
 
+/// The answer that is due of an unfolding, if only the record matters.
+fn due(record: &Record) -> Result<(), reference::Refusal> {
+    match Defects::of(record).refusal() {
+        Some((number, node)) => Err(at_node(number, 0, node)),
+        None => Ok(()),
+    }
+}
+
 #[test]
-fn refusal_9_for_all_small_records() {
+fn refusals_9_18_and_19_for_all_small_records() {
     let mut passed = 0;
+    let mut met = [[0; 4]; 20];
     for nodes in 0..=4 {
         let successor_lists = all_lists(nodes, nodes);
         for first in all_lists(3, nodes) {
@@ -48,14 +39,18 @@ fn refusal_9_for_all_small_records() {
                 let (mut to_pointers, mut to_cells) = ([0; 6], [0; 8]);
                 let record = h(held, successors);
                 let answer = unfold(&record, &counters, &mut to_pointers, &mut to_cells);
-                let sound = is_shape(&held, successors);
-                let due = if sound { Ok(()) } else { Err(at_0(9)) };
-                assert_eq!(answer, due, "{held:?} {successors:?}");
-                passed += u32::from(sound);
+                assert_eq!(answer, due(&record), "{held:?} {successors:?}");
+                match answer {
+                    Ok(()) => passed += 1,
+                    Err(refusal) => met[usize::from(refusal.number)][usize::from(refusal.node.0)] += 1,
+                }
             }
         }
     }
     assert!(passed > 500, "only {passed} shapes were met");
+    // 19 cannot come at the last of four nodes: all numbers but its own are taken.
+    assert!(met[9].iter().chain(&met[18]).chain(&met[19][..3]).all(|&count| count > 50), "{met:?}");
+    assert_eq!(met[19][3], 0);
 }
 
 #[test]
@@ -72,7 +67,7 @@ fn twelve_nodes() {
         held[pointer] = 6 + pointer as u8;
         successors[6 + pointer] = 1 + pointer as u8;
     }
-    assert!(is_shape(&held, &successors));
+    assert_eq!(due(&h(held, &successors)), Ok(()));
     let (mut to_pointers, mut to_cells) = ([0; 6], [0; 240]);
     let mut unfold_with = |counters: &[u32]| {
         let record = h(held, &successors);

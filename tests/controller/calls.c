@@ -10,7 +10,7 @@ const enum slot lent_to[CALLS][7] = {
     {INPUT, LOCATIONS, EDGES, ANSWER, SLOTS},
     {LOCATIONS, EDGES, ANSWER, SLOTS},
     {POINTERS, CELLS, SHAPE, COUNTERS, PLACE, SLOTS},
-    {SHAPE, COUNTERS, POINTERS, CELLS, PLACE, SLOTS},
+    {SHAPE, COUNTERS, POINTERS, CELLS, PLACE, NODE, SLOTS},
     {POINTERS, CELLS, STATEMENT, ANSWER, PLACE, SLOTS},
 };
 
@@ -60,7 +60,7 @@ static void call_unfold(void *nothing)
     (void)nothing;
     refusal = currantplane_unfold(loans[SHAPE].at, loans[SHAPE].length, words(COUNTERS),
                                   loans[COUNTERS].length / sizeof(uint32_t), loans[POINTERS].at, loans[POINTERS].length,
-                                  loans[CELLS].at, loans[CELLS].length, sizes(PLACE));
+                                  loans[CELLS].at, loans[CELLS].length, sizes(PLACE), loans[NODE].at);
 }
 
 static void call_step(void *nothing)

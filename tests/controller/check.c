@@ -10,7 +10,7 @@
 #include <stdlib.h>
 #include <string.h>
 
-enum { REPORTS = 10, MOST_STACK = 1024, FIELDS = 32 };
+enum { REPORTS = 10, ONE_KB = 1024, FIELDS = 32 };
 
 static struct tally {
     const char *name;
@@ -102,6 +102,15 @@ size_t told_bytes(uint8_t *into, size_t most)
     return (size_t)length;
 }
 
+struct told told_refusal(void)
+{
+    struct told told = {0, 0, 0, 0, 0};
+    told.refusal = (uint8_t)told_number();
+    told.place = (size_t)told_number();
+    told.node = (uint8_t)told_number();
+    return told;
+}
+
 static void keep(const char *name, const uint8_t *bytes, uint64_t number)
 {
     if (field_count == FIELDS) return;
@@ -124,63 +133,9 @@ size_t given_bytes(const char *name, uint8_t *into, size_t most)
     return length;
 }
 
-static const char *const group_names[GROUPS] = {"translations at the bench's sizes", "translations in other tables",
-                                                "folds", "unfoldings", "steps", "records"};
-static uint64_t refusals[GROUPS][18];
-/* how often each refusal must have come */
-static const uint64_t refusal_floors[GROUPS][18] = {
-    {3000, 100, 100, 100, 100, 100, 100, 100, 100, 100, 100, 300, 300},
-    {1000, 20, 20, 20, 20, 20, 20, 20, 20, 20, 20, 300, 300},
-    {[0] = 10000, [13] = 300, [14] = 300},
-    {[0] = 2000, [8] = 50, [9] = 50, [13] = 50, [15] = 50},
-    {[0] = 10000, [4] = 50, [5] = 50, [6] = 50, [7] = 50, [13] = 100, [14] = 100, [16] = 100},
-    {[0] = 1000, [17] = 1000},
-};
-
-void met_refusal(enum group group, uint8_t refusal)
-{
-    sound(refusal < 18);
-    refusals[group][refusal]++;
-}
-
-static struct {
-    const char *name;
-    uint64_t floor, times;
-} mets[METS] = {
-    [BENCH_TRIALS] = {"translations at the bench's sizes", 20000, 0},
-    [BENCH_128] = {"  exactly 128 locations", 40, 0},
-    [BENCH_129] = {"  exactly 129 locations", 40, 0},
-    [BENCH_256] = {"  exactly 256 edges", 40, 0},
-    [BENCH_257] = {"  exactly 257 edges", 40, 0},
-    [BENCH_FULL] = {"  both 128 locations and 256 edges", 40, 0},
-    [JUST_FIT] = {"tables that the listing just fits", 300, 0},
-    [RECORD_SHORT] = {"tables one record too short", 300, 0},
-    [BYTE_SHORT] = {"tables one byte too short", 300, 0},
-    [NO_BYTES] = {"tables without a byte", 100, 0},
-    [ODD_LENGTH] = {"tables with bytes after the last place", 500, 0},
-    [PAST_FULL] = {"listings that full tables do not hold", 20, 0},
-    [RECORDS_READ] = {"records put together again", 500000, 0},
-    [TWELVE_NODES] = {"  locations of twelve nodes", 300, 0},
-    [FOLD_TRIALS] = {"folds", 20000, 0},
-    [TWELVE_FOLDED] = {"  to shapes of twelve nodes", 20, 0},
-    [UNFOLD_TRIALS] = {"unfoldings", 5000, 0},
-    [STEP_TRIALS] = {"steps", 20000, 0},
-    [FAULT_1] = {"  fault 1", 100, 0},
-    [FAULT_2] = {"  fault 2", 100, 0},
-    [FAULT_3] = {"  fault 3", 100, 0},
-    [STOPS] = {"  stops", 100, 0},
-    [SECOND_BRANCHES] = {"  branch 1", 100, 0},
-    [RECORD_TRIALS] = {"records of any tables", 5000, 0},
-    [NULLS] = {"kinds of buffers often lent as null", SLOTS - 1, 0},
-    [ODD_ADDRESSES] = {"buffers at odd addresses", 10000, 0},
-    [AT_PAGES] = {"buffers before an inaccessible page", 10000, 0},
-};
-
-void met(enum met what, uint64_t times) { mets[what].times += times; }
-
 static unsigned passed, failed;
 
-static void test(int good, const char *name)
+void test(int good, const char *name)
 {
     passed += (unsigned)(good != 0);
     failed += (unsigned)(good == 0);
@@ -230,40 +185,13 @@ static void catch_crashes(void)
 #endif
 }
 
-static void test_refusals(void)
-{
-    for (int group = 0; group < GROUPS; group++) {
-        printf("%s, by refusal:", group_names[group]);
-        for (int refusal = 0; refusal < 18; refusal++) {
-            if (refusals[group][refusal]) printf(" %d: %" PRIu64, refusal, refusals[group][refusal]);
-        }
-        printf("\n");
-        for (int refusal = 0; refusal < 18; refusal++) {
-            uint64_t floor = refusal_floors[group][refusal];
-            if (floor) test(refusals[group][refusal] >= floor, "a refusal came too seldom");
-        }
-    }
-}
-
-static void test_floors(void)
-{
-    /* all but the place, which may not be null */
-    for (int slot = 0; slot < SLOTS; slot++) met(NULLS, lent_null[slot] >= 20);
-    met(ODD_ADDRESSES, lent_odd);
-    met(AT_PAGES, lent_at_page);
-    for (int what = 0; what < METS; what++) {
-        printf("%-40s %9" PRIu64 " (floor: %" PRIu64 ")\n", mets[what].name, mets[what].times, mets[what].floor);
-        test(mets[what].times >= mets[what].floor, "fewer than the floor");
-    }
-}
-
 static void test_stacks(void)
 {
     for (int which = 0; which < CALLS; which++) {
         size_t stack = deepest((enum call)which);
         if (stack == 0) continue;
         printf("stack of %-10s %5zu bytes\n", call_names[which], stack);
-        test(stack <= MOST_STACK, "a deep stack");
+        test(stack < ONE_KB, "a call that uses 1 KB of stack");
     }
 }
 
@@ -281,7 +209,6 @@ int main(void)
                tallies[kind].failed);
         test(tallies[kind].looked && tallies[kind].failed == 0, tallies[kind].name);
     }
-    test_refusals();
     test_floors();
     test_stacks();
     printf("%u passed, %u failed\n", passed, failed);

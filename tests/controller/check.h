@@ -18,17 +18,30 @@ uint64_t all_failed(void);
  * expected. */
 void compare(enum call which, enum kind kind);
 
+/* One test more, which passed or failed. */
+void test(int good, const char *name);
+
+/* What is told of a call; the counts are those of a translation. */
+struct told {
+    uint8_t refusal;
+    size_t place, locations, edges;
+    uint8_t node;
+};
+
 /* The stream. What is given is kept for reports, so its bytes stay where they are until the next trial. */
 uint64_t given_number(const char *name);
 size_t given_bytes(const char *name, uint8_t *into, size_t most);
 uint64_t told_number(void);
 size_t told_bytes(uint8_t *into, size_t most);
+/* Number, place and node of a refusal, 0 for none; the counts are 0. */
+struct told told_refusal(void);
 /* Ends the program where a stream is not one that `trials` writes. */
 void sound(int good);
 
-/* Refusals are counted by where they came, and each with a floor must have come so often. */
+/* Refusals are counted by where they came, those about a node also by the node, and each with a floor must have come so
+ * often. */
 enum group { AT_BENCH, ELSEWHERE, OF_FOLD, OF_UNFOLD, OF_STEP, OF_RECORD, GROUPS };
-void met_refusal(enum group group, uint8_t refusal);
+void met_refusal(enum group group, const struct told *told);
 
 /* Other things that must have come so often. */
 enum met {
@@ -41,22 +54,21 @@ enum met {
     FOLD_TRIALS, TWELVE_FOLDED, UNFOLD_TRIALS,
     STEP_TRIALS, FAULT_1, FAULT_2, FAULT_3, STOPS, SECOND_BRANCHES,
     RECORD_TRIALS,
+    /* damaged H records, by call and in all */
+    DAMAGED_TRANSLATED, DAMAGED_UNFOLDED, DAMAGED,
     /* buffers, of all calls */
-    NULLS, ODD_ADDRESSES, AT_PAGES, METS
+    NULLS, ANSWERS, ODD_ADDRESSES, AT_PAGES, METS
 };
 void met(enum met what, uint64_t times);
+
+/* Prints what was met; each floor is a test. */
+void test_floors(void);
 
 void translation_trial(void);
 void record_trial(void);
 void fold_trial(void);
 void unfold_trial(void);
 void step_trial(void);
-
-/* What is told of a call; the counts are those of a translation. */
-struct told {
-    uint8_t refusal;
-    size_t place, locations, edges;
-};
 
 struct heap {
     size_t pointers_length, cells_length;
@@ -80,6 +92,10 @@ void try_unfold(enum kind kind, const uint8_t *shape, size_t shape_length, const
                 const struct heap *heap, const struct told *told);
 void try_step(enum kind kind, const struct heap *before, const uint8_t *statement, size_t statement_length,
               const struct heap *after, const struct told *told, const uint8_t answer[4]);
+
+/* Of an accepted translation whose tables stand there: every record is put together again from what the header's
+ * functions read, and some records are asked for. */
+void read_listing(const struct translation *t);
 
 /* The shelf cases: how many passed; those that failed are added to `failed`. */
 unsigned shelf_cases(unsigned *failed);

@@ -17,6 +17,12 @@ static void lend_place(const struct told *told)
     expect(PLACE, 0, &told->place, sizeof(size_t));
 }
 
+static void lend_node(const struct told *told)
+{
+    lend(NODE, 1, 1);
+    expect(NODE, 0, &told->node, 1);
+}
+
 /* Shapes of 0 to 40 bytes and 0 to 14 counters are lent, most often 32 and twelve. */
 void try_fold(enum kind kind, const struct heap *heap, const struct told *told, const uint8_t shape[32],
               const uint32_t counters[12])
@@ -40,6 +46,7 @@ void try_unfold(enum kind kind, const uint8_t *shape, size_t shape_length, const
     lend(POINTERS, heap->pointers_length, 1);
     lend(CELLS, heap->cells_length, 1);
     lend_place(told);
+    lend_node(told);
     look(kind, call(UNFOLD) == told->refusal, "refusal");
     if (told->refusal == 0) {
         expect(POINTERS, 0, heap->pointers, heap->pointers_length);
@@ -48,19 +55,16 @@ void try_unfold(enum kind kind, const uint8_t *shape, size_t shape_length, const
     compare(UNFOLD, kind);
 }
 
-/* Answers of 0 to 6 bytes are lent, most often four. */
 void try_step(enum kind kind, const struct heap *before, const uint8_t *statement, size_t statement_length,
               const struct heap *after, const struct told *told, const uint8_t answer[4])
 {
-    size_t bytes = drawn(2) ? 4 : drawn(7);
     lend_heap(before);
     lend_filled(STATEMENT, statement, statement_length, 1);
-    lend(ANSWER, bytes, 1);
+    lend_answer(STEP, answer_length(CURRANTPLANE_STEP_ANSWER), answer, CURRANTPLANE_STEP_ANSWER, 1);
     lend_place(told);
     look(kind, call(STEP) == told->refusal, "refusal");
     expect(POINTERS, 0, after->pointers, after->pointers_length);
     expect(CELLS, 0, after->cells, after->cells_length);
-    expect(ANSWER, 0, answer, least(bytes, 4));
     compare(STEP, kind);
 }
 
@@ -76,14 +80,6 @@ static void told_heap(struct heap *heap)
     heap->cells_length = told_bytes(heap->cells, sizeof heap->cells);
 }
 
-static struct told told_refusal(void)
-{
-    struct told told = {0, 0, 0, 0};
-    told.refusal = (uint8_t)told_number();
-    told.place = (size_t)told_number();
-    return told;
-}
-
 void fold_trial(void)
 {
     static struct heap heap;
@@ -96,7 +92,7 @@ void fold_trial(void)
     try_fold(FOLDS, &heap, &told, shape, counters);
     met(FOLD_TRIALS, 1);
     met(TWELVE_FOLDED, currantplane_nodes(shape) == CURRANTPLANE_MOST_NODES);
-    met_refusal(OF_FOLD, told.refusal);
+    met_refusal(OF_FOLD, &told);
 }
 
 void unfold_trial(void)
@@ -119,7 +115,7 @@ void unfold_trial(void)
     /* what was unfolded folds to what it came from */
     if (told.refusal == 0) try_fold(UNFOLDINGS, &heap, &told, shape, counters);
     met(UNFOLD_TRIALS, 1);
-    met_refusal(OF_UNFOLD, told.refusal);
+    met_refusal(OF_UNFOLD, &told);
 }
 
 void step_trial(void)
@@ -137,7 +133,7 @@ void step_trial(void)
     sound(after.pointers_length == before.pointers_length && after.cells_length == before.cells_length);
     try_step(STEPS, &before, statement, statement_length, &after, &told, answer);
     met(STEP_TRIALS, 1);
-    met_refusal(OF_STEP, told.refusal);
+    met_refusal(OF_STEP, &told);
     if (answer[CURRANTPLANE_FAULT]) met((enum met)(FAULT_1 + answer[CURRANTPLANE_FAULT] - 1), 1);
     met(STOPS, answer[CURRANTPLANE_STOPPED]);
     met(SECOND_BRANCHES, answer[CURRANTPLANE_BRANCH]);

@@ -8,8 +8,8 @@
 
 enum { PAGE = 4096, GUARD = 96, HOME = (MOST + PAGE - 1) / PAGE * PAGE + PAGE, OFFSETS = 64, SHIFTS = 4096 };
 
-const char *const slot_names[SLOTS] = {"input", "locations", "edges",     "pointers", "cells",
-                                       "shape", "counters",  "statement", "answer",   "place"};
+const char *const slot_names[SLOTS] = {"input",    "locations", "edges",  "pointers", "cells", "shape",
+                                       "counters", "statement", "answer", "place",    "node"};
 
 struct home {
     uint8_t *pages;       /* HOME bytes, then an inaccessible page */
@@ -21,7 +21,7 @@ static struct home homes[SLOTS];
 struct loan loans[SLOTS];
 static uint8_t noise[GUARD + MOST + GUARD + SHIFTS];
 static uint64_t state;
-uint64_t lent_null[SLOTS], lent_odd, lent_at_page;
+uint64_t lent_null[SLOTS], lent_answers[CALLS][LONGEST_ANSWER + 1], lent_odd, lent_at_page;
 
 size_t drawn(size_t below)
 {
@@ -86,6 +86,16 @@ void expect(enum slot slot, size_t from, const void *bytes, size_t length)
 void expect_zeros(enum slot slot, size_t from, size_t length)
 {
     memset(homes[slot].expected + from, 0, length);
+}
+
+size_t answer_length(size_t count) { return drawn(3) ? count + drawn(2) : drawn(count + 3); }
+
+void lend_answer(enum call which, size_t length, const void *told, size_t count, size_t size)
+{
+    if (length > LONGEST_ANSWER) abort();
+    lend(ANSWER, length * size, size);
+    expect(ANSWER, 0, told, (length < count ? length : count) * size);
+    lent_answers[which][length]++;
 }
 
 int holds_expected(enum slot slot)

@@ -6,7 +6,7 @@
 
 #include "currantplane.h"
 
-enum slot { INPUT, LOCATIONS, EDGES, POINTERS, CELLS, SHAPE, COUNTERS, STATEMENT, ANSWER, PLACE, SLOTS };
+enum slot { INPUT, LOCATIONS, EDGES, POINTERS, CELLS, SHAPE, COUNTERS, STATEMENT, ANSWER, PLACE, NODE, SLOTS };
 enum call { TRANSLATE, RECORD, FOLD, UNFOLD, STEP, CALLS };
 
 enum { MOST = 70 * 1024 }; /* the bytes of the longest buffer */
@@ -28,8 +28,10 @@ struct given {
 };
 extern struct given given;
 
-/* how often each buffer was lent as null; how often one was at an odd address, and right before an inaccessible page */
-extern uint64_t lent_null[SLOTS], lent_odd, lent_at_page;
+/* how often each buffer was lent as null, and an answer of each length; how often a buffer was at an odd address, and
+ * right before an inaccessible page */
+enum { LONGEST_ANSWER = 6 };
+extern uint64_t lent_null[SLOTS], lent_answers[CALLS][LONGEST_ANSWER + 1], lent_odd, lent_at_page;
 
 void open_homes(void);
 
@@ -44,6 +46,11 @@ void lend_filled(enum slot slot, const void *bytes, size_t length, size_t alignm
 /* From here on, so many bytes are to hold this after the call. The others are to hold what they held before. */
 void expect(enum slot slot, size_t from, const void *bytes, size_t length);
 void expect_zeros(enum slot slot, size_t from, size_t length);
+
+/* A length for the answer of a call that tells so many numbers: none to two more, most often all or one more. */
+size_t answer_length(size_t count);
+/* Lends an answer of so many numbers, of so many bytes each. As many of those told as it has are to stand in it. */
+void lend_answer(enum call which, size_t length, const void *told, size_t count, size_t size);
 
 int guards_hold(enum slot slot);
 int holds_expected(enum slot slot);

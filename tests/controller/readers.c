@@ -42,12 +42,31 @@ static int reads_updates(void)
 static int answers(void)
 {
     size_t places[3] = {9, 9, 9};
+    uint8_t node = 9;
     int good = currantplane_translate(NULL, 0, NULL, 0, NULL, 0, NULL, 0) == CURRANTPLANE_BAD_LENGTH;
     good = good && currantplane_record(NULL, 0, NULL, 0, 0, 0, 0, 0, NULL, 0) == CURRANTPLANE_NO_RECORD;
     good = good && currantplane_fold(NULL, 0, NULL, 0, NULL, 0, NULL, 0, &places[0]) == CURRANTPLANE_BAD_HEAP;
-    good = good && currantplane_unfold(NULL, 0, NULL, 0, NULL, 0, NULL, 0, &places[1]) == CURRANTPLANE_BAD_HEAP;
+    good = good && currantplane_unfold(NULL, 0, NULL, 0, NULL, 0, NULL, 0, &places[1], &node) == CURRANTPLANE_BAD_HEAP;
     good = good && currantplane_step(NULL, 0, NULL, 0, NULL, 0, 0, 0, NULL, 0, &places[2]) == CURRANTPLANE_BAD_HEAP;
-    return good && places[0] == 0 && places[1] == 0 && places[2] == 0;
+    return good && places[0] == 0 && places[1] == 0 && places[2] == 0 && node == 0;
+}
+
+/* a stop, and a shape whose node 1 only node 0 leads to: both calls that tell a node tell it */
+static int tells_nodes(void)
+{
+    static const uint8_t shape[12] = {0x48, 0, 0, 2, 0, 0xfe, 0xfe, 0xfe, 0xfe, 0xfe, 1, 0xfe};
+    static const uint32_t counters[12] = {1, 1};
+    static const size_t wanted[CURRANTPLANE_ANSWER] = {1, 0, 0, 1};
+    uint8_t routine[64] = {0x53}, pointers[6], cells[2], node = 9;
+    size_t told[CURRANTPLANE_ANSWER] = {9, 9, 9, 9}, place = 9;
+    for (size_t i = 0; i < sizeof shape; i++) routine[32 + i] = shape[i];
+    uint8_t translated = currantplane_translate(routine, 64, NULL, 0, NULL, 0, told, CURRANTPLANE_ANSWER);
+    uint8_t unfolded = currantplane_unfold(routine + 32, 32, counters, 12, pointers, 6, cells, 2, &place, &node);
+    int good = translated == CURRANTPLANE_NOT_CORE && unfolded == CURRANTPLANE_NOT_CORE && place == 0 && node == 1;
+    for (size_t i = 0; i < CURRANTPLANE_ANSWER; i++) good = good && told[i] == wanted[i];
+    for (unsigned n = 0; n < 256; n++)
+        good = good && !currantplane_tells_node((uint8_t)n) == !(n == 9 || n == 18 || n == 19);
+    return good;
 }
 
 int main(void)
@@ -55,5 +74,6 @@ int main(void)
     if (!reads_locations()) return 1;
     if (!reads_edges()) return 2;
     if (!reads_updates()) return 3;
-    return answers() ? 0 : 4;
+    if (!answers()) return 4;
+    return tells_nodes() ? 0 : 5;
 }

@@ -6,7 +6,7 @@
 
 enum { N = CURRANTPLANE_NULL, U = CURRANTPLANE_UNDEFINED, F = CURRANTPLANE_UNUSED };
 
-static const struct told accepted = {0, 0, 0, 0};
+static const struct told accepted = {0, 0, 0, 0, 0};
 
 /* A table of records, each given by its first bytes. */
 static void put_record(uint8_t *table, size_t number, const uint8_t *first, size_t length)
@@ -39,7 +39,7 @@ static void try_p1(size_t locations_length, size_t edges_length, uint8_t refusal
     put_record(locations, 2, fault, sizeof fault);
     put_record(edges, 0, one, sizeof one);
     put_record(edges, 1, more, sizeof more);
-    struct told told = {refusal, 0, refusal ? 0 : 3, refusal ? 0 : 2};
+    struct told told = {refusal, 0, refusal ? 0 : 3, refusal ? 0 : 2, 0};
     struct translation t = {input, sizeof input, locations_length, edges_length, told, locations, edges};
     try_translation(SHELF, &t);
 }
@@ -76,7 +76,7 @@ static void try_skips(size_t statements, size_t shapes, uint8_t refusal)
         }
         put_record(edges, from, record, sizeof record);
     }
-    struct told told = {refusal, 0, refusal ? 0 : statements * shapes, refusal ? 0 : (statements - 1) * shapes};
+    struct told told = {refusal, 0, refusal ? 0 : statements * shapes, refusal ? 0 : (statements - 1) * shapes, 0};
     struct translation t = {input, 32 * (statements + shapes), sizeof locations, sizeof edges, told, locations, edges};
     try_translation(SHELF, &t);
 }
@@ -115,7 +115,7 @@ static void sum_241(void)
 {
     static struct heap heap;
     static const uint32_t counters[12] = {200, 41};
-    static const struct told told = {CURRANTPLANE_BAD_COUNTERS, 0, 0, 0};
+    static const struct told told = {CURRANTPLANE_BAD_COUNTERS, 0, 0, 0, 0};
     lists_of(&heap, 200, 40, 240);
     try_unfold(SHELF, two_lists, 32, counters, 12, &heap, &told);
 }
@@ -134,7 +134,7 @@ static void cells_241(void)
     static struct heap heap;
     static const uint8_t nothing[32];
     static const uint32_t none[12];
-    static const struct told told = {CURRANTPLANE_BAD_HEAP, 0, 0, 0};
+    static const struct told told = {CURRANTPLANE_BAD_HEAP, 0, 0, 0, 0};
     lists_of(&heap, 100, 39, 241);
     try_fold(SHELF, &heap, &told, nothing, none);
 }
@@ -173,6 +173,55 @@ static void each_op(void)
     }
 }
 
+/* A record as the third starting shape, and again as the fourth, in tables for ten locations and edges. */
+static void try_shape(const uint8_t *shape, const struct told *told)
+{
+    static const uint8_t first[10] = {CURRANTPLANE_RECORD_H, 0, 0, 0, U, N, N, N, N, N};
+    uint8_t input[32 * 5];
+    put_statement(input, 0, CURRANTPLANE_STOP, 0, 0);
+    put_record(input, 1, first, sizeof first);
+    put_record(input, 2, two_lists, 32);
+    put_record(input, 3, shape, 32);
+    put_record(input, 4, shape, 32);
+    struct translation t = {input, sizeof input, 320, 320, *told, NULL, NULL};
+    try_translation(SHELF, &t);
+}
+
+/* Records that are no shapes: which refusal comes, at which node, before 10 and 15 and after 13. */
+static void each_node(void)
+{
+    static const struct {
+        uint8_t refusal, node, record[32];
+    } rows[11] = {
+        /* nothing leads to node 1; nothing to node 0; nodes 1 and 2 lead to each other only */
+        {CURRANTPLANE_UNREACHABLE, 1, {CURRANTPLANE_RECORD_H, 0, 0, 2, 0, N, N, N, N, N, N, N}},
+        {CURRANTPLANE_UNREACHABLE, 0, {CURRANTPLANE_RECORD_H, 0, 0, 2, 1, N, N, N, N, N, 1, N}},
+        {CURRANTPLANE_UNREACHABLE, 1, {CURRANTPLANE_RECORD_H, 0, 0, 3, 0, N, N, N, N, N, N, 2, 1}},
+        /* node 1 behind node 0; node 0 behind node 1; node 2 behind node 1 on a ring */
+        {CURRANTPLANE_NOT_CORE, 1, {CURRANTPLANE_RECORD_H, 0, 0, 2, 0, N, N, N, N, N, 1, N}},
+        {CURRANTPLANE_NOT_CORE, 0, {CURRANTPLANE_RECORD_H, 0, 0, 2, 1, N, N, N, N, N, N, 0}},
+        {CURRANTPLANE_NOT_CORE, 2, {CURRANTPLANE_RECORD_H, 0, 0, 3, 0, 1, N, N, N, N, 1, 2, 0}},
+        /* two lists swapped; two lists that meet in node 2, which the walk finds before node 1 */
+        {CURRANTPLANE_BAD_NUMBERING, 0, {CURRANTPLANE_RECORD_H, 0, 0, 2, 1, 0, N, N, N, N, N, N}},
+        {CURRANTPLANE_BAD_NUMBERING, 1, {CURRANTPLANE_RECORD_H, 0, 0, 3, 0, 1, N, N, N, N, 2, 2, N}},
+        /* nodes 0 and 1 swapped, 2 not core, 3 unreachable; the same without node 3 */
+        {CURRANTPLANE_UNREACHABLE, 3, {CURRANTPLANE_RECORD_H, 0, 0, 4, 1, 0, N, N, N, N, 2, N, N, N}},
+        {CURRANTPLANE_NOT_CORE, 2, {CURRANTPLANE_RECORD_H, 0, 0, 3, 1, 0, N, N, N, N, 2, N, N}},
+        /* a byte past the nodes breaks the layout */
+        {CURRANTPLANE_BAD_LAYOUT, 0, {CURRANTPLANE_RECORD_H, 0, 0, 2, 1, 0, N, N, N, N, 1, N, 1}},
+    };
+    static const struct heap four = {6, 4, {0}, {0}}, too_many = {6, 241, {0}, {0}};
+    static const struct told too_long = {CURRANTPLANE_BAD_HEAP, 0, 0, 0, 0};
+    static const uint32_t none[12];
+    for (size_t i = 0; i < 11; i++) {
+        struct told told = {rows[i].refusal, 3, 0, 0, rows[i].node};
+        try_shape(rows[i].record, &told);
+        told.place = 0;
+        try_unfold(SHELF, rows[i].record, 32, none, 12, &four, &told);
+        try_unfold(SHELF, rows[i].record, 32, none, 12, &too_many, &too_long);
+    }
+}
+
 /* What is only read may overlap: one table for both; and a ring of six cells whose bytes are the pointers too. */
 static void overlaps(void)
 {
@@ -199,7 +248,8 @@ unsigned shelf_cases(unsigned *failed)
         {"16 H", shapes_16},                          {"17 H: 3", shapes_17},
         {"counters of 240 unfold", sum_240},          {"counters of 241: 15", sum_241},
         {"240 cells fold", cells_240},                {"241 cells: 13", cells_241},
-        {"a step of each op", each_op},               {"what is read may overlap", overlaps},
+        {"a step of each op", each_op},               {"9, 18 and 19 with their node", each_node},
+        {"what is read may overlap", overlaps},
     };
     unsigned passed = 0;
     for (size_t i = 0; i < sizeof cases / sizeof cases[0]; i++) {

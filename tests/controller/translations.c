@@ -1,8 +1,7 @@
-/* Translations and records: against what the second translator told, and against the rule for tables of other sizes,
- * which is computed here from the full tables alone. */
+/* Translations: against what the second translator told, and against the rule for tables of other sizes, which is
+ * computed here from the full tables alone. */
 #include "check.h"
 
-#include <stdlib.h>
 #include <string.h>
 
 enum { FULL_LOCATIONS = 32 * 1024, FULL_EDGES = 32 * 2048, BENCH_LOCATIONS = 32 * 128, BENCH_EDGES = 32 * 256 };
@@ -14,16 +13,22 @@ static size_t least(size_t a, size_t b) { return a < b ? a : b; }
 static size_t location_places(size_t length) { return least(length / 32, CURRANTPLANE_MOST_LOCATIONS); }
 static size_t edge_places(size_t length) { return least(length / 32, CURRANTPLANE_MOST_EDGES); }
 
-/* Of the numbers lent as many as are told are expected. */
-static void lend_answer(size_t length, size_t first, size_t second, size_t third)
+/* the numbers that a translation tells, in their order */
+struct numbers {
+    size_t at[CURRANTPLANE_ANSWER];
+};
+
+static struct numbers numbers_of(const struct told *told)
 {
-    size_t numbers[3] = {first, second, third};
-    lend(ANSWER, length * sizeof(size_t), sizeof(size_t));
-    expect(ANSWER, 0, numbers, least(length, 3) * sizeof(size_t));
+    struct numbers numbers;
+    numbers.at[CURRANTPLANE_PLACE] = told->place;
+    numbers.at[CURRANTPLANE_LOCATION_COUNT] = told->locations;
+    numbers.at[CURRANTPLANE_EDGE_COUNT] = told->edges;
+    numbers.at[CURRANTPLANE_NODE] = told->node;
+    return numbers;
 }
 
-/* 0 to 4 numbers, most often three or four */
-static size_t answer_length(void) { return drawn(3) ? 3 + drawn(2) : drawn(5); }
+static int no_place(uint8_t refusal) { return refusal == CURRANTPLANE_NO_LOCATION || refusal == CURRANTPLANE_NO_EDGE; }
 
 static void expect_table(enum slot slot, const uint8_t *records, size_t count)
 {
@@ -37,13 +42,14 @@ static uint8_t translate(const struct translation *t, size_t answer)
     lend_filled(INPUT, t->input, t->input_length, 1);
     lend(LOCATIONS, t->locations_length, 1);
     lend(EDGES, t->edges_length, 1);
-    lend_answer(answer, t->told.place, t->told.locations, t->told.edges);
+    struct numbers told = numbers_of(&t->told);
+    lend_answer(TRANSLATE, answer, told.at, CURRANTPLANE_ANSWER, sizeof(size_t));
     return call(TRANSLATE);
 }
 
 uint8_t try_translation(enum kind kind, const struct translation *t)
 {
-    uint8_t refusal = translate(t, answer_length());
+    uint8_t refusal = translate(t, answer_length(CURRANTPLANE_ANSWER));
     look(kind, refusal == t->told.refusal, "refusal");
     expect_table(LOCATIONS, t->locations, t->told.locations);
     expect_table(EDGES, t->edges, t->told.edges);
@@ -59,7 +65,7 @@ static struct told translate_in_full(const struct translation *t, const struct t
     full.locations_length = FULL_LOCATIONS;
     full.edges_length = FULL_EDGES;
     full.told = *told;
-    uint8_t refusal = translate(&full, 3);
+    uint8_t refusal = translate(&full, CURRANTPLANE_ANSWER);
     look(TRANSLATIONS, refusal == told->refusal, "refusal with full tables");
     if (t->told.refusal != 0) {
         full.locations = loans[LOCATIONS].at;
@@ -70,9 +76,10 @@ static struct told translate_in_full(const struct translation *t, const struct t
     compare(TRANSLATE, TRANSLATIONS);
     memcpy(full_locations, loans[LOCATIONS].at, sizeof full_locations);
     memcpy(full_edges, loans[EDGES].at, sizeof full_edges);
-    size_t numbers[3];
-    memcpy(numbers, loans[ANSWER].at, sizeof numbers);
-    struct told came = {refusal, numbers[0], least(numbers[1], 1024), least(numbers[2], 2048)};
+    size_t at[CURRANTPLANE_ANSWER];
+    memcpy(at, loans[ANSWER].at, sizeof at);
+    struct told came = {refusal, at[CURRANTPLANE_PLACE], least(at[CURRANTPLANE_LOCATION_COUNT], 1024),
+                        least(at[CURRANTPLANE_EDGE_COUNT], 2048), (uint8_t)least(at[CURRANTPLANE_NODE], 255)};
     return came;
 }
 
@@ -88,7 +95,7 @@ static size_t starting_shapes(const struct translation *t)
 static struct told predict(const struct translation *t, const struct told *full)
 {
     size_t locations = location_places(t->locations_length), edges = edge_places(t->edges_length);
-    struct told refused = {CURRANTPLANE_NO_LOCATION, locations, 0, 0};
+    struct told refused = {CURRANTPLANE_NO_LOCATION, locations, 0, 0, 0};
     if (starting_shapes(t) > locations) return refused;
     for (size_t number = 0; number < full->edges; number++) {
         const uint8_t *edge = currantplane_at(full_edges, number);
@@ -102,18 +109,18 @@ static struct told predict(const struct translation *t, const struct told *full)
 
 static int answers(uint8_t refusal, const struct told *told)
 {
-    size_t numbers[3] = {told->place, told->locations, told->edges};
-    size_t length = least(loans[ANSWER].length, sizeof numbers);
-    return refusal == told->refusal && (length == 0 || memcmp(loans[ANSWER].at, numbers, length) == 0);
+    struct numbers numbers = numbers_of(told);
+    size_t length = least(loans[ANSWER].length, sizeof numbers.at);
+    return refusal == told->refusal && (length == 0 || memcmp(loans[ANSWER].at, numbers.at, length) == 0);
 }
 
 /* What the call has just answered and left, against the full tables. */
 static void look_at_rule(const struct translation *t, const struct told *full, uint8_t refusal)
 {
-    if (full->refusal >= CURRANTPLANE_NO_LOCATION) {
+    if (no_place(full->refusal)) {
         /* not even full tables suffice: then smaller ones do not, and are full no later */
         size_t place;
-        look(RULE, refusal == CURRANTPLANE_NO_LOCATION || refusal == CURRANTPLANE_NO_EDGE, "past full tables");
+        look(RULE, no_place(refusal), "past full tables");
         if (loans[ANSWER].length == 0) return;
         memcpy(&place, loans[ANSWER].at, sizeof place);
         look(RULE, place <= full->place, "place past full tables");
@@ -129,98 +136,11 @@ static void look_at_rule(const struct translation *t, const struct told *full, u
     look(RULE, full->edges == 0 || memcmp(loans[EDGES].at, full_edges, 32 * full->edges) == 0, "edges");
 }
 
-static void put_word(uint8_t *at, unsigned word)
-{
-    at[0] = (uint8_t)(word & 255);
-    at[1] = (uint8_t)(word >> 8);
-}
-
-static void put_location(uint8_t made[32], const uint8_t *location)
-{
-    made[0] = CURRANTPLANE_RECORD_L;
-    made[1] = currantplane_statement(location);
-    made[2] = currantplane_fault(location);
-    made[3] = currantplane_nodes(location);
-    for (size_t i = 0; i < CURRANTPLANE_POINTERS; i++) made[4 + i] = currantplane_pointer(location, i);
-    for (size_t i = 0; i < made[3]; i++) made[10 + i] = currantplane_successor(location, i);
-}
-
-/* Parts are added, not joined by bits, so that a part that is too large shows. */
-static void put_edge(uint8_t made[32], const uint8_t *edge)
-{
-    made[0] = CURRANTPLANE_RECORD_E;
-    made[1] = (uint8_t)(currantplane_branch(edge) + 2 * currantplane_guard(edge, 1) +
-                        8 * currantplane_guarded(edge, 1));
-    put_word(made + 2, currantplane_from(edge));
-    put_word(made + 4, currantplane_to(edge));
-    made[6] = currantplane_guard(edge, 0);
-    made[7] = currantplane_guarded(edge, 0);
-    for (size_t i = 0; i < CURRANTPLANE_MOST_NODES; i++) {
-        uint16_t update = currantplane_update(edge, i);
-        unsigned constant = (unsigned)(currantplane_constant(update) + 1);
-        put_word(made + 8 + 2 * i, currantplane_added(update) + 4096 * constant);
-    }
-}
-
-/* Every record put together again from what the header's functions read. They read a block of 32 bytes of its own, so
- * that the sanitizers see a read beside it. */
-static void read_listing(const struct told *told)
-{
-    static uint8_t *block;
-    if (!block && !(block = malloc(32))) abort();
-    for (size_t number = 0; number < told->locations + told->edges; number++) {
-        int location = number < told->locations;
-        const uint8_t *record = location ? currantplane_at(loans[LOCATIONS].at, number)
-                                         : currantplane_at(loans[EDGES].at, number - told->locations);
-        uint8_t made[32] = {0};
-        memcpy(block, record, 32);
-        (location ? put_location : put_edge)(made, block);
-        look(READERS, memcmp(made, record, 32) == 0, location ? "location" : "edge");
-        met(TWELVE_NODES, location && currantplane_nodes(record) == CURRANTPLANE_MOST_NODES);
-    }
-    met(RECORDS_READ, told->locations + told->edges);
-}
-
-/* Asks for one record of the tables that stand there. */
-static void ask_for(const struct told *told, size_t table, size_t number)
-{
-    size_t count = table == CURRANTPLANE_LOCATIONS ? told->locations : told->edges;
-    int there = table <= CURRANTPLANE_EDGES && number < count;
-    given.location_count = told->locations;
-    given.edge_count = told->edges;
-    given.table = table;
-    given.number = number;
-    lend_answer(answer_length(), 0, there ? 32 * number : 0, there ? 32 : 0);
-    look(PARTS, call(RECORD) == (there ? 0 : CURRANTPLANE_NO_RECORD), "refusal");
-    compare(RECORD, PARTS);
-    if (!there || loans[ANSWER].length < 2 * sizeof(size_t)) return;
-    size_t begins;
-    memcpy(&begins, loans[ANSWER].at + sizeof(size_t), sizeof begins);
-    const uint8_t *records = table == CURRANTPLANE_LOCATIONS ? told_locations : told_edges;
-    enum slot slot = table == CURRANTPLANE_LOCATIONS ? LOCATIONS : EDGES;
-    int inside = begins <= loans[slot].length && loans[slot].length - begins >= 32;
-    look(PARTS, inside && memcmp(loans[slot].at + begins, currantplane_at(records, number), 32) == 0, "bytes");
-}
-
-static void ask_for_some(const struct told *told)
-{
-    size_t counts[2] = {told->locations, told->edges};
-    for (size_t table = 0; table < 2; table++) {
-        if (counts[table]) {
-            ask_for(told, table, drawn(counts[table]));
-            ask_for(told, table, counts[table] - 1);
-        }
-        ask_for(told, table, counts[table] + drawn(3));
-        ask_for(told, table, (size_t)-1 / (drawn(2) ? 1 : 32));
-    }
-    ask_for(told, 2 + drawn(300), 0);
-}
-
 static void count_bench(const struct told *told, const struct told *full)
 {
     int accepted = full->refusal == 0;
     met(BENCH_TRIALS, 1);
-    met_refusal(AT_BENCH, told->refusal);
+    met_refusal(AT_BENCH, told);
     met(BENCH_128, accepted && full->locations == 128 && full->edges <= 256);
     met(BENCH_129, accepted && full->locations == 129 && full->edges <= 256);
     met(BENCH_256, accepted && full->locations <= 128 && full->edges == 256);
@@ -232,7 +152,7 @@ static void count_other(const struct translation *t, const struct told *full)
 {
     size_t l = t->locations_length, e = t->edges_length;
     size_t locations = location_places(l), edges = edge_places(e);
-    met_refusal(ELSEWHERE, t->told.refusal);
+    met_refusal(ELSEWHERE, &t->told);
     met(NO_BYTES, l == 0 || e == 0);
     met(ODD_LENGTH, l % 32 != 0 || e % 32 != 0);
     if (full->refusal != 0 || full->edges == 0) return;
@@ -243,9 +163,7 @@ static void count_other(const struct translation *t, const struct told *full)
 
 static struct told told_answer(void)
 {
-    struct told told;
-    told.refusal = (uint8_t)told_number();
-    told.place = (size_t)told_number();
+    struct told told = told_refusal();
     told.locations = (size_t)told_number();
     told.edges = (size_t)told_number();
     return told;
@@ -253,7 +171,7 @@ static struct told told_answer(void)
 
 void translation_trial(void)
 {
-    struct translation t = {input, 0, 0, 0, {0, 0, 0, 0}, told_locations, told_edges};
+    struct translation t = {input, 0, 0, 0, {0, 0, 0, 0, 0}, told_locations, told_edges};
     t.input_length = given_bytes("input", input, sizeof input);
     t.locations_length = (size_t)given_number("length of the locations");
     t.edges_length = (size_t)given_number("length of the edges");
@@ -264,28 +182,8 @@ void translation_trial(void)
           lengths[1] == 32 * t.told.edges && lengths[1] <= t.edges_length && full.edges <= 2048);
     struct told came = translate_in_full(&t, &full);
     look_at_rule(&t, &came, try_translation(TRANSLATIONS, &t));
-    if (t.told.refusal == 0) {
-        read_listing(&t.told);
-        ask_for_some(&t.told);
-    }
+    if (t.told.refusal == 0) read_listing(&t);
     if (t.locations_length == BENCH_LOCATIONS && t.edges_length == BENCH_EDGES) count_bench(&t.told, &full);
     else count_other(&t, &full);
-    met(PAST_FULL, full.refusal >= CURRANTPLANE_NO_LOCATION);
-}
-
-void record_trial(void)
-{
-    lend(LOCATIONS, (size_t)given_number("length of the locations"), 1);
-    lend(EDGES, (size_t)given_number("length of the edges"), 1);
-    given.location_count = (size_t)given_number("count of locations");
-    given.edge_count = (size_t)given_number("count of edges");
-    given.table = (size_t)given_number("table");
-    given.number = (size_t)given_number("number");
-    uint8_t refusal = (uint8_t)told_number();
-    size_t place = (size_t)told_number(), begins = (size_t)told_number(), length = (size_t)told_number();
-    lend_answer(answer_length(), place, begins, length);
-    look(RECORDS, call(RECORD) == refusal, "refusal");
-    compare(RECORD, RECORDS);
-    met(RECORD_TRIALS, 1);
-    met_refusal(OF_RECORD, refusal);
+    met(PAST_FULL, no_place(full.refusal) != 0);
 }

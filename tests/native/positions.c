@@ -8,8 +8,8 @@
 #include <stdio.h>
 #include <time.h>
 
-int peer_translate(const uint8_t *input, size_t input_len, uint8_t *locations, size_t locations_len, uint8_t *edges, size_t edges_len,
-                   uint32_t *a, uint32_t *b, uint32_t *number, uint32_t *place);
+int peer_translate5(const uint8_t *input, size_t input_len, uint8_t *locations, size_t locations_len, uint8_t *edges, size_t edges_len,
+                    uint32_t *a, uint32_t *b, uint32_t *number, uint32_t *place, uint32_t *node);
 
 enum { SIZES = 6, ROUNDS = 60, OURS = 5, PEERS = 50 };
 static const size_t sizes[SIZES] = {0, 64, 128, 256, 512, 1000};
@@ -23,8 +23,8 @@ static double now(void) {
 }
 
 static int translate(size_t locations_len, size_t edges_len) {
-    size_t answer[3];
-    return currantplane_translate(input, length, locations, locations_len, edges, edges_len, answer, 3);
+    size_t answer[CURRANTPLANE_ANSWER];
+    return currantplane_translate(input, length, locations, locations_len, edges, edges_len, answer, CURRANTPLANE_ANSWER);
 }
 
 static double ours(size_t places) {
@@ -34,10 +34,10 @@ static double ours(size_t places) {
 }
 
 static double peers(size_t places) {
-    uint32_t n[4];
+    uint32_t n[5];
     double began = now();
     for (int i = 0; i < PEERS; i++)
-        peer_translate(input, length, locations, 32 * places, edges, 64 * places, n, n + 1, n + 2, n + 3);
+        peer_translate5(input, length, locations, 32 * places, edges, 64 * places, n, n + 1, n + 2, n + 3, n + 4);
     return (now() - began) / PEERS;
 }
 

@@ -1,7 +1,7 @@
 //! Records from a text.
 
 use super::parser::{parse, Label, Line};
-use super::Error;
+use super::{Error, Named};
 use crate::record::Statement;
 use std::collections::HashMap;
 
@@ -13,8 +13,8 @@ pub struct Assembled {
     pub lines: Vec<(usize, usize)>,
     /// The labels of each statement.
     pub labels: Vec<Vec<String>>,
-    /// The names of each starting shape's nodes, by number.
-    pub nodes: Vec<Vec<String>>,
+    /// The names of each starting shape's nodes, by number, and where they stand.
+    pub nodes: Vec<Vec<Named>>,
 }
 
 pub fn assemble(text: &str) -> Result<Assembled, Error> {

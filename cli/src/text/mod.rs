@@ -8,12 +8,21 @@ mod shapes;
 
 pub use assemble::{assemble, Assembled};
 pub use disassemble::{disassemble, node_name};
+pub use shapes::Named;
 
 /// Where something stands in a text, both from 1; columns count characters.
 #[derive(Clone, Copy, PartialEq, Eq, Debug)]
 pub struct Spot {
     pub line: usize,
     pub column: usize,
+}
+
+impl Spot {
+    /// A caret under the place in its line. Tabs stay tabs, so that it stands there at any width of a tab.
+    pub fn caret(self, line: &str) -> String {
+        let before = line.chars().take(self.column - 1).map(|c| if c == '\t' { '\t' } else { ' ' });
+        before.chain(['^']).collect()
+    }
 }
 
 /// What is wrong with a text.
@@ -33,12 +42,11 @@ impl Error {
     pub fn show(&self, file: &str, text: &str) -> String {
         let Spot { line, column } = self.spot;
         let shown = text.lines().nth(line - 1).unwrap_or("");
-        // tabs stay tabs, so that the caret stands under its place at any width of a tab
-        let before: String = shown.chars().take(column - 1).map(|c| if c == '\t' { '\t' } else { ' ' }).collect();
+        let caret = self.spot.caret(shown);
         let number = line.to_string();
         let margin = " ".repeat(number.len());
         format!(
-            "{file}:{line}:{column}: found {}, expected {}\n {number} | {shown}\n {margin} | {before}^\n",
+            "{file}:{line}:{column}: found {}, expected {}\n {number} | {shown}\n {margin} | {caret}\n",
             self.found, self.expected
         )
     }

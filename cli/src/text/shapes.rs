@@ -8,12 +8,19 @@ use crate::record::{Shape, NODES, NULL, POINTERS, UNDEFINED};
 /// A node, NULL or UNDEFINED, and the line that gave it.
 type Given = Option<(u8, usize)>;
 
+/// A node's name and where it stands first.
+#[derive(Clone, PartialEq, Eq, Debug)]
+pub struct Named {
+    pub name: String,
+    pub spot: Spot,
+}
+
 /// A `shape` with its chains. Nodes are counted as they appear.
 #[derive(Debug)]
 pub struct Block {
     pub first_line: usize,
     pub last_line: usize,
-    names: Vec<String>,
+    names: Vec<Named>,
     pointers: [Given; POINTERS],
     successors: Vec<Given>,
 }
@@ -102,14 +109,14 @@ impl Block {
 
     /// The node of this name, a new one at its first mention.
     fn node(&mut self, name: String, spot: Spot) -> Result<u8, Error> {
-        if let Some(at) = self.names.iter().position(|n| *n == name) {
+        if let Some(at) = self.names.iter().position(|n| n.name == name) {
             return Ok(at as u8);
         }
         if self.names.len() == NODES {
             let found = format!("`{name}`, which would be node 13 of the shape");
             return Err(Error::new(spot, found, format!("at most {NODES} nodes")));
         }
-        self.names.push(name);
+        self.names.push(Named { name, spot });
         self.successors.push(None);
         Ok(self.names.len() as u8 - 1)
     }
@@ -143,13 +150,13 @@ impl Block {
         match value {
             NULL => "null",
             UNDEFINED => "undefined",
-            node => &self.names[node as usize],
+            node => &self.names[node as usize].name,
         }
     }
 
     /// The shape with its nodes numbered at first visit, and their names in that order. Nodes that no walk reaches come last, as
     /// they appear: the proved check then tells that there are some.
-    pub fn shape(&self) -> (Shape, Vec<String>) {
+    pub fn shape(&self) -> (Shape, Vec<Named>) {
         let successor = |n: u8| self.successors[n as usize].map_or(NULL, |g| g.0);
         let mut order: Vec<u8> = Vec::new();
         for start in self.pointers.iter().flatten() {

@@ -4,6 +4,7 @@
 use std::io::Write;
 use std::path::{Path, PathBuf};
 use std::process::{Command, Output, Stdio};
+use tool::record::{Shape, NODES, NULL, POINTERS, SIZE};
 
 pub const EXAMPLES: [&str; 11] =
     ["reverse", "insert", "remove", "unlink", "clear", "ring", "two-lists", "leak", "unlink-leak", "freed", "compared"];
@@ -49,6 +50,18 @@ pub fn printed(words: &[&str], input: &[u8]) -> Vec<u8> {
 
 pub fn text(bytes: &[u8]) -> String {
     String::from_utf8(bytes.to_vec()).unwrap()
+}
+
+/// A stop and starting shapes in records, from what pointers hold and what follows each node; all other pointers are null.
+pub fn records(shapes: &[(&[u8], &[u8])]) -> Vec<u8> {
+    let mut out = [vec![b'S'], vec![0; SIZE - 1]].concat();
+    for (held, next) in shapes {
+        let mut shape = Shape { count: next.len(), pointers: [NULL; POINTERS], successors: [0; NODES] };
+        shape.pointers[..held.len()].copy_from_slice(held);
+        shape.successors[..next.len()].copy_from_slice(next);
+        out.extend(shape.write());
+    }
+    out
 }
 
 /// xorshift64*: small, fast, and the same everywhere.

@@ -1,10 +1,12 @@
 // The answers of the calls in numbers, written over the start of what the caller lends, as far as it reaches.
 use model::Ended;
+use model::Node;
 use model::Stepped;
+use model::Unfolded;
 ghost use mathlib.Core.Path.{_≡_};
 ghost use Prim.Native.Nat.{min};
 ghost use lib.ListN.{set};
-ghost use Rattle.model.specs.Answers.{stepAnswerOf, stepNumbers, verdictOf};
+ghost use Rattle.model.specs.Answers.{refusalOf, stepAnswerOf, stepNumbers, unfoldedVerdict, verdictOf};
 ghost use Rattle.model.specs.Image.{stepVerdict};
 ghost use Rattle.answers.specs.Numbers.{over, told, IsTold};
 
@@ -53,6 +55,13 @@ pub fn tell(answer: &mut [usize], place: usize, first: usize, second: usize)
     tell_one(answer, 2, second);
 }
 
+// Puts a refusal's node at the fourth place of the answer.
+pub fn tell_node(answer: &mut [usize], node: Node)
+    ensures { λ _. ⌜ now (answer .exit) ≡ set (now (answer .entry)) 3 (node .0) ⌝ }
+{
+    tell_one(answer, 3, node.0 as usize);
+}
+
 // Answers a refusal's number, 0 for none, and writes its place.
 pub fn tell_ended(ended: Ended, place: &mut usize) -> u8
     ensures { λ r. ⌜ IsTold (verdictOf ended) r (now (place .exit)) ⌝ }
@@ -64,6 +73,29 @@ pub fn tell_ended(ended: Ended, place: &mut usize) -> u8
         }
         Ended::Refused { number, place: p } => {
             *place = p;
+            number
+        }
+    }
+}
+
+// Answers the number of an unfolding's refusal, 0 for none, and writes its place and its node.
+pub fn tell_unfolded(unfolded: Unfolded, place: &mut usize, node: &mut u8) -> u8
+    ensures { λ r. ⌜ IsTold (unfoldedVerdict unfolded) r (now (place .exit)) ⌝ }
+    ensures { λ r. ⌜ now (node .exit) ≡ refusalOf (unfoldedVerdict unfolded) .node ⌝ }
+{
+    match unfolded {
+        Unfolded::Accepted => {
+            *place = 0;
+            *node = 0;
+            0
+        }
+        Unfolded::Refused {
+            number,
+            place: at,
+            node: v,
+        } => {
+            *place = at;
+            *node = v.0;
             number
         }
     }

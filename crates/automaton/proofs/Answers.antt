@@ -9,6 +9,7 @@ use lib.ListN.{length, replicate}
 use Rattle.model.specs.Answers.{outcomeOf}
 use Rattle.model.specs.Runs.{IsRoutineOf}
 use Rattle.model.specs.Translate.{check, good, places, translate}
+use Rattle.model.specs.declared.Node.{Node}
 use Rattle.model.specs.declared.Translated.{Translated}
 use Rattle.model.specs.declared.Translated.the-variants as translated
 use Rattle.input.specs.declared.Checked.{Checked}
@@ -17,7 +18,7 @@ use Rattle.input.specs.Accepted.{Accepted}
 use Rattle.input.specs.Input.{GoodCounts, checkedOf, routineIn}
 use Rattle.input.proofs.Facts.{accepted, starts-length}
 use Rattle.automaton.specs.Ready.{ListReady}
-use Rattle.automaton.proofs.Outcomes.{outcome-automaton, outcome-bad, outcome-few}
+use Rattle.automaton.proofs.Outcomes.{noNode, outcome-automaton, outcome-bad, outcome-few}
 
 -- the contract of the translator, of an answer and what the tables then hold
 abbrev pub Answered : List ℕ → ℕ → ℕ → Translated → List ℕ → List ℕ → Type 0
@@ -38,10 +39,11 @@ pub record Looked (s ls es ks fs : List ℕ) (o : Checked) : Type 0 where
   pub counts : GoodCounts o s
 
 module _ {s ls es ks fs : List ℕ} {o : Checked} (L : Looked s ls es ks fs o) where
-  pub answer-bad : {k x : ℕ} → o ≡ checked.Bad k x → Answered s (length ls) (length es) (translated.Refused k x) ks fs
-  answer-bad {k} {x} q =
-      answered s (length ls) (length es) (translated.Refused k x) ks fs
-      (outcome-bad s (length ls) (length es) k x ks fs (rw q at (L .said)) (L .cleared .0) (L .cleared .1))
+  pub answer-bad : {k x : ℕ} {v : Node} → o ≡ checked.Bad k x v
+      → Answered s (length ls) (length es) (translated.Refused k x v) ks fs
+  answer-bad {k} {x} {v} q =
+      answered s (length ls) (length es) (translated.Refused k x v) ks fs
+      (outcome-bad s (length ls) (length es) k x v ks fs (rw q at (L .said)) (L .cleared .0) (L .cleared .1))
 
   module _ {n m most : ℕ} (q : o ≡ checked.Good n m) (r : most ≡ places mostLocations (length ks)) where
     is-good : check s ≡ good (routineIn n s)
@@ -50,12 +52,12 @@ module _ {s ls es ks fs : List ℕ} {o : Checked} (L : Looked s ls es ks fs o) w
     is-accepted : Accepted s n m
     is-accepted = accepted s n m (rw q at (L .said)) (rw q at (L .counts))
 
-    pub answer-few : most < m → Answered s (length ls) (length es) (translated.Refused 11 most) ks fs
+    pub answer-few : most < m → Answered s (length ls) (length es) (translated.Refused 11 most noNode) ks fs
     answer-few h =
         let l = starts-length s n m (is-accepted .whole) in
         let z : most ≡ places mostLocations (length ls) = r ∙ ap (places mostLocations) (L .wide) in
-        answered s (length ls) (length es) (translated.Refused 11 most) ks fs
-        (ap (λ x. outcomeOf (translated.Refused 11 x) ks fs) z
+        answered s (length ls) (length es) (translated.Refused 11 most noNode) ks fs
+        (ap (λ x. outcomeOf (translated.Refused 11 x noNode) ks fs) z
         ∙ outcome-few s (length ls) (length es) (routineIn n s) is-good ks fs (omega arith)
         (L .cleared .0) (L .cleared .1))
 

@@ -17,7 +17,7 @@ use Rattle.explore.specs.declared.Explored.the-variants as explored
 use Rattle.starts.specs.Starts.{startLocs}
 use Rattle.automaton.specs.Ready.{ListReady}
 use Rattle.automaton.proofs.Ready.{explore-ready, startCounts, starts-fine, starts-held, statements-ok}
-use Rattle.automaton.proofs.Outcomes.{listedBy, outcome-full, outcome-listed, startListing}
+use Rattle.automaton.proofs.Outcomes.{noNode, listedBy, outcome-full, outcome-listed, startListing}
 
 -- ls is the location table as it was lent, and ks the same with the starting shapes entered
 module _ (s : List ℕ) (n m : ℕ) (ls es ks : List ℕ) (R : ListReady s n m ls es)
@@ -54,7 +54,7 @@ module _ (s : List ℕ) (n m : ℕ) (ls es ks : List ℕ) (R : ListReady s n m l
     -- no place: both tables are cleared
     pub none-left : (ls″ es″ : List ℕ) (k x : ℕ) → o ≡ explored.Full k x → ls″ ≡ replicate (length ls′) 0
         → es″ ≡ replicate (length es′) 0
-        → outcomeOf (translated.Refused k x) ls″ es″ ≡ translate s (length ls) (length es)
+        → outcomeOf (translated.Refused k x noNode) ls″ es″ ≡ translate s (length ls) (length es)
     none-left ls″ es″ k x e d d′ =
         outcome-full s (length ks) (length es) (routineIn n s) (R .starts .isGood) n ls′ es′ few k x ls″ es″
         (rw p at d) (rw q at d′) (rw e at explored-to)

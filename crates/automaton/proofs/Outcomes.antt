@@ -9,20 +9,25 @@ use Rattle.model.specs.Base.{mostEdges, mostLocations}
 use Rattle.model.specs.Answers.{outcomeOf}
 use Rattle.model.specs.Edges.{at}
 use Rattle.model.specs.Runs.{Demand3, IsRoutineOf}
-use Rattle.model.specs.Records.{Refusal, isAccepted, refusal}
+use Rattle.model.specs.Records.{Refusal, isAccepted, refusal, refusalAt}
 use Rattle.model.specs.Translate.{Explored, Listing, Routine, bad, check, explore, full, good, listed, listedWith, listing, places, refusedWith, translate}
 use Rattle.model.specs.declared.Translated.{Translated}
 use Rattle.model.specs.declared.Translated.the-variants as translated
 use Rattle.model.proofs.runs.Demand.{demand-three}
 use Rattle.model.specs.declared.Counts.{Counts}
+use Rattle.model.specs.declared.Node.{Node}
 use Rattle.listing.specs.Grow.{Holds}
 use Rattle.explore.specs.Explore.{ExploredTo}
 use Rattle.explore.specs.declared.Explored.the-variants as explored
 
+-- a refusal that is about no node
+abbrev pub noNode : Node
+noNode = record { 0 = 0 }
+
 -- a refusal with cleared tables
-refused-blank : (a b k p : ℕ) (ls es : List ℕ) → ls ≡ replicate a 0 → es ≡ replicate b 0
-    → outcomeOf (translated.Refused k p) ls es ≡ refusedWith a b (refusal k p)
-refused-blank a b k p ls es d e =
+refused-blank : (a b k p : ℕ) (v : Node) (ls es : List ℕ) → ls ≡ replicate a 0 → es ≡ replicate b 0
+    → outcomeOf (translated.Refused k p v) ls es ≡ refusedWith a b (refusalAt k p (v .0))
+refused-blank a b k p v ls es d e =
     let x : a - 32 * 0 ≡ a = omega arith in
     let y : b - 32 * 0 ≡ b = omega arith in
     rw (d, e, x, y)
@@ -48,10 +53,10 @@ exploredFrom r a b =
 
 module _ (s : List ℕ) (a b : ℕ) where
   -- the input is refused
-  pub outcome-bad : (k p : ℕ) (ls es : List ℕ) → bad (refusal k p) ≡ check s → ls ≡ replicate a 0 → es ≡ replicate b 0
-      → outcomeOf (translated.Refused k p) ls es ≡ translate s a b
+  pub outcome-bad : (k p : ℕ) (v : Node) (ls es : List ℕ) → bad (refusalAt k p (v .0)) ≡ check s
+      → ls ≡ replicate a 0 → es ≡ replicate b 0 → outcomeOf (translated.Refused k p v) ls es ≡ translate s a b
   unfolding translate
-  outcome-bad k p ls es c d e = refused-blank a b k p ls es d e ∙ rw (← c, translate)
+  outcome-bad k p v ls es c d e = refused-blank a b k p v ls es d e ∙ rw (← c, translate)
 
   module _ (r : Routine) (c : check s ≡ good r) where
     abbrev cl : ℕ
@@ -78,8 +83,8 @@ module _ (s : List ℕ) (a b : ℕ) where
 
     -- no place for a starting shape
     pub outcome-few : (ls es : List ℕ) → places mostLocations a < length (r .starts) → ls ≡ replicate a 0
-        → es ≡ replicate b 0 → outcomeOf (translated.Refused 11 (places mostLocations a)) ls es ≡ translate s a b
-    outcome-few ls es h d e = refused-blank a b 11 cl ls es d e ∙ translate-full (refusal 11 cl) (listing-few h)
+        → es ≡ replicate b 0 → outcomeOf (translated.Refused 11 (places mostLocations a) noNode) ls es ≡ translate s a b
+    outcome-few ls es h d e = refused-blank a b 11 cl noNode ls es d e ∙ translate-full (refusal 11 cl) (listing-few h)
 
     -- the exploration ends, or finds no place
     module _ (n : ℕ) (ls es : List ℕ) (room : length (r .starts) ≤ places mostLocations a) where
@@ -94,14 +99,15 @@ module _ (s : List ℕ) (a b : ℕ) where
 
       pub outcome-full : (k p : ℕ) (ls′ es′ : List ℕ) → ls′ ≡ replicate a 0 → es′ ≡ replicate b 0
           → ExploredTo n (exploredFrom r a b) ls es (explored.Full k p)
-          → outcomeOf (translated.Refused k p) ls′ es′ ≡ translate s a b
+          → outcomeOf (translated.Refused k p noNode) ls′ es′ ≡ translate s a b
       outcome-full k p ls′ es′ d d′ X = by-end (exploredFrom r a b) refl X
         where
           by-end : (o : Explored) → exploredFrom r a b ≡ o → ExploredTo n o ls es (explored.Full k p)
-              → outcomeOf (translated.Refused k p) ls′ es′ ≡ translate s a b
+              → outcomeOf (translated.Refused k p noNode) ls′ es′ ≡ translate s a b
           by-end (listed t) e Y = absurd Y
           by-end (full x) e Y =
-              refused-blank a b k p ls′ es′ d d′ ∙ translate-full (refusal k p) (listing-starts room ∙ e ∙ ap full Y)
+              refused-blank a b k p noNode ls′ es′ d d′
+              ∙ translate-full (refusal k p) (listing-starts room ∙ e ∙ ap full Y)
 
 -- the automaton of an outcome is the routine
 pub outcome-automaton : (s : List ℕ) (a b : ℕ) (o : Translated) (ls es : List ℕ) → outcomeOf o ls es ≡ translate s a b

@@ -2,6 +2,7 @@
 use explore::Explored;
 use input::Checked;
 use model::Counts;
+use model::Node;
 use model::Translated;
 ghost use mathlib.Core.Path.{_≡_};
 ghost use lib.ListN.{length, replicate};
@@ -38,7 +39,11 @@ fn list(input: &[u8], n: usize, m: usize, locations: &mut [u8], edges: &mut [u8]
         },
         Explored::Full { number, place } => {
             clear_both(locations, edges);
-            Translated::Refused { number, place }
+            Translated::Refused {
+                number,
+                place,
+                node: Node(0),
+            }
         }
     }
 }
@@ -53,7 +58,15 @@ pub fn translate(input: &[u8], locations: &mut [u8], edges: &mut [u8]) -> Transl
 {
     clear_both(locations, edges);
     match input::check(input) {
-        Checked::Bad { number, place } => Translated::Refused { number, place },
+        Checked::Bad {
+            number,
+            place,
+            node,
+        } => Translated::Refused {
+            number,
+            place,
+            node,
+        },
         Checked::Good {
             statements: n,
             shapes: m,
@@ -63,6 +76,7 @@ pub fn translate(input: &[u8], locations: &mut [u8], edges: &mut [u8]) -> Transl
                 return Translated::Refused {
                     number: 11,
                     place: most,
+                    node: Node(0),
                 };
             }
             list(input, n, m, locations, edges)

@@ -1,2 +1,2 @@
-pub mod ListLaws
-pub mod Numbering
+pub mod Finding
+pub mod NodeLaws

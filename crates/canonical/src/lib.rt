@@ -1,45 +1,82 @@
-// The test of a shape: whether every cell of a heap image is reachable and core, and stands where the walks visit it.
+// The test of a shape: the first node of a heap image that is not reachable, that is not core, or that the walks
+// number otherwise.
+use model::Failure;
+use model::Node;
 ghost use mathlib.Core.Path.{_≡_};
-ghost use mathlib.Core.Bool.{true};
+ghost use mathlib.Core.Bool.{true, not};
 ghost use Prim.Native.Nat.{_≤_};
-ghost use lib.ListN.{length};
-ghost use Rattle.model.specs.Base.{all, numbers, mostNodes};
+ghost use lib.Dec.{eqb, ltb};
+ghost use lib.ListN.{length, getD};
+ghost use Rattle.model.specs.Base.{numbers, placeOf, mostNodes};
 ghost use Rattle.model.specs.Heap.{closed};
 ghost use Rattle.model.specs.Image.{heapOf};
-ghost use Rattle.model.specs.Shape.{canonical};
-ghost use Rattle.canonical.specs.Placed.{placed};
+ghost use Rattle.model.specs.Records.{checksNodes};
+ghost use Rattle.model.specs.Structs.{Tells};
 
-// Whether each of n cells is core and stands in the order at its own place.
-fn all_placed(order: &[u8], held: &[u8], n: usize) -> bool
-    requires { ⌜ (n ≤ length (now order)) × (n ≤ length (now held)) ⌝ }
-    ensures { λ r. ⌜ r ≡ all (placed (now (order .entry)) (now (held .entry))) (numbers 0 n) ⌝ }
+// The first of n cells whose mark is below a bound; n where there is none.
+fn first_below(marks: &[u8], bound: u8, n: usize) -> usize
+    requires { ⌜ n ≤ length (now marks) ⌝ }
+    ensures { λ r. ⌜ r ≡ placeOf (λ c. ltb (getD (now (marks .entry)) c 0) bound) (numbers 0 n) ⌝ }
 {
     let mut i = 0;
     while i < n {
-        if held[i] < 2 {
-            return false;
-        }
-        if order[i] as usize != i {
-            return false;
+        if marks[i] < bound {
+            return i;
         }
         i += 1;
     }
-    true
+    n
 }
 
-// Whether every cell is reachable and core, and the cells are numbered as the walks visit them.
-pub fn is_canonical(pointers: &[u8], cells: &[u8]) -> bool
+// The first of n cells that does not stand in the order at its own place; n where there is none.
+fn first_moved(order: &[u8], n: usize) -> usize
+    requires { ⌜ n ≤ length (now order) ⌝ }
+    ensures { λ r. ⌜ r ≡ placeOf (λ c. not (eqb (getD (now (order .entry)) c 0) c)) (numbers 0 n) ⌝ }
+{
+    let mut c = 0;
+    while c < n {
+        let visited = order[c] as usize;
+        if visited != c {
+            return c;
+        }
+        c += 1;
+    }
+    n
+}
+
+// The first check of the nodes that fails: 9, 18 or 19 and the first node concerned. A visit marks the cells that it
+// sees, the core ones with two or more.
+pub fn node_failure(pointers: &[u8], cells: &[u8]) -> Failure
     requires { ⌜ (closed (heapOf (now pointers) (now cells)) ≡ true) × (length (now cells) ≤ mostNodes) ⌝ }
-    ensures { λ r. ⌜ r ≡ canonical (heapOf (now (pointers .entry)) (now (cells .entry))) ⌝ }
+    ensures { λ r. ⌜ Tells (checksNodes (heapOf (now (pointers .entry)) (now (cells .entry)))) r ⌝ }
 {
     let mut order = [0u8; 16];
     let mut seen = [0u8; 16];
-    let n = visit::visit(pointers, cells, &mut order, &mut seen);
-    if n != cells.len() {
-        return false;
+    visit::visit(pointers, cells, &mut order, &mut seen);
+    let n = cells.len();
+    let lost = first_below(&seen, 1, n);
+    if lost < n {
+        return Failure {
+            number: 9,
+            node: Node(lost as u8),
+        };
     }
-    if !visit::nothing_lost(cells, &seen) {
-        return false;
+    let inner = first_below(&seen, 2, n);
+    if inner < n {
+        return Failure {
+            number: 18,
+            node: Node(inner as u8),
+        };
     }
-    all_placed(&order, &seen, n)
+    let moved = first_moved(&order, n);
+    if moved < n {
+        return Failure {
+            number: 19,
+            node: Node(moved as u8),
+        };
+    }
+    Failure {
+        number: 0,
+        node: Node(0),
+    }
 }

@@ -2,7 +2,7 @@
 use Prim.Native.Nat.{ℕ, _*_, _≤_}
 use mathlib.Core.Path.{_≡_, ap, refl, subst, sym, _∙_}
 use mathlib.Core.List.{List}
-use lib.ListN.{length}
+use lib.ListN.{length, set}
 use Rattle.model.specs.Answers.{refusalOf, stepNumbers}
 use Rattle.model.specs.Image.{Folding, Stepping, Unfolding, stepVerdict}
 use Rattle.model.specs.Part.{partBytes, recordPart}
@@ -15,13 +15,16 @@ use Rattle.model.proofs.listings.Parts.{part-begins, part-length, part-low}
 use Rattle.answers.specs.Numbers.{IsTold, over, told}
 use Rattle.currantplane.specs.Calls.{IsFolded, IsRecord, IsStepped, IsTranslated, IsUnfolded}
 
-pub outcome-told : {s : List ℕ} {a b : ℕ} {xs ys : List ℕ} {u : Outcome} → u ≡ translate s a b
-    → ys ≡ told xs (refusalOf (u .verdict) .place) (u .tables .locCount) (u .tables .edgeCount)
+pub outcome-told : {s : List ℕ} {a b : ℕ} {xs zs ys : List ℕ} {u : Outcome} → u ≡ translate s a b
+    → zs ≡ told xs (refusalOf (u .verdict) .place) (u .tables .locCount) (u .tables .edgeCount)
+    → ys ≡ set zs 3 (refusalOf (u .verdict) .node)
     → IsTranslated s a b xs (refusalOf (u .verdict) .number) ys (u .tables .locBytes) (u .tables .edgeBytes)
 unfolding Demand3
-outcome-told {s} {a} {b} {xs} {ys} {u} e p = record {
+outcome-told {s} {a} {b} {xs} {zs} {ys} {u} e p q = record {
   number = ap (λ x. refusalOf (x .verdict) .number) e;
-  answer = p ∙ ap (λ x. told xs (refusalOf (x .verdict) .place) (x .tables .locCount) (x .tables .edgeCount)) e;
+  answer = q ∙ ap (λ l. set l 3 (refusalOf (u .verdict) .node)) p
+      ∙ ap (λ x. set (told xs (refusalOf (x .verdict) .place) (x .tables .locCount) (x .tables .edgeCount)) 3
+      (refusalOf (x .verdict) .node)) e;
   locations = ap (λ x. x .tables .locBytes) e;
   edges = ap (λ x. x .tables .edgeBytes) e;
   automaton = λ z. demand-three s a b (zero-accepted s a b (sym (ap (λ x. refusalOf (x .verdict) .number) e) ∙ z));
@@ -52,8 +55,9 @@ pub folded-as : {f g : Folding} {n p : ℕ} {r r₀ vs vs₀ : List ℕ} → f �
     → IsFolded f n p r r₀ vs vs₀ → IsFolded g n p r r₀ vs vs₀
 folded-as {f} {g} {n} {p} {r} {r₀} {vs} {vs₀} e t = subst (λ h. IsFolded h n p r r₀ vs vs₀) e t
 
-pub unfolded-as : {u v : Unfolding} {n p : ℕ} {ps cs : List ℕ} → u ≡ v → IsUnfolded u n p ps cs → IsUnfolded v n p ps cs
-unfolded-as {u} {v} {n} {p} {ps} {cs} e t = subst (λ h. IsUnfolded h n p ps cs) e t
+pub unfolded-as : {u v : Unfolding} {n p d : ℕ} {ps cs : List ℕ} → u ≡ v → IsUnfolded u n p d ps cs
+    → IsUnfolded v n p d ps cs
+unfolded-as {u} {v} {n} {p} {d} {ps} {cs} e t = subst (λ h. IsUnfolded h n p d ps cs) e t
 
 -- the verdict v and the numbers ns are those of the step
 pub stepped-as : {s t : Stepping} {v : Verdict} {n p : ℕ} {ns a l : List ℕ} → s ≡ t → v ≡ stepVerdict (s .answer)

@@ -2,6 +2,7 @@
 use Prim.Native.Nat.{ℕ}
 use mathlib.Core.Path.{_≡_}
 use mathlib.Core.List.{List}
+use lib.ListN.{set}
 use Rattle.model.specs.Answers.{refusalOf, stepNumbers}
 use Rattle.model.specs.Image.{Folding, Stepping, Unfolding, stepVerdict}
 use Rattle.model.specs.Part.{Part}
@@ -14,8 +15,9 @@ use Rattle.answers.specs.Numbers.{IsTold, over, told}
 pub record IsTranslated (s : List ℕ) (a b : ℕ) (xs : List ℕ) (r : ℕ) (ys ls es : List ℕ) : Type 0 where
   pub number : r ≡ refusalOf (translate s a b .verdict) .number
   pub answer : ys
-      ≡ told xs (refusalOf (translate s a b .verdict) .place)
-      (translate s a b .tables .locCount) (translate s a b .tables .edgeCount)
+      ≡ set (told xs (refusalOf (translate s a b .verdict) .place)
+      (translate s a b .tables .locCount) (translate s a b .tables .edgeCount)) 3
+      (refusalOf (translate s a b .verdict) .node)
   pub locations : ls ≡ translate s a b .tables .locBytes
   pub edges : es ≡ translate s a b .tables .edgeBytes
   pub automaton : r ≡ 0 → IsRoutineOf s (translate s a b .tables)
@@ -32,9 +34,10 @@ pub record IsFolded (f : Folding) (n p : ℕ) (r r₀ vs vs₀ : List ℕ) : Typ
   pub shape : r ≡ over (f .recordBytes) r₀
   pub counters : vs ≡ over (f .counts) vs₀
 
--- an unfolding with the refusal n at place p, and the bytes ps and cs
-pub record IsUnfolded (u : Unfolding) (n p : ℕ) (ps cs : List ℕ) : Type 0 where
+-- an unfolding with the refusal n at place p with node v, and the bytes ps and cs
+pub record IsUnfolded (u : Unfolding) (n p v : ℕ) (ps cs : List ℕ) : Type 0 where
   pub ended : IsTold (u .verdict) n p
+  pub node : v ≡ refusalOf (u .verdict) .node
   pub pointers : ps ≡ u .ptrBytes
   pub cells : cs ≡ u .cellBytes
 

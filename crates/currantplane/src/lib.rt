@@ -8,7 +8,10 @@ use answers::step_ended;
 use answers::step_numbers;
 use answers::tell;
 use answers::tell_ended;
+use answers::tell_node;
+use answers::tell_unfolded;
 use model::Counts;
+use model::Node;
 use model::Translated;
 ghost use lib.ListN.{length};
 ghost use Rattle.model.specs.Image.{foldImage, stepImage, unfoldImage};
@@ -16,7 +19,7 @@ ghost use Rattle.model.specs.Part.{recordPart};
 ghost use Rattle.model.specs.Structs.{tablesIn};
 ghost use Rattle.currantplane.specs.Calls.{IsFolded, IsRecord, IsStepped, IsTranslated, IsUnfolded};
 
-// Writes the refusal's place, the number of locations and the number of edges over `answer`.
+// Writes the refusal's place, the number of locations, the number of edges and the refusal's node over `answer`.
 #[no_mangle]
 pub extern "C" fn currantplane_translate(
     input: &[u8],
@@ -33,10 +36,16 @@ pub extern "C" fn currantplane_translate(
             edges: b,
         } => {
             tell(answer, 0, a, b);
+            tell_node(answer, Node(0));
             0
         }
-        Translated::Refused { number, place } => {
+        Translated::Refused {
+            number,
+            place,
+            node,
+        } => {
             tell(answer, place, 0, 0);
+            tell_node(answer, node);
             number
         }
     }
@@ -98,6 +107,7 @@ pub extern "C" fn currantplane_fold(
     tell_ended(ended, place)
 }
 
+// Writes the refusal's node too.
 #[no_mangle]
 pub extern "C" fn currantplane_unfold(
     shape: &[u8],
@@ -105,13 +115,17 @@ pub extern "C" fn currantplane_unfold(
     pointers: &mut [u8],
     cells: &mut [u8],
     place: &mut usize,
+    node: &mut u8,
 ) -> u8
     ensures { λ r. ⌜ IsUnfolded
         (unfoldImage (now (shape .entry)) (now (counters .entry)) (now (pointers .entry)) (now (cells .entry)))
-        r (now (place .exit)) (now (pointers .exit)) (now (cells .exit)) ⌝ }
+        r (now (place .exit)) (now (node .exit)) (now (pointers .exit)) (now (cells .exit)) ⌝ }
 {
-    let ended = heap_operations::unfold(shape, counters, pointers, cells);
-    tell_ended(ended, place)
+    tell_unfolded(
+        heap_operations::unfold(shape, counters, pointers, cells),
+        place,
+        node,
+    )
 }
 
 // Writes the fault, 1 for a stop, the branch and the next statement over `answer`.

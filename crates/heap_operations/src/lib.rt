@@ -7,6 +7,7 @@ use model::Ended;
 use model::Folded;
 use model::Statement;
 use model::Stepped;
+use model::Unfolded;
 use plain_step::take_step;
 ghost use mathlib.Core.Path.{_≡_};
 ghost use Rattle.model.specs.Answers.{foldingOf, unfoldingOf, steppingOf};
@@ -54,19 +55,21 @@ pub fn fold(pointers: &[u8], cells: &[u8]) -> Folded
 }
 
 // Writes the heap image of a shape with counters; a refused unfolding leaves pointers and cells.
-pub fn unfold(rec: &[u8], counters: &[u32], pointers: &mut [u8], cells: &mut [u8]) -> Ended
+pub fn unfold(rec: &[u8], counters: &[u32], pointers: &mut [u8], cells: &mut [u8]) -> Unfolded
     ensures { λ r. ⌜ unfoldingOf r (now (pointers .exit)) (now (cells .exit))
         ≡ unfoldImage (now (rec .entry)) (now (counters .entry)) (now (pointers .entry)) (now (cells .entry)) ⌝ }
 {
-    let refusal = unfold_refusal(rec, counters, pointers.len(), cells.len());
-    if refusal != 0 {
-        return Ended::Refused {
-            number: refusal,
+    let failure = unfold_refusal(rec, counters, pointers.len(), cells.len());
+    if failure.number != 0 {
+        let node = failure.node;
+        return Unfolded::Refused {
+            number: failure.number,
             place: 0,
+            node,
         };
     }
     unfolding::unfold_shape(rec, counters, pointers, cells);
-    Ended::Accepted
+    Unfolded::Accepted
 }
 
 // One step of the plain machine; at a fault, a stop or a refusal pointers and cells stay.

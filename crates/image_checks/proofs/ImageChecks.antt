@@ -38,13 +38,13 @@ module _ {ps cs o m : List ℕ} where
   pub check-lengths : {b : Bool} → b ≡ lengths ps cs → b ≡ false → ImageChecked ps cs o m 13 0
   check-lengths e f =
       let bad = ap (λ x. x && closed (heapOf ps cs)) (sym e ∙ f) in
-      refused-with 12 (sym (given-failed (checksImage ps cs) 13 (inl (refl, bad))))
+      refused-with 12 (sym (given-failed (checksImage ps cs) 13 0 (inl (refl, refl, bad)) .0))
 
   pub check-open : {b k : Bool} → b ≡ lengths ps cs → b ≡ true → k ≡ closed (heapOf ps cs) → k ≡ false
       → ImageChecked ps cs o m 13 0
   check-open e t q f =
       let long : lengths ps cs ≡ true = sym e ∙ t in
-      refused-with 12 (sym (given-failed (checksImage ps cs) 13 (inl (refl, rw long (sym q ∙ f)))))
+      refused-with 12 (sym (given-failed (checksImage ps cs) 13 0 (inl (refl, refl, rw long (sym q ∙ f))) .0))
 
   -- lengths and values are right
   module _ (good : lengths ps cs && closed (heapOf ps cs) ≡ true) where
@@ -65,7 +65,7 @@ module _ {ps cs o m : List ℕ} where
       pub check-lost : x ≡ false → ImageChecked ps cs o m 14 0
       check-lost f =
           let lost = sym (kept-marked d) ∙ sym w ∙ f in
-          refused-with 13 (sym (given-failed (checksImage ps cs) 14 (inr (good, inl (refl, lost)))))
+          refused-with 13 (sym (given-failed (checksImage ps cs) 14 0 (inr (good, inl (refl, refl, lost))) .0))
 
       pub check-done : x ≡ true → ImageChecked ps cs o m 0 n
       check-done f =

@@ -39,7 +39,7 @@ module _ (r : List ℕ) {ps cs o s : List ℕ} {m n : ℕ} (d : ImageChecked ps 
     past-image x q = q ∙ sym (failed-after (checksImage ps cs) (recordChecks r) refl (sym (d .refusal) ∙ z))
 
     no-statement : statement r ≡ false → 4 ≡ firstFailed (checksStatement r ps cs)
-    no-statement f = past-image 4 (sym (given-failed (recordChecks r) 4 (inl (refl, f))))
+    no-statement f = past-image 4 (sym (given-failed (recordChecks r) 4 0 (inl (refl, refl, f)) .0))
 
     pub refuse-width : (length r ≡ 32 → ⊥) → 4 ≡ firstFailed (checksStatement r ps cs)
     refuse-width b = no-statement (rw (ne-eqb (length r) 32 b))

@@ -1,13 +1,16 @@
 // The checks of the calls on heap images: of an image, of an unfolding's record and counters, and of a step's record
 // and entry.
+use layout::failing;
+use model::Failure;
 ghost use Prim.Native.Nat.{_<_};
 ghost use mathlib.Core.Bool.{_&&_};
 ghost use mathlib.Core.Path.{_≡_};
 ghost use lib.Dec.{eqb};
 ghost use lib.ListN.{length, replicate};
 ghost use Rattle.model.specs.Base.{recordSize, mostCells};
-ghost use Rattle.model.specs.Image.{lengths, refusalUnfold, checksStatement};
+ghost use Rattle.model.specs.Image.{lengths, checksUnfold, checksStatement};
 ghost use Rattle.model.specs.Records.{firstFailed, layoutH, opCount};
+ghost use Rattle.model.specs.Structs.{Tells};
 ghost use Rattle.image_checks.specs.Checked.{EntryChecked, ImageChecked};
 
 // Whether there are six pointers and at most 240 cells.
@@ -68,28 +71,28 @@ fn is_shape(rec: &[u8]) -> bool
     layout::layout_ok(rec)
 }
 
-// The refusal of an unfolding (0 for none): the lengths of pointers and cells, then the record, then the counters.
-pub fn unfold_refusal(rec: &[u8], counters: &[u32], pointers: usize, cells: usize) -> u8
-    ensures { λ r. ⌜ r ≡ refusalUnfold (now (rec .entry)) (now (counters .entry)) pointers cells ⌝ }
+// What fails of an unfolding: the lengths of pointers and cells, then the record, then the counters.
+pub fn unfold_refusal(rec: &[u8], counters: &[u32], pointers: usize, cells: usize) -> Failure
+    ensures { λ r. ⌜ Tells (checksUnfold (now (rec .entry)) (now (counters .entry)) pointers cells) r ⌝ }
 {
     if pointers != model::POINTERS {
-        return 13;
+        return failing(13);
     }
     if model::MOST_CELLS < cells {
-        return 13;
+        return failing(13);
     }
     if !is_shape(rec) {
-        return 8;
+        return failing(8);
     }
-    if !layout::canonical_shape(rec) {
-        return 9;
+    let failure = layout::shape_failure(rec);
+    if failure.number != 0 {
+        return failure;
     }
     let k = rec[3] as usize;
     if counters::counters_fit(k, counters, cells) {
-        0
-    } else {
-        15
+        return failing(0);
     }
+    failing(15)
 }
 
 // The refusal of a step (0 for none) by its image and its record; 16 comes after these.

@@ -11,7 +11,7 @@ use borrow.Author.Tests.{leb-true}
 use Rattle.model.specs.Base.{count}
 use Rattle.model.specs.Heap.{Heap}
 use Rattle.model.specs.Edges.{at, stmtAt}
-use Rattle.model.specs.Records.{isH, isS, layoutH, locRecord, recordAt, shapeOf, stmtOf}
+use Rattle.model.specs.Records.{firstFailed, isH, isS, layoutH, locRecord, recordAt, shapeOf, stmtOf}
 use Rattle.model.specs.Shape.{canonical}
 use Rattle.model.specs.Translate.{Routine, between, check, good}
 use Rattle.model.proofs.records.Checked.{accepted-h}
@@ -22,10 +22,9 @@ use Rattle.model.proofs.lists.Logic.{and-l, and-r}
 use Rattle.model.proofs.records.ShapeBack.{shape-record-back}
 use Rattle.input.specs.declared.Checked.the-variants.{Good}
 use Rattle.input.specs.Input.{checkedOf, GoodCounts, routineIn}
-use Rattle.input.specs.RecordChecks.{earlier, recordRefusal}
+use Rattle.input.specs.RecordChecks.{earlier, recordChecks}
 use Rattle.input.specs.Accepted.{Accepted}
 use Rattle.input.proofs.Records.{counts-whole, record-wide, records-at, records-length}
-use Rattle.input.proofs.Shapes.{refusal-by-h, refusal-by-s}
 use Rattle.input.proofs.Opened.{Opened, check-opened, record-passed}
 
 -- ---- lengths and places of the routine that is read from n statements and m shapes
@@ -89,14 +88,14 @@ module _ (s : List ℕ) (n m : ℕ) (w : 32 * (n + m) ≡ length s) (o : Opened 
       not-both (recordAt s (n + j)) (ap isH (sym (getD-drop n (recordsOf s) j []
       ∙ records-at s (n + m) w (n + j) (omega arith))) ∙ t)
 
-  at-record : (i : ℕ) → i < n + m → recordRefusal n s i ≡ 0
+  at-record : (i : ℕ) → i < n + m → firstFailed (recordChecks n s i) ≡ 0
   at-record i h = record-passed s (n + m) w n (rw statements-counted at (o .records)) i h
 
   layout-and-shape : (j : ℕ) → j < m → (layoutH (recordAt s (n + j)) ≡ true)
       × (canonical (shapeOf (recordAt s (n + j))) ≡ true)
   layout-and-shape j h =
       let q = accepted-h (earlier s (n + j)) (recordAt s (n + j))
-      (refusal-by-h (earlier s (n + j)) (recordAt s (n + j)) n (at-shape j h) ∙ at-record (n + j) (omega arith)) in
+      (rw (at-shape j h) at (at-record (n + j) (omega arith))) in
       (q .0, q .1)
 
   pub opened-accepted : Accepted s n m
@@ -107,7 +106,7 @@ module _ (s : List ℕ) (n m : ℕ) (w : 32 * (n + m) ≡ length s) (o : Opened 
     fewShapes = omega (arith, between-high 1 16 (count isH (recordsOf s)) (o .shapes), statements-counted, counted);
     whole = w;
     isStatement = at-statement;
-    noRefusal = λ i h. refusal-by-s (earlier s i) (recordAt s i) n (at-statement i h) ∙ at-record i (omega arith);
+    noRefusal = λ i h. rw (at-statement i h) at (at-record i (omega arith));
     isLayout = λ j h. layout-and-shape j h .0;
     isCanonical = λ j h. layout-and-shape j h .1;
   }

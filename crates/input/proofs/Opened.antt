@@ -8,14 +8,15 @@ use mathlib.Core.Option.{Option, none, some}
 use mathlib.Core.List.{List, [], map}
 use lib.ListN.{length, take, drop}
 use Rattle.model.specs.Base.{count}
-use Rattle.model.specs.Records.{Refusal, isH, isS, shapeOf, stmtOf}
+use Rattle.model.specs.Records.{Refusal, failedNode, firstFailed, isH, isS, shapeOf, stmtOf}
+use Rattle.model.specs.Structs.{Tells, failing}
 use Rattle.model.specs.Translate.{Routine, good, badKind, badRecord, between, check, checkCounts, checkKinds, checkRecords}
 use Rattle.model.proofs.records.Checked.{bad-good, good-inj}
 use Rattle.model.specs.Listings.{recordsOf}
 use Rattle.model.proofs.lists.Lists.{some-none}
 use Rattle.model.proofs.lists.Logic.{bool-case}
 use Rattle.input.specs.Input.{routineIn}
-use Rattle.input.specs.RecordChecks.{earlier, recordRefusal}
+use Rattle.input.specs.RecordChecks.{earlier, recordChecks}
 use Rattle.input.proofs.Outcomes.{badLength, length-even}
 use Rattle.input.proofs.Records.{records-fail, records-pass}
 
@@ -76,12 +77,16 @@ check-opened s r e = bool-case (badLength (length s))
 -- ---- each record after those before it
 
 module _ (s : List ℕ) (n : ℕ) (w : 32 * n ≡ length s) (m : ℕ) (e : badRecord m 0 [] (recordsOf s) ≡ none) where
-  one-more : (i : ℕ) → i < n → badRecord m i (earlier s i) (drop i (recordsOf s)) ≡ none → recordRefusal m s i ≡ 0
-  one-more i h q = by-refusal (recordRefusal m s i) refl
+  one-more : (i : ℕ) → i < n → badRecord m i (earlier s i) (drop i (recordsOf s)) ≡ none
+      → firstFailed (recordChecks m s i) ≡ 0
+  one-more i h q = by-refusal (firstFailed (recordChecks m s i)) refl
     where
-      by-refusal : (k : ℕ) → recordRefusal m s i ≡ k → recordRefusal m s i ≡ 0
+      by-refusal : (k : ℕ) → firstFailed (recordChecks m s i) ≡ k → firstFailed (recordChecks m s i) ≡ 0
       by-refusal zero z = z
-      by-refusal (suc k) z = some-none (sym q ∙ records-fail s n w m i (suc k) h z (λ y. omega arith))
+      by-refusal (suc k) z =
+          let t : Tells (recordChecks m s i) (failing (suc k) (failedNode (recordChecks m s i))) =
+          record { number = sym z; node = refl } in
+          some-none (sym q ∙ records-fail s n w m i h t (λ y. omega arith))
 
   passed : (i : ℕ) → i ≤ n → badRecord m i (earlier s i) (drop i (recordsOf s)) ≡ none
   passed zero h = e
@@ -90,5 +95,5 @@ module _ (s : List ℕ) (n : ℕ) (w : 32 * n ≡ length s) (m : ℕ) (e : badRe
       ap (λ j. badRecord m j (earlier s j) (drop j (recordsOf s))) (sym (add-one i))
       ∙ sym (records-pass s n w m i (omega arith) (one-more i (omega arith) q)) ∙ q
 
-  pub record-passed : (i : ℕ) → i < n → recordRefusal m s i ≡ 0
+  pub record-passed : (i : ℕ) → i < n → firstFailed (recordChecks m s i) ≡ 0
   record-passed i h = one-more i h (passed i (omega arith))

@@ -11,7 +11,9 @@ use lib.Dec.{eqb, ltb}
 use lib.ListN.{length, getD, take, drop, drop-of-length-le, length-drop}
 use lib.Seq.{drop-cons, drop-drop, getD-drop, getD-take, length-take-le}
 use Rattle.model.specs.Base.{any, count, numbers, sameList}
-use Rattle.model.specs.Records.{byte, isH, isS, recordAt, refusal, refusalH, refusalS}
+use Rattle.model.specs.Records.{byte, checksRecord, firstFailed, isH, isS, recordAt, refusalAt}
+use Rattle.model.specs.Structs.{Tells}
+use Rattle.model.specs.declared.Failure.{Failure}
 use Rattle.model.specs.Translate.{badKind, badRecord, chunks}
 use Rattle.model.proofs.lists.Sorted.{kinds-sorted}
 use Rattle.model.specs.Listings.{recordsOf}
@@ -19,7 +21,7 @@ use Rattle.model.proofs.lists.Logic.{bool-case, bool-ext, clash, or-l}
 use Rattle.model.proofs.lists.Numbers.{length-numbers, numbers-snoc}
 use Rattle.model.proofs.shapes.Same.{bytes-same, place-test, same-bytes-refl}
 use Rattle.search.specs.Search.{foundAt}
-use Rattle.input.specs.RecordChecks.{kindFits, earlier, recordRefusal}
+use Rattle.input.specs.RecordChecks.{kindFits, earlier, recordChecks}
 
 chunks-length : (n : ℕ) (s : List ℕ) → length (chunks n s) ≡ n
 chunks-length zero s = refl
@@ -50,17 +52,21 @@ kind-fail : (a : Bool) (i : ℕ) (r : List ℕ) (rs : List (List ℕ)) → kindF
 kind-fail a i r rs h = bool-case (isH r) (λ e. clash (or-l (isH r) _ e) h)
     (λ e. rw (e, badKind) (rw (rw e at h, badKind)))
 
--- the refusal of the first record
+-- the checks of the first record
 refusal-pass : (n i : ℕ) (e : List (List ℕ)) (r : List ℕ) (rs : List (List ℕ))
-    → cond (isS r) (refusalS n r) (refusalH e r) ≡ 0
-    → badRecord n i e (r ∷ rs) ≡ badRecord n (suc i) (r ∷ e) rs
+    → firstFailed (checksRecord n e r) ≡ 0 → badRecord n i e (r ∷ rs) ≡ badRecord n (suc i) (r ∷ e) rs
 refusal-pass n i e r rs h = rw (h, badRecord)
 
-refusal-fail : (n i k : ℕ) (e : List (List ℕ)) (r : List ℕ) (rs : List (List ℕ))
-    → cond (isS r) (refusalS n r) (refusalH e r) ≡ k → (k ≡ 0 → ⊥)
-    → badRecord n i e (r ∷ rs) ≡ some (refusal k i)
-refusal-fail n i zero e r rs h z = absurd (z refl)
-refusal-fail n i (suc k) e r rs h z = rw (h, badRecord)
+refusal-fail : (n i : ℕ) (e : List (List ℕ)) (r : List ℕ) (rs : List (List ℕ)) {f : Failure}
+    → Tells (checksRecord n e r) f → (f .number ≡ 0 → ⊥)
+    → badRecord n i e (r ∷ rs) ≡ some (refusalAt (f .number) i (f .node .0))
+refusal-fail n i e r rs {f} t z = by-number (f .number) refl
+  where
+    by-number : (k : ℕ) → f .number ≡ k → badRecord n i e (r ∷ rs) ≡ some (refusalAt (f .number) i (f .node .0))
+    by-number zero q = absurd (z q)
+    by-number (suc k) q =
+        let h : firstFailed (checksRecord n e r) ≡ suc k = sym (t .number) ∙ q in
+        rw (h, badRecord) (ap₂ (λ m v. some (refusalAt m i v)) (sym q) (sym (t .node)))
 
 -- the first i records, by their numbers and as a list
 or-swap : (a b c : Bool) → a || (b || c) ≡ b || (a || c)
@@ -131,7 +137,7 @@ module _ (s : List ℕ) (n : ℕ) (w : 32 * n ≡ length s) where
   count-end i h = ap (count isS) (records-end i h)
 
   -- the refusals from record i on
-  pub records-pass : (m i : ℕ) → i < n → recordRefusal m s i ≡ 0
+  pub records-pass : (m i : ℕ) → i < n → firstFailed (recordChecks m s i) ≡ 0
       → badRecord m i (earlier s i) (drop i (recordsOf s)) ≡ badRecord m (i + 1) (earlier s (i + 1))
       (drop (i + 1) (recordsOf s))
   records-pass m i h z =
@@ -139,11 +145,11 @@ module _ (s : List ℕ) (n : ℕ) (w : 32 * n ≡ length s) where
       ap (badRecord m i (earlier s i)) (records-step i h) ∙ refusal-pass m i (earlier s i) (recordAt s i) rs z
       ∙ ap (λ j. badRecord m j (earlier s j) rs) (sym (add-one i))
 
-  pub records-fail : (m i k : ℕ) → i < n → recordRefusal m s i ≡ k → (k ≡ 0 → ⊥)
-      → badRecord m i (earlier s i) (drop i (recordsOf s)) ≡ some (refusal k i)
-  records-fail m i k h e z =
-      ap (badRecord m i (earlier s i)) (records-step i h) ∙ refusal-fail m i k (earlier s i) (recordAt s i)
-      (drop (i + 1) (recordsOf s)) e z
+  pub records-fail : (m i : ℕ) {f : Failure} → i < n → Tells (recordChecks m s i) f → (f .number ≡ 0 → ⊥)
+      → badRecord m i (earlier s i) (drop i (recordsOf s)) ≡ some (refusalAt (f .number) i (f .node .0))
+  records-fail m i h t z =
+      ap (badRecord m i (earlier s i)) (records-step i h) ∙ refusal-fail m i (earlier s i) (recordAt s i)
+      (drop (i + 1) (recordsOf s)) t z
 
   pub records-pass-end : (m i : ℕ) → n ≤ i → badRecord m i (earlier s i) (drop i (recordsOf s)) ≡ none
   records-pass-end m i h = ap (badRecord m i (earlier s i)) (records-end i h)

@@ -1,50 +1,56 @@
--- The refusals of H records, and of any record by its kind.
-use Prim.Native.Nat.{ℕ, _≤_}
-use Rattle.model.proofs.records.Checks.{given-failed, pass-none}
-use native.Mathlib.Omega.{arith}
-use mathlib.Core.Path.{_≡_, sym, ap, refl}
-use mathlib.Core.Bool.{true, false, cond, not}
-use mathlib.Core.List.{List, [], _∷_}
-use lib.Dec.{eqb, leb}
-use Rattle.model.specs.Base.{any, sameList, all}
-use Rattle.model.specs.Records.{isS, layoutH, refusalH, refusalS, shapeOf, Row, checksS, checksH, firstFailed}
-use Rattle.model.specs.Shape.{canonical}
-use Rattle.model.proofs.lists.Logic.{bool-case, and-l, and-r}
-use mathlib.Core.Logic.{inl, inr}
-use borrow.Author.Tests.{leb-true}
+-- What fails of an H record, and of any record by its kind.
+use Prim.Native.Nat.{ℕ, suc, zero}
+use mathlib.Core.Path.{_≡_, _∙_, ap, refl, sym}
+use mathlib.Core.Bool.{true, false, not}
+use mathlib.Core.List.{List, [], _∷_, _++_}
+use mathlib.Core.Logic.{inl}
+use lib.Dec.{eqb}
+use Rattle.model.specs.Base.{all, any, mem, sameList}
+use Rattle.model.specs.Records.{Row, checkLayout, checkRepeated, checksH, checksNodes, checksRecord, checksS, isS, layoutH, refusalS, shapeOf}
+use Rattle.model.specs.Listings.{numbersInput}
+use Rattle.model.specs.Structs.{Tells, failing}
+use Rattle.model.specs.declared.Failure.{Failure}
+use Rattle.model.proofs.lists.Logic.{bool-case}
+use Rattle.model.proofs.records.Checks.{failed-number, given-tells, no-node, pass-tells, tells-after, tells-before, tells-past}
 
--- ---- the refusals of an H record after the records e, in the order of its tests
+-- ---- an H record after the records e, in the order of its tests
 
 module _ (e : List (List ℕ)) (r : List ℕ) where
-  pub refusal-8 : layoutH r ≡ false → 8 ≡ refusalH e r
-  refusal-8 l = sym (given-failed (checksH e r) 8 (inl (refl, l)))
+  pub tells-8 : layoutH r ≡ false → Tells (checksH e r) (failing 8 0)
+  tells-8 l = given-tells (checksH e r) 8 0 (inl (refl, refl, l))
 
-  pub refusal-9 : layoutH r ≡ true → canonical (shapeOf r) ≡ false → 9 ≡ refusalH e r
-  refusal-9 l c = sym (given-failed (checksH e r) 9 (inr (l, inl (refl, c))))
+  module _ (l : layoutH r ≡ true) {f : Failure} (t : Tells (checksNodes (shapeOf r)) f) where
+    pub tells-nodes : (f .number ≡ 0 → ⊥) → Tells (checksH e r) f
+    tells-nodes z = tells-past (checkLayout r) (checksNodes (shapeOf r) ++ checkRepeated e r ∷ []) l
+        (tells-before (checksNodes (shapeOf r)) (checkRepeated e r ∷ []) z t)
 
-  pub refusal-10 : layoutH r ≡ true → canonical (shapeOf r) ≡ true → any (sameList eqb r) e ≡ true → 10 ≡ refusalH e r
-  refusal-10 l c a = sym (given-failed (checksH e r) 10 (inr (l, inr (c, inl (refl, ap not a)))))
+    past-nodes : f .number ≡ 0 → {g : Failure} → Tells (checkRepeated e r ∷ []) g → Tells (checksH e r) g
+    past-nodes z u = tells-past (checkLayout r) (checksNodes (shapeOf r) ++ checkRepeated e r ∷ []) l
+        (tells-after (checksNodes (shapeOf r)) (checkRepeated e r ∷ []) refl t z u)
 
-  pub refusal-none : layoutH r ≡ true → canonical (shapeOf r) ≡ true → any (sameList eqb r) e ≡ false → 0 ≡ refusalH e r
-  refusal-none l c a = sym (pass-none (checksH e r) (l, (c, (ap not a, tt))))
+    pub tells-10 : f .number ≡ 0 → any (sameList eqb r) e ≡ true → Tells (checksH e r) (failing 10 0)
+    tells-10 z a = past-nodes z (given-tells (checkRepeated e r ∷ []) 10 0 (inl (refl, refl, ap not a)))
 
-  -- and of any record, by its kind
-  pub refusal-by-s : (n : ℕ) → isS r ≡ true → refusalS n r ≡ cond (isS r) (refusalS n r) (refusalH e r)
-  refusal-by-s n h = rw h
+    pub tells-nothing : f .number ≡ 0 → any (sameList eqb r) e ≡ false → Tells (checksH e r) (failing 0 0)
+    tells-nothing z a = past-nodes z (pass-tells (checkRepeated e r ∷ []) (ap not a, tt))
 
-  pub refusal-by-h : (n : ℕ) → isS r ≡ false → refusalH e r ≡ cond (isS r) (refusalS n r) (refusalH e r)
-  refusal-by-h n h = rw h
+  -- ---- any record, by its kind
 
--- ---- no number is above 10
+  pub tells-by-s : (n : ℕ) {k : ℕ} → isS r ≡ true → k ≡ refusalS n r → Tells (checksRecord n e r) (failing k 0)
+  tells-by-s n h q = rw h (record { number = q; node = sym (no-node (checksS n r) refl) })
 
--- no check of a record has a number above 10
-number-low : (cs : List Row) → all (λ (c : Row). leb (c .number) 10) cs ≡ true → firstFailed cs ≤ 10
-number-low [] h = omega arith
-number-low (c ∷ cs) h = bool-case (c .passes)
-    (λ p. rw (p, firstFailed) (number-low cs (and-r (leb (c .number) 10) (all (λ (x : Row). leb (x .number) 10) cs) h)))
-    (λ p. rw (p, firstFailed) (leb-true (c .number) 10
-    (and-l (leb (c .number) 10) (all (λ (x : Row). leb (x .number) 10) cs) h)))
+  pub tells-by-h : (n : ℕ) {f : Failure} → isS r ≡ false → Tells (checksH e r) f → Tells (checksRecord n e r) f
+  tells-by-h n h t = rw h t
 
-pub number-few : (n : ℕ) (e : List (List ℕ)) (r : List ℕ) → cond (isS r) (refusalS n r) (refusalH e r) ≤ 10
-number-few n e r = bool-case (isS r) (λ a. rw a (number-low (checksS n r) refl))
-    (λ a. rw a (number-low (checksH e r) refl))
+-- a record that fails has one of the input's numbers
+pub number-known : (n : ℕ) (e : List (List ℕ)) (r : List ℕ) {f : Failure} → Tells (checksRecord n e r) f
+    → (f .number ≡ 0 → ⊥) → mem (f .number) numbersInput ≡ true
+number-known n e r {f} t z = by-number (f .number) refl
+  where
+    known : all (λ (c : Row). mem (c .number) numbersInput) (checksRecord n e r) ≡ true
+    known = bool-case (isS r) (λ h. rw h) (λ h. rw h)
+
+    by-number : (k : ℕ) → f .number ≡ k → mem (f .number) numbersInput ≡ true
+    by-number zero q = absurd (z q)
+    by-number (suc k) q = rw q (failed-number (λ m. mem m numbersInput) (checksRecord n e r) known k
+        (sym (t .number) ∙ q))

@@ -1,10 +1,10 @@
--- Parts of the check, as the code makes them: one record's kind, the records before one, its refusal. Assumes nothing.
+-- Parts of the check, as the code makes them: one record's kind, the records before one, its checks. Assumes nothing.
 use Prim.Native.Nat.{ℕ, zero, suc}
 use mathlib.Core.Bool.{Bool, _&&_, _||_, not, cond}
 use mathlib.Core.Option.{Option, none, some}
 use mathlib.Core.List.{List, [], _∷_}
 use lib.Dec.{eqb, ltb}
-use Rattle.model.specs.Records.{isS, recordAt, refusalS, refusalH}
+use Rattle.model.specs.Records.{Row, checksRecord, recordAt}
 
 -- H may stand anywhere, S only before the first H
 abbrev pub kindFits : Bool → ℕ → Bool
@@ -19,6 +19,6 @@ abbrev pub earlier : List ℕ → ℕ → List (List ℕ)
 earlier s zero = []
 earlier s (suc i) = recordAt s i ∷ earlier s i
 
--- the refusal of record i of an input with n statements, 0 for none
-abbrev pub recordRefusal : ℕ → List ℕ → ℕ → ℕ
-recordRefusal n s i = cond (isS (recordAt s i)) (refusalS n (recordAt s i)) (refusalH (earlier s i) (recordAt s i))
+-- the checks of record i of an input with n statements
+abbrev pub recordChecks : ℕ → List ℕ → ℕ → List Row
+recordChecks n s i = checksRecord n (earlier s i) (recordAt s i)

@@ -1,8 +1,11 @@
 // The checks of the translator's input: S records, then H records, 32 bytes each. The first that fails gives the
 // refusal.
-use layout::canonical_shape;
+use layout::failing;
 use layout::layout_ok;
+use layout::shape_failure;
 use layout::statement_refusal;
+use model::Failure;
+use model::Node;
 ghost use mathlib.Core.Path.{_≡_};
 ghost use mathlib.Core.Bool.{false};
 ghost use mathlib.Core.Option.{none};
@@ -10,16 +13,24 @@ ghost use Prim.Native.Nat.{_+_, _*_, _≤_};
 ghost use lib.Dec.{eqb};
 ghost use lib.ListN.{length};
 ghost use Rattle.model.specs.Base.{any, count, sameList, recordSize};
-ghost use Rattle.model.specs.Records.{isS, refusalH};
+ghost use Rattle.model.specs.Records.{isS, checksH};
+ghost use Rattle.model.specs.Structs.{Tells};
 ghost use Rattle.model.specs.Translate.{badKind, between, check, checkCounts, checkKinds, checkRecords};
 ghost use Rattle.model.specs.Listings.{recordsOf};
 ghost use Rattle.input.specs.Input.{checkedOf, GoodCounts};
-ghost use Rattle.input.specs.RecordChecks.{kindFits, kindFound, earlier, recordRefusal};
+ghost use Rattle.input.specs.RecordChecks.{kindFits, kindFound, earlier, recordChecks};
 
-// A routine with its numbers of statements and of starting shapes, or the refusal's number and place.
+// A routine with its numbers of statements and of starting shapes, or the refusal's number, place and node.
 pub enum Checked {
-    Good { statements: usize, shapes: usize },
-    Bad { number: u8, place: usize },
+    Good {
+        statements: usize,
+        shapes: usize,
+    },
+    Bad {
+        number: u8,
+        place: usize,
+        node: Node,
+    },
 }
 
 // ---- the kinds of the records, by their tags
@@ -75,33 +86,34 @@ fn repeats(input: &[u8], i: usize, rec: &[u8]) -> bool
     search::find(input, i, rec) < i
 }
 
-// The refusal of an H record after the first i records of the input, 0 for none.
-fn shape_refusal(input: &[u8], i: usize, rec: &[u8]) -> u8
+// What fails of an H record after the first i records of the input.
+fn shape_refusal(input: &[u8], i: usize, rec: &[u8]) -> Failure
     requires { ⌜ (recordSize * i ≤ length (now input)) × (length (now rec) ≡ recordSize) ⌝ }
-    ensures { λ r. ⌜ r ≡ refusalH (earlier (now (input .entry)) i) (now (rec .entry)) ⌝ }
+    ensures { λ r. ⌜ Tells (checksH (earlier (now (input .entry)) i) (now (rec .entry))) r ⌝ }
 {
     if !layout_ok(rec) {
-        return 8;
+        return failing(8);
     }
-    if !canonical_shape(rec) {
-        return 9;
+    let failure = shape_failure(rec);
+    if failure.number != 0 {
+        return failure;
     }
     if repeats(input, i, rec) {
-        return 10;
+        return failing(10);
     }
-    0
+    failing(0)
 }
 
-// The refusal of record i where there are so many statements, 0 for none.
-fn record_refusal(input: &[u8], i: usize, statements: usize) -> u8
+// What fails of record i where there are so many statements.
+fn record_refusal(input: &[u8], i: usize, statements: usize) -> Failure
     requires { ⌜ recordSize * (i + 1) ≤ length (now input) ⌝ }
-    ensures { λ r. ⌜ r ≡ recordRefusal statements (now (input .entry)) i ⌝ }
+    ensures { λ r. ⌜ Tells (recordChecks statements (now (input .entry)) i) r ⌝ }
 {
     let at = model::RECORD * i;
     let end = at + model::RECORD;
     let rec = &input[at..end];
     if rec[0] == 0x53 {
-        return statement_refusal(rec, statements);
+        return failing(statement_refusal(rec, statements));
     }
     shape_refusal(input, i, rec)
 }
@@ -118,9 +130,14 @@ fn check_records(input: &[u8], statements: usize, shapes: usize) -> Checked
     let records = statements + shapes;
     let mut i = 0;
     while i < records {
-        let number = record_refusal(input, i, statements);
-        if number != 0 {
-            return Checked::Bad { number, place: i };
+        let failure = record_refusal(input, i, statements);
+        if failure.number != 0 {
+            let node = failure.node;
+            return Checked::Bad {
+                number: failure.number,
+                place: i,
+                node,
+            };
         }
         i += 1;
     }
@@ -145,6 +162,7 @@ fn check_counts(input: &[u8], records: usize) -> Checked
         return Checked::Bad {
             number: 2,
             place: 0,
+            node: Node(0),
         };
     }
     let shapes = records - statements;
@@ -152,6 +170,7 @@ fn check_counts(input: &[u8], records: usize) -> Checked
         return Checked::Bad {
             number: 3,
             place: 0,
+            node: Node(0),
         };
     }
     check_records(input, statements, shapes)
@@ -165,7 +184,11 @@ fn check_kinds(input: &[u8], records: usize) -> Checked
 {
     let place = wrong_kind(input, records);
     if place < records {
-        return Checked::Bad { number: 4, place };
+        return Checked::Bad {
+            number: 4,
+            place,
+            node: Node(0),
+        };
     }
     check_counts(input, records)
 }
@@ -180,6 +203,7 @@ pub fn check(input: &[u8]) -> Checked
         return Checked::Bad {
             number: 1,
             place: 0,
+            node: Node(0),
         };
     }
     check_kinds(input, length / model::RECORD)

@@ -18,13 +18,13 @@ or-five false false false false false = refl
 
 module _ (n : ℕ) (r : List ℕ) where
   pub refusal-5 : ltb (byte r 1) opCount ≡ false → 5 ≡ refusalS n r
-  refusal-5 o = sym (given-failed (checksS n r) 5 (inl (refl, o)))
+  refusal-5 o = sym (given-failed (checksS n r) 5 0 (inl (refl, refl, o)) .0)
 
   pub refusal-6 : ltb (byte r 1) opCount ≡ true → fieldsS r ≡ false → 6 ≡ refusalS n r
-  refusal-6 o f = sym (given-failed (checksS n r) 6 (inr (o, inl (refl, f))))
+  refusal-6 o f = sym (given-failed (checksS n r) 6 0 (inr (o, inl (refl, refl, f))) .0)
 
   pub refusal-7 : ltb (byte r 1) opCount ≡ true → fieldsS r ≡ true → targetsS n r ≡ false → 7 ≡ refusalS n r
-  refusal-7 o f t = sym (given-failed (checksS n r) 7 (inr (o, inr (f, inl (refl, t)))))
+  refusal-7 o f t = sym (given-failed (checksS n r) 7 0 (inr (o, inr (f, inl (refl, refl, t)))) .0)
 
   pub refusal-none : ltb (byte r 1) opCount ≡ true → fieldsS r ≡ true → targetsS n r ≡ true → 0 ≡ refusalS n r
   refusal-none o f t = sym (pass-none (checksS n r) (o, (f, (t, tt))))

@@ -1,4 +1,5 @@
-// S and H records of 32 bytes: which refusal a statement has, whether a shape keeps the layout and is canonical.
+// S and H records of 32 bytes: which refusal a statement has, whether a shape keeps the layout, and what fails of its
+// nodes.
 pub mod fields;
 
 use fields::all_values;
@@ -6,12 +7,24 @@ use fields::all_zero;
 use fields::fields_ok;
 use fields::head_ok;
 use fields::targets_ok;
+use model::Failure;
+use model::Node;
 ghost use mathlib.Core.Path.{_≡_};
 ghost use mathlib.Core.Bool.{true};
 ghost use lib.ListN.{length};
 ghost use Rattle.model.specs.Base.{recordSize};
-ghost use Rattle.model.specs.Records.{refusalS, layoutH, shapeOf};
-ghost use Rattle.model.specs.Shape.{canonical};
+ghost use Rattle.model.specs.Records.{checksNodes, refusalS, layoutH, shapeOf};
+ghost use Rattle.model.specs.Structs.{Tells, failing};
+
+// A failure that is about no node.
+pub fn failing(number: u8) -> Failure
+    ensures { λ r. ⌜ r ≡ failing number 0 ⌝ }
+{
+    Failure {
+        number,
+        node: Node(0),
+    }
+}
 
 // The refusal of an S record among n statements, 0 for none.
 pub fn statement_refusal(rec: &[u8], n: usize) -> u8
@@ -43,11 +56,11 @@ pub fn layout_ok(rec: &[u8]) -> bool
     all_values(&rec[4..end], k) & all_zero(&rec[end..])
 }
 
-// Whether the shape of an H record, which keeps the layout, is canonical.
-pub fn canonical_shape(rec: &[u8]) -> bool
+// What fails of the nodes of an H record, which keeps the layout: 9, 18 or 19 and the first node concerned.
+pub fn shape_failure(rec: &[u8]) -> Failure
     requires { ⌜ (length (now rec) ≡ recordSize) × (layoutH (now rec) ≡ true) ⌝ }
-    ensures { λ r. ⌜ r ≡ canonical (shapeOf (now (rec .entry))) ⌝ }
+    ensures { λ r. ⌜ Tells (checksNodes (shapeOf (now (rec .entry)))) r ⌝ }
 {
     let end = 10 + rec[3] as usize;
-    canonical::is_canonical(&rec[4..10], &rec[10..end])
+    canonical::node_failure(&rec[4..10], &rec[10..end])
 }

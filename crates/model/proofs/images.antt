@@ -1,5 +1,6 @@
 -- Folding, unfolding and the plain step on bytes.
 pub mod Images
+pub mod NodeAnswers
 pub mod RoundTrips
 pub mod Stepping
 pub mod OneToOne

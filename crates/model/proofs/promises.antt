@@ -6,4 +6,5 @@ pub mod PromisesRuns
 pub mod PromisesTables
 pub mod PromisesStatements
 pub mod PromisesBench
+pub mod PromisesNodes
 pub mod Shelf

@@ -1,6 +1,8 @@
 -- Records written and read back; the checks of records and of the input.
 pub mod Ops
 pub mod Checks
+pub mod NodeChecks
+pub mod ToldNodes
 pub mod Bytes
 pub mod EdgeBack
 pub mod ReadBack

@@ -2,7 +2,7 @@
 -- nothing.
 use Prim.Native.Nat.{ℕ}
 use mathlib.Core.List.{List, [], _∷_}
-use Rattle.model.specs.Records.{Refusal, refusal, Verdict, isAccepted, isRefused}
+use Rattle.model.specs.Records.{Refusal, refusal, refusalAt, Verdict, isAccepted, isRefused}
 use Rattle.model.specs.Translate.{Outcome}
 use Rattle.model.specs.Image.{Folding, Unfolding, StepAnswer, toNext, toFault, toStop, noStep, Stepping}
 use Rattle.model.specs.declared.Ended.{Ended}
@@ -10,6 +10,8 @@ use Rattle.model.specs.declared.Ended.the-variants as ended
 use Rattle.model.specs.declared.Translated.{Translated}
 use Rattle.model.specs.declared.Translated.the-variants as translated
 use Rattle.model.specs.declared.Folded.{Folded}
+use Rattle.model.specs.declared.Unfolded.{Unfolded}
+use Rattle.model.specs.declared.Unfolded.the-variants as unfolded
 use Rattle.model.specs.declared.Stepped.{Stepped}
 use Rattle.model.specs.declared.Stepped.the-variants as stepped
 
@@ -17,13 +19,17 @@ abbrev pub verdictOf : Ended → Verdict
 verdictOf ended.Accepted = isAccepted
 verdictOf (ended.Refused n p) = isRefused (refusal n p)
 
+abbrev pub unfoldedVerdict : Unfolded → Verdict
+unfoldedVerdict unfolded.Accepted = isAccepted
+unfoldedVerdict (unfolded.Refused n p v) = isRefused (refusalAt n p (v .0))
+
 -- the answer of `translate` with the bytes of the two tables
 abbrev pub outcomeOf : Translated → List ℕ → List ℕ → Outcome
 outcomeOf (translated.Listed l e) ls es =
     record { verdict = isAccepted; tables = record { locBytes = ls; edgeBytes = es; locCount = l; edgeCount = e } }
-outcomeOf (translated.Refused n p) ls es =
+outcomeOf (translated.Refused n p v) ls es =
     record {
-      verdict = isRefused (refusal n p);
+      verdict = isRefused (refusalAt n p (v .0));
       tables = record {
         locBytes = ls;
         edgeBytes = es;
@@ -36,8 +42,8 @@ abbrev pub foldingOf : Folded → Folding
 foldingOf f = record { verdict = verdictOf (f .ended); recordBytes = f .shape; counts = f .counters }
 
 -- the answer of `unfold` with the bytes of the pointers and cells
-abbrev pub unfoldingOf : Ended → List ℕ → List ℕ → Unfolding
-unfoldingOf e ps cs = record { verdict = verdictOf e; ptrBytes = ps; cellBytes = cs }
+abbrev pub unfoldingOf : Unfolded → List ℕ → List ℕ → Unfolding
+unfoldingOf u ps cs = record { verdict = unfoldedVerdict u; ptrBytes = ps; cellBytes = cs }
 
 abbrev pub stepAnswerOf : Stepped → StepAnswer
 stepAnswerOf (stepped.Went b n) = toNext b (n .0)

@@ -7,10 +7,10 @@ use mathlib.Core.Bool.{true, false, cond}
 use mathlib.Core.List.{List, [], _∷_, _++_, map}
 use lib.Dec.{ltb}
 use lib.ListN.{length, take, replicate}
-use Rattle.model.specs.Base.{numbers}
+use Rattle.model.specs.Base.{mem, numbers}
 use Rattle.model.specs.Records.{Refusal, refusal, Verdict, isAccepted, isRefused, recordAt, word}
 use Rattle.model.specs.Translate.{Link, Listing, Outcome, Routine, Tables, bad, check, good, translate}
-use Rattle.model.specs.Listings.{IsFull, Placed}
+use Rattle.model.specs.Listings.{IsFull, Placed, numbersInput}
 
 -- "it has tables for 128 locations and 256 edges only"
 abbrev pub benchLocations : ℕ
@@ -91,11 +91,12 @@ pub record EqualsFull (a b : ℕ) (s : List ℕ) : Type 0 where
   pub locationBytes : translate s a b .tables .locBytes ≡ cutTo a (translateFull s .tables .locBytes)
   pub edgeBytes : translate s a b .tables .edgeBytes ≡ cutTo b (translateFull s .tables .edgeBytes)
 
--- "A failed check gives the full translator's refusal": exactly a failed check gives 1 to 10, here and there
+-- "A failed check gives the full translator's refusal": exactly a failed check gives a number of the input's, that is,
+-- neither 11 nor 12, here and there
 abbrev pub FailsAsFull : ℕ → ℕ → List ℕ → Type 0
 FailsAsFull a b s = (x : Refusal)
-    → ((check s ≡ bad x) ↔ ((translate s a b .verdict ≡ isRefused x) × (x .number ≤ 10)))
-    × ((check s ≡ bad x) ↔ ((translateFull s .verdict ≡ isRefused x) × (x .number ≤ 10)))
+    → ((check s ≡ bad x) ↔ ((translate s a b .verdict ≡ isRefused x) × (mem (x .number) numbersInput ≡ true)))
+    × ((check s ≡ bad x) ↔ ((translateFull s .verdict ≡ isRefused x) × (mem (x .number) numbersInput ≡ true)))
 
 -- "Where the full listing doesn't fit, the bench gets 11 or 12 by the same rule, applied to its own places": told from
 -- the full listing, and from the full translator's bytes where it has one

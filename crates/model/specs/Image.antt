@@ -7,9 +7,9 @@ use lib.Dec.{eqb, leb}
 use lib.ListN.{length, take, drop, replicate}
 use Rattle.model.specs.Base.{all, sum, mostCells, mostNodes, mostStatements, pointerCount, recordSize}
 use Rattle.model.specs.Heap.{Val, cell, null, undef, Slot, unused, holds, Heap, closed, kept}
-use Rattle.model.specs.Shape.{shape, counters, canonical}
+use Rattle.model.specs.Shape.{shape, counters}
 use Rattle.model.specs.Machine.{Op, faultNumber, Action, stay, compare, point, follow, link, splice, make, release, action, Entry, entry, accepts, Answer, refused, stopped, faulted, went, step}
-use Rattle.model.specs.Records.{valByte, valOf, slotByte, byte, isZero, isS, filled, shapeRecord, layoutH, shapeOf, stmtOf, Refusal, refusal, Verdict, isAccepted, isRefused, Row, unless, firstFailed, checksS}
+use Rattle.model.specs.Records.{valByte, valOf, slotByte, byte, isZero, isS, filled, shapeRecord, layoutH, shapeOf, stmtOf, Refusal, refusal, refusalAt, Verdict, isAccepted, isRefused, Row, unless, firstFailed, failedNode, checksNodes, checksS}
 
 -- "six pointer bytes and 0 to 240 cell bytes: a cell number, 0xfe, 0xff, or for a cell 0xfd (not in use)"
 abbrev pub cellSlot : ℕ → Slot
@@ -30,10 +30,10 @@ checksImage ps cs =
 abbrev pub refusalImage : List ℕ → List ℕ → ℕ
 refusalImage ps cs = firstFailed (checksImage ps cs)
 
--- the refusal of number n, where it is one: the place is 0 in these calls
-abbrev pub verdictBy : ℕ → Verdict
-verdictBy zero = isAccepted
-verdictBy (suc n) = isRefused (refusal (suc n) 0)
+-- the refusal of number n with node v, where it is one: the place is 0 in these calls
+abbrev pub verdictBy : ℕ → ℕ → Verdict
+verdictBy zero v = isAccepted
+verdictBy (suc n) v = isRefused (refusalAt (suc n) 0 v)
 
 -- ---- folding
 
@@ -52,7 +52,7 @@ foldImage ps cs =
         counts = filled mostNodes (counters h);
       }
       | suc n ↦ record {
-        verdict = verdictBy (suc n);
+        verdict = verdictBy (suc n) 0;
         recordBytes = replicate recordSize 0;
         counts = replicate mostNodes 0;
       }
@@ -97,18 +97,25 @@ countsFit k vs n = all (leb 1) (take k vs) && all isZero (drop k vs) && leb (sum
 abbrev pub countersFit : ℕ → List ℕ → ℕ → Bool
 countersFit k vs n = eqb (length vs) mostNodes && countsFit k vs n
 
--- "Unfolding checks the lengths (13), then 8, 9, 15"; r a record, vs the counters, np and nc the lengths of pointers
--- and cells
+abbrev pub checkCounters : List ℕ → List ℕ → ℕ → Row
+checkCounters r vs nc = unless 15 (countersFit (byte r 3) vs nc)
+
+-- "Unfolding checks the lengths (13), then 8, 9, 15"; 18 and 19 "stand right after 9, in unfolding too"; r a record,
+-- vs the counters, np and nc the lengths of pointers and cells
 abbrev pub checksUnfold : List ℕ → List ℕ → ℕ → ℕ → List Row
 checksUnfold r vs np nc =
     unless 13 (eqb np pointerCount && leb nc mostCells)
     ∷ unless 8 (eqb (length r) recordSize && layoutH r)
-    ∷ unless 9 (canonical (shapeOf r))
-    ∷ unless 15 (countersFit (byte r 3) vs nc)
+    ∷ checksNodes (shapeOf r)
+    ++ checkCounters r vs nc
     ∷ []
 
 abbrev pub refusalUnfold : List ℕ → List ℕ → ℕ → ℕ → ℕ
 refusalUnfold r vs np nc = firstFailed (checksUnfold r vs np nc)
+
+-- the node that is told with it
+abbrev pub nodeUnfold : List ℕ → List ℕ → ℕ → ℕ → ℕ
+nodeUnfold r vs np nc = failedNode (checksUnfold r vs np nc)
 
 pub record Unfolding : Type 0 where
   pub verdict : Verdict
@@ -125,7 +132,11 @@ unfoldImage r vs ps cs =
     elim (refusalUnfold r vs (length ps) (length cs)) [
       | zero ↦ let h = unfoldHeap (shapeOf r) (take (byte r 3) vs) in
           record { verdict = isAccepted; ptrBytes = map valByte (h .ptrs); cellBytes = cellBytesOf (length cs) h }
-      | suc n ↦ record { verdict = verdictBy (suc n); ptrBytes = ps; cellBytes = cs }
+      | suc n ↦ record {
+        verdict = verdictBy (suc n) (nodeUnfold r vs (length ps) (length cs));
+        ptrBytes = ps;
+        cellBytes = cs;
+      }
     ]
 
 -- ---- the plain step

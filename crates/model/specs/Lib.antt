@@ -13,4 +13,5 @@ pub mod Structs
 pub mod Notions
 pub mod Listings
 pub mod Bench
+pub mod Nodes
 pub mod Cases

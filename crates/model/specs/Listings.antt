@@ -11,7 +11,7 @@ use Rattle.model.specs.Base.{any, count, joined, numbers, placeOf, mostN
 use Rattle.model.specs.Edges.{Edge, Loc, at, edgesOf, failed, sameLoc}
 use Rattle.model.specs.Heap.{Heap, Slot, Val, cell, holds, null, order, undef, unused}
 use Rattle.model.specs.Machine.{Op, Stmt, choose, clear, copy, free, isNull, leak, load, new, same, setNull, relink, skip, stop, store}
-use Rattle.model.specs.Records.{Refusal, isAccepted, isH, isS, locRecord, refusal, refusalH, refusalS, usesFirst, usesSecond}
+use Rattle.model.specs.Records.{Refusal, Row, checksRecord, failedNode, firstFailed, isAccepted, isH, isS, locRecord, refusal, refusalAt, usesFirst, usesSecond}
 use Rattle.model.specs.Part.{meant, partBytes, recordPart}
 use Rattle.model.specs.Runs.{added}
 use Rattle.model.specs.Translate.{Link, Listing, Routine, Tables, addEdges, between, chunks, explore, full, grown, linkRecord, listed, routineOf}
@@ -138,10 +138,29 @@ noRecords s = eqb (length s) 0 || not (eqb (length s % recordSize) 0)
 abbrev pub wrongKind : List (List ℕ) → ℕ → Bool
 wrongKind rs i = not (isH (getD rs i [])) && not (isS (getD rs i []) && not (any isH (take i rs)))
 
--- 5 to 10: the refusal of record i, 0 for none
+-- 5 to 10, 18, 19: the checks of record i, its refusal, 0 for none, and the node that is told with it
+abbrev pub recordChecks : List (List ℕ) → ℕ → List Row
+recordChecks rs i = checksRecord (count isS rs) (take i rs) (getD rs i [])
+
 abbrev pub recordRefusal : List (List ℕ) → ℕ → ℕ
-recordRefusal rs i = cond (isS (getD rs i [])) (refusalS (count isS rs) (getD rs i []))
-    (refusalH (take i rs) (getD rs i []))
+recordRefusal rs i = firstFailed (recordChecks rs i)
+
+abbrev pub recordNode : List (List ℕ) → ℕ → ℕ
+recordNode rs i = failedNode (recordChecks rs i)
+
+-- the numbers that a refusal can have, in the order of the checks: an S record's, an H record's, an input's, and a
+-- translation's
+abbrev pub numbersS : List ℕ
+numbersS = 5 ∷ 6 ∷ 7 ∷ []
+
+abbrev pub numbersH : List ℕ
+numbersH = 8 ∷ 9 ∷ 18 ∷ 19 ∷ 10 ∷ []
+
+abbrev pub numbersInput : List ℕ
+numbersInput = 1 ∷ 4 ∷ 2 ∷ 3 ∷ numbersS ++ numbersH
+
+abbrev pub numbersTranslate : List ℕ
+numbersTranslate = numbersInput ++ 11 ∷ 12 ∷ []
 
 -- the records of an input below i are of right kinds; they are not refused
 abbrev pub RightKinds : List ℕ → ℕ → Type 0
@@ -167,8 +186,8 @@ pub data BadInput (s : List ℕ) (x : Refusal) : Type 0 where
       → BadInput s x
   bad-shapes : x ≡ refusal 3 0 → noRecords s ≡ false → RightKinds s (length (recordsOf s)) → rightS s ≡ true
       → rightH s ≡ false → BadInput s x
-  bad-record : (n i : ℕ) → x ≡ refusal (suc n) i → noRecords s ≡ false → RightKinds s (length (recordsOf s))
-      → rightS s ≡ true → rightH s ≡ true
+  bad-record : (n i : ℕ) → x ≡ refusalAt (suc n) i (recordNode (recordsOf s) i) → noRecords s ≡ false
+      → RightKinds s (length (recordsOf s)) → rightS s ≡ true → rightH s ≡ true
       → i < length (recordsOf s) → RightRecords s i → recordRefusal (recordsOf s) i ≡ suc n → BadInput s x
 
 -- nothing is wrong with an input

@@ -12,7 +12,7 @@ use Rattle.model.specs.Base.{mem, sum, numbers, all}
 use Rattle.model.specs.Edges.{Edge, Guard, Loc, Test, Update, View, at, failed, isMore, isOne, noNode, oneNode, twoNodes}
 use Rattle.model.specs.Heap.{Heap, IsHeap, Slot, Val, cell, closed, holds, next, null, order, ptr, undef, unused}
 use Rattle.model.specs.Machine.{Action, Effect, Fault, atNull, atUndef, compare, done, fault, follow, link, make, point, putSlot, release, splice, stay}
-use Rattle.model.specs.Records.{Row, Verdict, isAccepted, isRefused, refusal}
+use Rattle.model.specs.Records.{Row, Verdict, isAccepted, isRefused, refusalAt}
 use Rattle.model.specs.Shape.{Seg, cells, core, segments, size}
 
 -- ---- lists
@@ -312,10 +312,10 @@ abbrev pub Pass : List Row → Type 0
 Pass [] = Unit {0}
 Pass (c ∷ cs) = (c .passes ≡ true) × Pass cs
 
--- number n is given: its check does not pass, and every check before it does
-abbrev pub Given : List Row → ℕ → Type 0
-Given [] n = ⊥
-Given (c ∷ cs) n = ((c .number ≡ n) × (c .passes ≡ false)) ⊎ ((c .passes ≡ true) × Given cs n)
+-- number n is given, with node v: its check does not pass, and every check before it does
+abbrev pub Given : List Row → ℕ → ℕ → Type 0
+Given [] n v = ⊥
+Given (c ∷ cs) n v = ((c .number ≡ n) × (c .node ≡ v) × (c .passes ≡ false)) ⊎ ((c .passes ≡ true) × Given cs n v)
 
 -- a step that does not go on to a next statement
 abbrev pub Halted : StepAnswer → Type 0
@@ -324,8 +324,8 @@ Halted (toFault f) = Unit {0}
 Halted toStop = Unit {0}
 Halted (noStep x) = Unit {0}
 
--- A call is accepted exactly when every check passes; it is refused with a number, at place 0, exactly when that
--- number is given.
+-- A call is accepted exactly when every check passes; it is refused with a number and a node, at place 0, exactly when
+-- these are given.
 pub record CheckedBy (cs : List Row) (v : Verdict) : Type 0 where
   pub accepts : (v ≡ isAccepted) ↔ Pass cs
-  pub refuses : (n p : ℕ) → (v ≡ isRefused (refusal n p)) ↔ ((p ≡ 0) × Given cs n)
+  pub refuses : (n p d : ℕ) → (v ≡ isRefused (refusalAt n p d)) ↔ ((p ≡ 0) × Given cs n d)

@@ -5,9 +5,9 @@ use mathlib.Core.Bool.{Bool, true, false, _&&_, _||_, cond, not}
 use mathlib.Core.List.{List, [], _∷_, _++_, map}
 use lib.Dec.{eqb, leb, ltb}
 use lib.ListN.{length, getD, take, drop, replicate}
-use Rattle.model.specs.Base.{all, any, mem, joined, sameList, mostNodes, pointerCount, recordSize}
+use Rattle.model.specs.Base.{all, any, mem, joined, placeOf, sameList, mostNodes, pointerCount, recordSize}
 use Rattle.model.specs.Heap.{Val, cell, null, undef, Slot, unused, holds, Heap}
-use Rattle.model.specs.Shape.{canonical}
+use Rattle.model.specs.Shape.{asVisited, core, nodes, reachable}
 use Rattle.model.specs.Machine.{Op, stop, setNull, copy, load, clear, store, new, free, isNull, same, choose, skip, relink, Stmt, faultNumber}
 use Rattle.model.specs.Edges.{Loc, at, failed, Test, isOne, isMore, Guard, Update, Edge}
 
@@ -129,31 +129,45 @@ shapeOf r = record {
 
 -- ---- refusals
 
--- "a numbered refusal with its place"
+-- "a numbered refusal with its place"; 02, job 5: "the place becomes the record and the first node concerned"
 pub record Refusal : Type 0 where
   pub number : ℕ
   pub place : ℕ
+  pub node : ℕ
+
+-- number n at place p with node v; all but 9, 18 and 19 have node 0
+abbrev pub refusalAt : ℕ → ℕ → ℕ → Refusal
+refusalAt n p v = record { number = n; place = p; node = v }
 
 abbrev pub refusal : ℕ → ℕ → Refusal
-refusal n p = record { number = n; place = p }
+refusal n p = refusalAt n p 0
 
 -- how a call ends: accepted, or refused
 pub data Verdict : Type 0 where
   isAccepted : Verdict
   isRefused : Refusal → Verdict
 
--- a row of 01's table: the number, and whether its condition is not met
+-- a row of 01's table: the number, whether its condition is not met, and the node that is told where it is met
 pub record Row : Type 0 where
   pub number : ℕ
   pub passes : Bool
+  pub node : ℕ
 
 abbrev pub unless : ℕ → Bool → Row
-unless n b = record { number = n; passes = b }
+unless n b = record { number = n; passes = b; node = 0 }
 
--- the number of the first check that does not pass, 0 for none
+-- a row about every node of a shape, with "the first node concerned, in node order"
+abbrev pub unlessEach : ℕ → (ℕ → Bool) → Heap → Row
+unlessEach n p h = record { number = n; passes = all p (nodes h); node = placeOf (λ v. not (p v)) (nodes h) }
+
+-- the number of the first check that does not pass, 0 for none; and the node that is told with it
 abbrev pub firstFailed : List Row → ℕ
 firstFailed [] = 0
 firstFailed (c ∷ cs) = elim (c .passes) [ true ↦ firstFailed cs | false ↦ c .number ]
+
+abbrev pub failedNode : List Row → ℕ
+failedNode [] = 0
+failedNode (c ∷ cs) = elim (c .passes) [ true ↦ failedNode cs | false ↦ c .node ]
 
 -- ---- the refusals of a record
 
@@ -212,10 +226,29 @@ layoutH r =
     isH r && isZero (byte r 1) && isZero (byte r 2) && leb k mostNodes
     && all (valueByte k) (take (pointerCount + k) (drop 4 r)) && all isZero (drop (10 + k) r)
 
--- "9: a node unreachable or not core, or another numbering", "10: equal to an earlier H"
+-- 02, job 5: "An unreachable node keeps 9 and is looked for first. Refused: 18, when all are reachable and a node isn't
+-- core; 19, when only the numbering differs, at the first node that the walk numbers otherwise."
+abbrev pub checksNodes : Heap → List Row
+checksNodes h = unlessEach 9 (reachable h) h ∷ unlessEach 18 (core h) h ∷ unlessEach 19 (asVisited h) h ∷ []
+
+abbrev pub checkLayout : List ℕ → Row
+checkLayout r = unless 8 (layoutH r)
+
+-- "10: equal to an earlier H"
+abbrev pub checkRepeated : List (List ℕ) → List ℕ → Row
+checkRepeated earlier r = unless 10 (not (any (sameList eqb r) earlier))
+
+-- 18 and 19 "stand right after 9"
 abbrev pub checksH : List (List ℕ) → List ℕ → List Row
-checksH earlier r =
-    unless 8 (layoutH r) ∷ unless 9 (canonical (shapeOf r)) ∷ unless 10 (not (any (sameList eqb r) earlier)) ∷ []
+checksH earlier r = checkLayout r ∷ checksNodes (shapeOf r) ++ checkRepeated earlier r ∷ []
 
 abbrev pub refusalH : List (List ℕ) → List ℕ → ℕ
 refusalH earlier r = firstFailed (checksH earlier r)
+
+-- the refusals that tell a node; all others have node 0
+abbrev pub tellsNode : ℕ → Bool
+tellsNode n = mem n (9 ∷ 18 ∷ 19 ∷ [])
+
+-- the checks of a record after the earlier ones, where there are n statements
+abbrev pub checksRecord : ℕ → List (List ℕ) → List ℕ → List Row
+checksRecord n earlier r = cond (isS r) (checksS n r) (checksH earlier r)

@@ -5,8 +5,8 @@ use mathlib.Core.Bool.{Bool, true, false, _&&_, _||_}
 use mathlib.Core.List.{List, [], _∷_, _++_, map}
 use lib.Dec.{eqb, leb}
 use lib.ListN.{length}
-use Rattle.model.specs.Base.{any, all, count, placeOf, numbers, sameList}
-use Rattle.model.specs.Heap.{Val, cell, null, undef, Slot, unused, holds, Heap, next, order, kept}
+use Rattle.model.specs.Base.{any, all, count, mem, placeOf, numbers}
+use Rattle.model.specs.Heap.{Val, cell, null, undef, Slot, unused, holds, Heap, next, order}
 
 abbrev pub isCell : ℕ → Val → Bool
 isCell c (cell d) = eqb c d
@@ -83,13 +83,21 @@ size s = suc (length (s .rest))
 abbrev pub counters : Heap → List ℕ
 counters h = map size (segments h)
 
--- What a shape must be, in the order in which refusal 9 names it: every node reachable, every node core, and the
--- walk's numbering.
-abbrev pub allCore : Heap → Bool
-allCore h = all (core h) (numbers 0 (length (h .slots)))
+-- ---- what a shape must be, said of each of its nodes: reachable, core, and numbered as the walk numbers it
 
-abbrev pub numbered : Heap → Bool
-numbered h = sameList eqb (order h) (numbers 0 (length (h .slots)))
+-- the nodes of a shape, "in node order"
+abbrev pub nodes : Heap → List ℕ
+nodes h = numbers 0 (length (h .slots))
+
+abbrev pub reachable : Heap → ℕ → Bool
+reachable h n = mem n (order h)
+
+-- the number that the walk gives node n: "Nodes are numbered at first visit"
+abbrev pub visitNumber : Heap → ℕ → ℕ
+visitNumber h n = placeOf (eqb n) (order h)
+
+abbrev pub asVisited : Heap → ℕ → Bool
+asVisited h n = eqb (visitNumber h n) n
 
 abbrev pub canonical : Heap → Bool
-canonical h = kept h && allCore h && numbered h
+canonical h = all (reachable h) (nodes h) && all (core h) (nodes h) && all (asVisited h) (nodes h)

@@ -8,11 +8,12 @@ use lib.ListN.{length, take}
 use Rattle.model.specs.Base.{mostNodes, pointerCount}
 use Rattle.model.specs.Edges.{Edge, Guard, isMore, isOne}
 use Rattle.model.specs.Machine.{Op, Stmt}
-use Rattle.model.specs.Records.{GuardCode, byte, guardCode, locRecord, opCount, opOf, updateCode}
+use Rattle.model.specs.Records.{GuardCode, Row, byte, failedNode, firstFailed, guardCode, locRecord, opCount, opOf, updateCode}
 use Rattle.model.specs.Translate.{Tables}
 use Rattle.model.specs.declared.Counts.{Counts}
 use Rattle.model.specs.declared.Decoded.{Decoded}
 use Rattle.model.specs.declared.EdgeMade.{EdgeMade}
+use Rattle.model.specs.declared.Failure.{Failure}
 use Rattle.model.specs.declared.Guard as declared
 use Rattle.model.specs.declared.Guards.{Guards}
 
@@ -43,6 +44,16 @@ keepsAt op = eqb op 0 || (leb 8 op && leb op 11)
 
 abbrev pub stmtIn : Decoded → Stmt
 stmtIn d = record { op = opIn d; firstTarget = d .first .0; secondTarget = d .second .0 }
+
+-- ---- the first check that fails
+
+abbrev pub failing : ℕ → ℕ → Failure
+failing n v = record { number = n; node = record { 0 = v } }
+
+-- a failure tells the first of the checks that does not pass, and its node
+pub record Tells (cs : List Row) (f : Failure) : Type 0 where
+  pub number : f .number ≡ firstFailed cs
+  pub node : f .node .0 ≡ failedNode cs
 
 -- ---- the counts of the two tables
 

@@ -10,7 +10,7 @@ use Rattle.model.specs.Base.{count, placeOf, joined, mostEdges, mostLoca
 use Rattle.model.specs.Heap.{Heap}
 use Rattle.model.specs.Machine.{Stmt}
 use Rattle.model.specs.Edges.{Loc, at, Edge, sameLoc, edgesOf}
-use Rattle.model.specs.Records.{Refusal, refusal, Verdict, isAccepted, isRefused, isS, isH, refusalS, refusalH, stmtOf, shapeOf, locRecord, edgeRecord}
+use Rattle.model.specs.Records.{Refusal, refusal, refusalAt, Verdict, isAccepted, isRefused, isS, isH, checksRecord, firstFailed, failedNode, stmtOf, shapeOf, locRecord, edgeRecord}
 
 -- ---- the input
 
@@ -28,13 +28,15 @@ badKind afterH i (r ∷ rs) =
       | false ↦ elim (isS r && not afterH) [ true ↦ badKind false (suc i) rs | false ↦ some i ]
     ]
 
--- 5 to 10: the first record, counted from i, that is refused after the earlier ones, where there are n statements
+-- 5 to 10, 18, 19: the first record, counted from i, that is refused after the earlier ones, where there are n
+-- statements
 abbrev pub badRecord : ℕ → ℕ → List (List ℕ) → List (List ℕ) → Option Refusal
 badRecord n i earlier [] = none
 badRecord n i earlier (r ∷ rs) =
-    elim (cond (isS r) (refusalS n r) (refusalH earlier r)) [
+    let cs = checksRecord n earlier r in
+    elim (firstFailed cs) [
       | zero ↦ badRecord n (suc i) (r ∷ earlier) rs
-      | suc m ↦ some (refusal (suc m) i)
+      | suc m ↦ some (refusalAt (suc m) i (failedNode cs))
     ]
 
 -- a checked input: the statements and the starting shapes

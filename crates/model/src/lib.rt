@@ -29,16 +29,39 @@ pub struct Node(pub u8);
 // A statement's number, 0 to 63.
 pub struct Statement(pub u8);
 
-// What `translate` answers: the two record counts, or a refusal's number and place.
-pub enum Translated {
-    Listed { locations: usize, edges: usize },
-    Refused { number: u8, place: usize },
+// The first check of a record that fails: its number, 0 for none, and the node that is told with it, 0 for none.
+pub struct Failure {
+    pub number: u8,
+    pub node: Node,
 }
 
-// How a call ends that answers nothing else.
+// What `translate` answers: the two record counts, or a refusal's number, place and node.
+pub enum Translated {
+    Listed {
+        locations: usize,
+        edges: usize,
+    },
+    Refused {
+        number: u8,
+        place: usize,
+        node: Node,
+    },
+}
+
+// How a call ends that tells no node.
 pub enum Ended {
     Accepted,
     Refused { number: u8, place: usize },
+}
+
+// What `unfold` answers: how it ended, with a refusal's node too.
+pub enum Unfolded {
+    Accepted,
+    Refused {
+        number: u8,
+        place: usize,
+        node: Node,
+    },
 }
 
 // What `fold` answers: how it ended, the H record and the counters.

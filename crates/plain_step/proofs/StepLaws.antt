@@ -104,7 +104,7 @@ module _ {r : List ℕ} {p c : ℕ} {ps cs : List ℕ} {d : Decoded} (C : Checke
     pub step-refused : a ≡ false → stays (noStep (refusal 16 0)) ps cs ≡ stepImage r p c ps cs
     step-refused f =
         image-refused r p c ps cs 15
-        (after ∙ given-failed (entryCheck r p c ps cs ∷ []) 16 (inl (refl, sym fits ∙ f)))
+        (after ∙ given-failed (entryCheck r p c ps cs ∷ []) 16 0 (inl (refl, refl, sym fits ∙ f)) .0)
 
     module _ (t : a ≡ true) where
       -- what the run asks

@@ -1,10 +1,10 @@
 -- The text of an outcome, as the request's P1 fixes it: "prints each L, then each E, as 64 hex digits a line, or
 -- `refused`, number and place in base 10 with one space between". Assumes nothing.
 use Prim.Native.Nat.{ℕ, zero, suc, _+_, _/_, _%_}
-use mathlib.Core.Bool.{true, false}
+use mathlib.Core.Bool.{true, false, cond}
 use mathlib.Core.List.{List, [], _∷_, _++_}
 use lib.Dec.{ltb}
-use Rattle.model.specs.Records.{Refusal, isAccepted, isRefused}
+use Rattle.model.specs.Records.{Refusal, isAccepted, isRefused, tellsNode}
 use Rattle.model.specs.Answers.{outcomeOf}
 use Rattle.model.specs.Translate.{Outcome}
 use Rattle.model.specs.declared.Translated.{Translated}
@@ -29,8 +29,14 @@ decimalOf n = digitsWithin (suc n) n
 abbrev pub refusedWord : List ℕ
 refusedWord = 0x72 ∷ 0x65 ∷ 0x66 ∷ 0x75 ∷ 0x73 ∷ 0x65 ∷ 0x64 ∷ 0x20 ∷ []
 
+-- 02, job 5: "the programs print the node after the place for these three only"
+abbrev pub nodePart : ℕ → ℕ → List ℕ
+nodePart n v = cond (tellsNode n) (0x20 ∷ decimalOf v) []
+
 abbrev pub refusalLine : Refusal → List ℕ
-refusalLine x = refusedWord ++ decimalOf (x .number) ++ 0x20 ∷ [] ++ decimalOf (x .place) ++ 10 ∷ []
+refusalLine x =
+    refusedWord ++ decimalOf (x .number) ++ 0x20 ∷ [] ++ decimalOf (x .place) ++ nodePart (x .number) (x .node)
+    ++ 10 ∷ []
 
 -- ---- the whole answer
 

@@ -2,10 +2,15 @@
 
 use std::fmt;
 
-use super::{relinks, undefined};
+use super::{damages, relinks, undefined};
+use crate::damage::DAMAGES;
+use crate::records::NODES;
 
 /// One more of each kind is wanted for each so many routines.
 const EACH: u64 = 100;
+
+/// For each of the refusals that tell a node, how often it told which.
+pub type ByNode = [[u64; NODES]; DAMAGES.len()];
 
 /// Index 0 of the last two arrays is not used: faults and refusals count from
 /// 1.
@@ -38,8 +43,12 @@ pub struct Counts {
     pub relinks_listed: [u64; relinks::WAYS.len()],
     pub relinks_run: [u64; relinks::WAYS.len()],
     pub relinks_stepped: [u64; relinks::WAYS.len()],
+    /// Damaged H records by refusal and node, and what else was wrong there.
+    pub nodes_in_inputs: ByNode,
+    pub nodes_in_unfolding: ByNode,
+    pub orders: [u64; damages::ORDERS.len()],
     pub faults: [u64; 4],
-    pub refusals: [u64; 18],
+    pub refusals: [u64; 20],
 }
 
 impl Counts {
@@ -85,13 +94,39 @@ impl Counts {
         all
     }
 
-    /// What is to be met more than once, by name.
-    fn kinds(&self) -> Vec<(String, u64)> {
-        [self.undefined_tests(), self.relinks()].concat()
+    /// What was wrong beside a damaged H record.
+    fn orders(&self) -> Vec<(String, u64)> {
+        let named = |(order, count): (&&str, u64)| (format!("damage {order}"), count);
+        damages::ORDERS.iter().zip(self.orders).map(named).collect()
     }
 
-    /// How many tests of undefined pointers, and how many relinks, are wanted
-    /// at each place in each way.
+    /// For each place and each refusal that tells a node, its counts for all
+    /// nodes at which it can come.
+    fn by_node(&self) -> Vec<(String, &[u64])> {
+        let mut all = Vec::new();
+        for (place, by_node) in [("inputs", &self.nodes_in_inputs), ("unfolding", &self.nodes_in_unfolding)] {
+            for ((number, last), counts) in DAMAGES.into_iter().zip(by_node) {
+                all.push((format!("refusal {number} in {place}"), &counts[..=last]));
+            }
+        }
+        all
+    }
+
+    /// The same one by one.
+    fn single_nodes(&self) -> Vec<(String, u64)> {
+        let single = |(name, counts): (String, &[u64])| -> Vec<(String, u64)> {
+            counts.iter().enumerate().map(|(node, &count)| (format!("{name} at node {node}"), count)).collect()
+        };
+        self.by_node().into_iter().flat_map(single).collect()
+    }
+
+    /// What is to be met more than once, by name, but for the single nodes.
+    fn kinds(&self) -> Vec<(String, u64)> {
+        [self.undefined_tests(), self.relinks(), self.orders()].concat()
+    }
+
+    /// How many tests of undefined pointers, how many relinks and how many
+    /// damaged H records are wanted at each place in each way.
     pub fn floor(&self) -> u64 {
         1 + self.routines / EACH
     }
@@ -99,7 +134,7 @@ impl Counts {
     /// The kinds that came too seldom, if there are any.
     pub fn too_few(&self) -> Option<String> {
         let floor = self.floor();
-        let few = self.kinds().into_iter().filter(|&(_, count)| count < floor);
+        let few = self.kinds().into_iter().chain(self.single_nodes()).filter(|&(_, count)| count < floor);
         let all: Vec<String> = few.map(|(name, count)| format!("{name} ({count} of {floor})")).collect();
         (!all.is_empty()).then(|| all.join(", "))
     }
@@ -127,6 +162,10 @@ impl fmt::Display for Counts {
         }
         for (name, count) in self.kinds() {
             writeln!(out, "{name}: {count}")?;
+        }
+        for (name, counts) in self.by_node() {
+            let counts: Vec<String> = counts.iter().map(u64::to_string).collect();
+            writeln!(out, "{name}, node by node: {}", counts.join(" "))?;
         }
         for (number, count) in self.faults.iter().enumerate().skip(1) {
             writeln!(out, "fault {number}: {count}")?;

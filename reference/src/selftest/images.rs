@@ -7,10 +7,10 @@ use super::{relinks, undefined};
 use crate::calls::{fold, step, unfold, Folded, Stepped};
 use crate::heap::{Heap, Value};
 use crate::image::{write_image, IMAGE_CELLS};
-use crate::input::Refusal;
 use crate::machine::{run, Outcome};
 use crate::random::{drop_lost_cells, random_heap, rename, Random};
 use crate::records::{Record, STATEMENTS, UNDEFINED, UNUSED};
+use crate::refusal::Refusal;
 use crate::routines::{any_relink, random_statement};
 use crate::statement::{read_statement, Op, OPS};
 
@@ -63,9 +63,10 @@ pub(super) fn want(fits: bool, what: &str) -> Result<(), String> {
     }
 }
 
-/// What is due of a call on an image that is refused: the place is always 0.
+/// What is due of a call on an image that is refused for no node: the place
+/// is always 0.
 pub(super) fn due_refusal(number: u8) -> Refusal {
-    Refusal { number, place: 0 }
+    Refusal::at(number, 0)
 }
 
 fn round_trip(random: &mut Random, counts: &mut Counts, heap: &Heap, length: usize) -> Result<Folded, String> {

@@ -2,6 +2,7 @@
 //! unfolding, and every refusal.
 
 mod counts;
+mod damages;
 mod describes;
 mod draws;
 mod exact;
@@ -15,9 +16,11 @@ mod tables;
 mod undefined;
 
 use crate::automaton::Automaton;
-use crate::input::{read_routine, Refusal};
+use crate::damage::{all_damages, damaged_shape};
+use crate::input::read_routine;
 use crate::random::Random;
-use crate::records::hex;
+use crate::records::{hex, Record};
+use crate::refusal::Refusal;
 use crate::routines::random_routine;
 
 pub use counts::Counts;
@@ -27,12 +30,13 @@ pub const SEED: u64 = 1;
 pub const ROUTINES: u64 = 12_000;
 
 /// Tests so many routines. Answers what was counted, or what differs, or
-/// which refusal or fault was never met, or which tests of undefined pointers
-/// or relinks were too few.
+/// which refusal or fault was never met, or which tests of undefined pointers,
+/// relinks or damaged H records were too few.
 pub fn run(seed: u64, routines: u64) -> Result<Counts, String> {
     let mut random = Random::new(seed);
-    // What a seed draws elsewhere does not hang on the parts.
+    // What a seed draws elsewhere does not hang on the parts and the damages.
     let mut part_random = Random::new(!seed);
+    let mut damage_random = Random::new(seed.rotate_left(32));
     let mut counts = Counts::default();
     for number in 0..routines {
         let drawn = random_routine(&mut random);
@@ -43,6 +47,7 @@ pub fn run(seed: u64, routines: u64) -> Result<Counts, String> {
         };
         test_routine(&mut random, &mut part_random, &mut counts, &input).map_err(told)?;
         mutate::test(&mut random, &mut counts, &drawn, number).map_err(told)?;
+        damages::test(&mut damage_random, &mut counts, &drawn, number).map_err(told)?;
         images::test(&mut random, &mut counts, number)
             .map_err(|difference| format!("seed {seed}, heap {number}: {difference}"))?;
     }
@@ -60,14 +65,22 @@ pub fn sound_inputs(seed: u64) -> impl Iterator<Item = Vec<u8>> {
 }
 
 /// Inputs that fail a check, without end, each with its refusal. The refusals
-/// 1 to 10 take turns.
+/// 1 to 10, 18 and 19 take turns.
 pub fn unsound_inputs(seed: u64) -> impl Iterator<Item = (Vec<u8>, Refusal)> {
     let mut random = Random::new(seed);
-    (1..=10).cycle().map(move |refusal| {
+    mutate::CHECKS.into_iter().cycle().map(move |refusal| {
         let drawn = random_routine(&mut random);
-        let (input, (number, place)) = mutate::change(&mut random, &drawn, refusal);
-        (input, Refusal { number, place })
+        mutate::change(&mut random, &drawn, refusal)
     })
+}
+
+/// H records that keep the layout and are no shapes, without end, each with
+/// its refusal at place 0. 9 and 18 at the nodes 0 to 11 and 19 at the nodes 0
+/// to 10 take turns, so 35 in all. Many records have several defects at once,
+/// of which the refusal tells the one that is looked for first.
+pub fn damaged_shapes(seed: u64) -> impl Iterator<Item = (Record, Refusal)> {
+    let mut random = Random::new(seed);
+    all_damages().into_iter().cycle().map(move |damage| damaged_shape(&mut random, damage))
 }
 
 /// Everything about one input that passes the checks.

@@ -1,26 +1,31 @@
-//! Sound inputs made unsound in a known way, for the refusals 1 to 10, and
-//! inputs with any bytes.
+//! Sound inputs made unsound in a known way, for the refusals 1 to 10, 18 and
+//! 19, and inputs with any bytes.
 
 use super::counts::Counts;
 use super::tables::want_refusal;
+use crate::damage::{all_damages, damaged_shape, Damage};
 use crate::random::Random;
-use crate::records::{Record, NODES, NULL, RECORD, SHAPES, START, STATEMENT, STATEMENTS, UNUSED};
+use crate::records::{Record, NODES, RECORD, SHAPES, START, STATEMENT, STATEMENTS, UNUSED};
+use crate::refusal::{Node, Refusal};
 use crate::routines::Drawn;
 use crate::statement::{Op, OPS};
 use crate::translate::translate;
 
-/// An input with the refusal and the place that are due.
-pub type Due = (Vec<u8>, (u8, usize));
+/// An input with the refusal that is due.
+pub type Due = (Vec<u8>, Refusal);
+
+/// The refusals of an input, whatever the tables are.
+pub const CHECKS: [u8; 12] = [1, 2, 3, 4, 5, 6, 7, 8, 9, 10, 18, 19];
 
 /// Tests one change of an input; all changes take turns by `number`.
 pub fn test(random: &mut Random, counts: &mut Counts, drawn: &Drawn, number: u64) -> Result<(), String> {
-    let (input, due) = change(random, drawn, 1 + (number % 10) as u8);
+    let (input, due) = change(random, drawn, CHECKS[number as usize % CHECKS.len()]);
     let lengths = [random.below(3000), random.below(3000)];
     want_refusal(random, counts, &input, lengths, due)?;
     any_bytes(random, drawn)
 }
 
-/// An input of this refusal, from 1 to 10.
+/// An input of this one of the refusals.
 pub fn change(random: &mut Random, drawn: &Drawn, refusal: u8) -> Due {
     match refusal {
         1 => length(random, drawn),
@@ -29,12 +34,12 @@ pub fn change(random: &mut Random, drawn: &Drawn, refusal: u8) -> Due {
         4 => kind(random, drawn),
         5..=7 => statement(random, drawn, refusal),
         8 => layout(random, drawn),
-        9 => no_shape(random, drawn),
+        9 | 18 | 19 => no_shape(random, drawn, refusal),
         _ => repeated(random, drawn),
     }
 }
 
-fn with(statements: &[Record], shapes: &[Record]) -> Vec<u8> {
+pub fn with(statements: &[Record], shapes: &[Record]) -> Vec<u8> {
     [statements.concat(), shapes.concat()].concat()
 }
 
@@ -46,7 +51,7 @@ fn length(random: &mut Random, drawn: &Drawn) -> Due {
         let records = random.below(input.len() / RECORD);
         input.truncate(records * RECORD + random.between(1, RECORD - 1));
     }
-    (input, (1, 0))
+    (input, Refusal::at(1, 0))
 }
 
 fn statement_count(random: &mut Random, drawn: &Drawn) -> Due {
@@ -55,7 +60,7 @@ fn statement_count(random: &mut Random, drawn: &Drawn) -> Due {
         statements = drawn.statements.clone();
         statements.resize(STATEMENTS + random.between(1, 3), drawn.statements[0]);
     }
-    (with(&statements, &drawn.shapes), (2, 0))
+    (with(&statements, &drawn.shapes), Refusal::at(2, 0))
 }
 
 fn shape_count(random: &mut Random, drawn: &Drawn) -> Due {
@@ -64,7 +69,7 @@ fn shape_count(random: &mut Random, drawn: &Drawn) -> Due {
         shapes = drawn.shapes.clone();
         shapes.resize(SHAPES + random.between(1, 3), drawn.shapes[0]);
     }
-    (with(&drawn.statements, &shapes), (3, 0))
+    (with(&drawn.statements, &shapes), Refusal::at(3, 0))
 }
 
 fn kind(random: &mut Random, drawn: &Drawn) -> Due {
@@ -78,7 +83,7 @@ fn kind(random: &mut Random, drawn: &Drawn) -> Due {
         let other = if byte == STATEMENT || byte == START { 0x4c } else { byte };
         input[place * RECORD] = other;
     }
-    (input, (4, place))
+    (input, Refusal::at(4, place))
 }
 
 fn statement(random: &mut Random, drawn: &Drawn, refusal: u8) -> Due {
@@ -111,13 +116,19 @@ fn statement(random: &mut Random, drawn: &Drawn, refusal: u8) -> Due {
             record[field] = random.between(count, 255) as u8;
         }
     }
-    (with(&statements, &drawn.shapes), (refusal, place))
+    (with(&statements, &drawn.shapes), Refusal::at(refusal, place))
 }
 
 fn layout(random: &mut Random, drawn: &Drawn) -> Due {
     let mut shapes = drawn.shapes.clone();
     let place = random.below(shapes.len());
-    let record = &mut shapes[place];
+    break_layout(random, &mut shapes[place]);
+    let input = with(&drawn.statements, &shapes);
+    (input, Refusal::at(8, drawn.statements.len() + place))
+}
+
+/// Makes a record break the layout, which it kept.
+pub fn break_layout(random: &mut Random, record: &mut Record) {
     let nodes = usize::from(record[3]);
     let no_value = random.between(nodes, usize::from(UNUSED)) as u8;
     match random.below(6) {
@@ -128,51 +139,18 @@ fn layout(random: &mut Random, drawn: &Drawn) -> Due {
         4 if nodes > 0 => record[10 + random.below(nodes)] = no_value,
         _ => record[random.between(10 + nodes, RECORD - 1)] = random.between(1, 255) as u8,
     }
-    let input = with(&drawn.statements, &shapes);
-    (input, (8, drawn.statements.len() + place))
 }
 
-fn no_shape(random: &mut Random, drawn: &Drawn) -> Due {
+/// An input in which some shape is damaged, at any node.
+fn no_shape(random: &mut Random, drawn: &Drawn, refusal: u8) -> Due {
+    let nodes: Vec<Damage> = all_damages().into_iter().filter(|&(number, _)| number == refusal).collect();
     let mut shapes = drawn.shapes.clone();
-    let place = random.below(shapes.len());
-    let record = &mut shapes[place];
-    let nodes = usize::from(record[3]);
-    match random.below(3) {
-        // Another numbering: two nodes change places.
-        0 if nodes >= 2 => {
-            let one = random.below(nodes);
-            let other = (one + random.between(1, nodes - 1)) % nodes;
-            swap_nodes(record, one, other);
-        }
-        // Not core: a node of one holder is put after another node.
-        1 if (1..NODES).contains(&nodes) => {
-            let before = random.below(nodes);
-            record[3] += 1;
-            record[10 + nodes] = record[10 + before];
-            record[10 + before] = nodes as u8;
-        }
-        // Unreachable.
-        _ if nodes < NODES => {
-            record[3] += 1;
-            let next = random.below(nodes + 2);
-            record[10 + nodes] = if next == nodes + 1 { NULL } else { next as u8 };
-        }
-        _ => swap_nodes(record, 0, 1),
-    }
-    let input = with(&drawn.statements, &shapes);
-    (input, (9, drawn.statements.len() + place))
-}
-
-fn swap_nodes(record: &mut Record, one: usize, other: usize) {
-    let nodes = usize::from(record[3]);
-    record.swap(10 + one, 10 + other);
-    for byte in &mut record[4..10 + nodes] {
-        if usize::from(*byte) == one {
-            *byte = other as u8;
-        } else if usize::from(*byte) == other {
-            *byte = one as u8;
-        }
-    }
+    let at = random.below(shapes.len());
+    let damage = nodes[random.below(nodes.len())];
+    let (record, due) = damaged_shape(random, damage);
+    shapes[at] = record;
+    let place = drawn.statements.len() + at;
+    (with(&drawn.statements, &shapes), Refusal { place, ..due })
 }
 
 fn repeated(random: &mut Random, drawn: &Drawn) -> Due {
@@ -186,7 +164,7 @@ fn repeated(random: &mut Random, drawn: &Drawn) -> Due {
         shapes.push(copy);
     }
     let place = drawn.statements.len() + shapes.len() - 1;
-    (with(&drawn.statements, &shapes), (10, place))
+    (with(&drawn.statements, &shapes), Refusal::at(10, place))
 }
 
 /// Bytes changed anywhere: whatever comes of it, counts and tables agree.
@@ -207,9 +185,13 @@ fn any_bytes(random: &mut Random, drawn: &Drawn) -> Result<(), String> {
     if used(&locations) != answer.locations || used(&edges) != answer.edges {
         return Err(format!("{answer:?} does not count the records"));
     }
-    let refused = (1..=12).contains(&answer.refusal);
+    let refused = (1..=12).contains(&answer.refusal) || [18, 19].contains(&answer.refusal);
     if refused == (answer.locations > 0) || (!refused && answer.refusal != 0) {
         return Err(format!("{answer:?} is neither a result nor a refusal"));
+    }
+    let told = Refusal { number: answer.refusal, place: answer.place, node: answer.node };
+    if told.node != Node(0) && !told.tells_a_node() {
+        return Err(format!("{answer:?} tells a node"));
     }
     Ok(())
 }

@@ -4,11 +4,12 @@ use super::counts::Counts;
 use super::draws::draw_bytes;
 use super::images::{due_refusal, want, Image};
 use crate::calls::{step, unfold, Folded, Stepped};
+use crate::damage::{all_damages, damaged_shape};
 use crate::heap::{Heap, Value};
 use crate::image::IMAGE_CELLS;
-use crate::input::Refusal;
 use crate::random::Random;
 use crate::records::{NODES, NULL, RECORD, START, STATEMENT, UNUSED};
+use crate::refusal::{Node, Refusal};
 
 /// Wants the same refusal from fold and from step, and the image unchanged.
 fn want_image_refusal(counts: &mut Counts, image: &Image, number: u8) -> Result<(), String> {
@@ -82,37 +83,38 @@ pub fn wrong_unfolding(random: &mut Random, counts: &mut Counts, folded: &Folded
     let (counters, room) = wrong_counters(random, folded);
     let mut record = folded.record.to_vec();
     let mut image = Image { pointers: vec![random.byte(); 6], cells: vec![random.byte(); room] };
-    let mut due = 15;
+    let mut due = due_refusal(15);
     if random.chance(25) {
-        // At least one node, and none that a pointer leads to.
-        record[3] = record[3].max(1);
-        record[4..10].fill(NULL);
-        due = 9;
+        let all = all_damages();
+        let damage = all[random.below(all.len())];
+        let (damaged, refusal) = damaged_shape(random, damage);
+        record = damaged.to_vec();
+        due = refusal;
     }
     if random.chance(25) {
         match random.below(2) {
             0 => record.resize([0, 31, 33][random.below(3)], 0),
             _ => record[RECORD - 1] = 1,
         }
-        due = 8;
+        due = due_refusal(8);
     }
     if random.chance(25) {
         match random.below(2) {
             0 => image.pointers.resize([0, 5, 7][random.below(3)], NULL),
             _ => image.cells.resize(random.between(241, 300), UNUSED),
         }
-        due = 13;
+        due = due_refusal(13);
     }
     let before = image.clone();
     let answer = unfold(&record, &counters, &mut image.pointers, &mut image.cells);
-    want(answer == Err(due_refusal(due)), "a wrong unfolding is refused otherwise")?;
+    want(answer == Err(due), "a wrong unfolding is refused otherwise")?;
     want(image == before, "a refused unfolding writes something")?;
-    counts.refused(due);
+    counts.refused(due.number);
     Ok(())
 }
 
 /// Bytes and lengths of any kind: no call panics, and a refusal changes
-/// nothing and has place 0.
+/// nothing and has place 0, and a node only if it may tell one.
 pub fn any_bytes(random: &mut Random) -> Result<(), String> {
     let pointers = draw_bytes(random, 6, 9);
     let most = if random.chance(50) { 5 } else { 300 };
@@ -123,7 +125,7 @@ pub fn any_bytes(random: &mut Random) -> Result<(), String> {
         *first = [START, STATEMENT][random.below(2)];
     }
     let counters = vec![1; random.below(2 * NODES)];
-    let at_0 = |refusal: Refusal| refusal == due_refusal(refusal.number);
+    let at_0 = |refusal: Refusal| refusal.place == 0 && (refusal.node == Node(0) || refusal.tells_a_node());
     let before = Image { pointers, cells };
     let folded = before.fold();
     want(folded.refusal.map_or(folded.record[0] == START, at_0), "a fold tells nothing, or a place")?;

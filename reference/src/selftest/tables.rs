@@ -4,6 +4,7 @@ use super::counts::Counts;
 use crate::automaton::Automaton;
 use crate::random::Random;
 use crate::records::RECORD;
+use crate::refusal::{Node, Refusal};
 use crate::translate::{translate, Translated, EDGES, LOCATIONS};
 
 /// Tables as they stand after a translation.
@@ -21,22 +22,22 @@ fn translate_into(random: &mut Random, input: &[u8], lengths: [usize; 2]) -> Ful
     Full { answer, locations, edges }
 }
 
-/// Translates into tables of any lengths and wants this refusal and place,
-/// with every byte zero.
+/// Translates into tables of any lengths and wants this refusal, with every
+/// byte zero.
 pub fn want_refusal(
     random: &mut Random,
     counts: &mut Counts,
     input: &[u8],
     lengths: [usize; 2],
-    (refusal, place): (u8, usize),
+    due: Refusal,
 ) -> Result<(), String> {
     let full = translate_into(random, input, lengths);
-    let wanted = Translated { refusal, place, locations: 0, edges: 0 };
+    let wanted = Translated { refusal: due.number, place: due.place, node: due.node, locations: 0, edges: 0 };
     if full.answer != wanted {
         return Err(format!("{:?} where {wanted:?} is due", full.answer));
     }
     all_zero(&full)?;
-    counts.refused(refusal);
+    counts.refused(due.number);
     Ok(())
 }
 
@@ -55,8 +56,8 @@ pub fn translate_full(random: &mut Random, counts: &mut Counts, input: &[u8]) ->
     let lengths = [LOCATIONS * RECORD + random.below(70), EDGES * RECORD + random.below(70)];
     let full = translate_into(random, input, lengths);
     match full.answer {
-        Translated { refusal: 0, place: 0, .. } => Ok(Some(full)),
-        Translated { refusal: 11 | 12, locations: 0, edges: 0, .. } => {
+        Translated { refusal: 0, place: 0, node: Node(0), .. } => Ok(Some(full)),
+        Translated { refusal: 11 | 12, node: Node(0), locations: 0, edges: 0, .. } => {
             all_zero(&full)?;
             counts.refused(full.answer.refusal);
             Ok(None)
@@ -108,16 +109,16 @@ fn same_bytes(one: &[u8], other: &[u8]) -> bool {
 }
 
 /// The refusal that so few places bring about, by the listing itself.
-fn due_refusal(automaton: &Automaton, shapes: usize, location_places: usize, edge_places: usize) -> Option<(u8, usize)> {
+fn due_refusal(automaton: &Automaton, shapes: usize, location_places: usize, edge_places: usize) -> Option<Refusal> {
     if location_places < shapes {
-        return Some((11, location_places));
+        return Some(Refusal::at(11, location_places));
     }
     for (number, edge) in automaton.edges.iter().enumerate() {
         if edge.to >= location_places {
-            return Some((11, edge.from));
+            return Some(Refusal::at(11, edge.from));
         }
         if number >= edge_places {
-            return Some((12, edge.from));
+            return Some(Refusal::at(12, edge.from));
         }
     }
     None

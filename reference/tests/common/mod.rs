@@ -4,8 +4,9 @@
 
 pub mod program;
 pub mod random;
+pub mod shapes;
 
-use reference::{translate, Refusal, Translated};
+use reference::{translate, Node, Refusal, Translated};
 
 pub type Record = [u8; 32];
 pub const NULL: u8 = 0xfe;
@@ -81,7 +82,12 @@ pub fn pointers(first: &[u8]) -> [u8; 6] {
 
 /// A refusal at place 0.
 pub fn at_0(number: u8) -> Refusal {
-    Refusal { number, place: 0 }
+    Refusal::at(number, 0)
+}
+
+/// A refusal that tells a node.
+pub fn at_node(number: u8, place: usize, node: u8) -> Refusal {
+    Refusal { number, place, node: Node(node) }
 }
 
 pub fn input(records: &[Record]) -> Vec<u8> {
@@ -107,7 +113,7 @@ pub fn into_tables(input: &[u8], location_bytes: usize, edge_bytes: usize) -> Ta
 #[track_caller]
 pub fn check_listing(records: &[Record], locations: &[Record], edges: &[Record]) {
     let got = into_tables(&input(records), 32 * 1024 + 11, 32 * 2048 + 5);
-    let want = Translated { refusal: 0, place: 0, locations: locations.len(), edges: edges.len() };
+    let want = Translated { refusal: 0, place: 0, node: Node(0), locations: locations.len(), edges: edges.len() };
     assert_eq!(got.answer, want);
     check_table(&got.locations, locations);
     check_table(&got.edges, edges);
@@ -123,18 +129,28 @@ pub fn check_table(table: &[u8], records: &[Record]) {
     assert!(table[32 * records.len()..].iter().all(|&byte| byte == 0));
 }
 
-/// Wants a refusal at a place, and zeros all over both tables.
+/// Wants a refusal at a place without a node, and zeros all over both tables.
 #[track_caller]
 pub fn check_refusal(input: &[u8], refusal: u8, place: usize) {
+    check_due(input, Refusal::at(refusal, place));
+}
+
+/// Wants this refusal, and zeros all over both tables.
+#[track_caller]
+pub fn check_due(input: &[u8], due: Refusal) {
     for (location_bytes, edge_bytes) in [(32 * 1024, 32 * 2048), (700, 333), (1, 0), (0, 0)] {
-        let got = into_tables(input, location_bytes, edge_bytes);
-        check_refused(&got, refusal, place);
+        check_told(&into_tables(input, location_bytes, edge_bytes), due);
     }
 }
 
 #[track_caller]
 pub fn check_refused(got: &Tables, refusal: u8, place: usize) {
-    let want = Translated { refusal, place, locations: 0, edges: 0 };
+    check_told(got, Refusal::at(refusal, place));
+}
+
+#[track_caller]
+pub fn check_told(got: &Tables, due: Refusal) {
+    let want = Translated { refusal: due.number, place: due.place, node: due.node, locations: 0, edges: 0 };
     assert_eq!(got.answer, want);
     check_table(&got.locations, &[]);
     check_table(&got.edges, &[]);

@@ -4,5 +4,6 @@ pub mod compare;
 pub mod damage;
 pub mod draw;
 pub mod rings;
+pub mod stream;
 
-pub use currantplane::{fold, record, step, translate, unfold, Refusal};
+pub use currantplane::{fold, record, step, translate, unfold, Node, Refusal};

@@ -1,8 +1,10 @@
 //! Fold, unfold and step of the proved library against the second translator's, on valid and damaged images, records and statements.
 //! Every refusal and every fault must have been met: the tests count them.
 
+use native::compare::{told, unfolding};
+use native::damage::spoil_shape;
 use native::draw::{damage_record, damaged_image, image, statement, Draw};
-use native::Refusal;
+use native::{Node, Refusal};
 use reference::Stepped;
 
 const ROUNDS: usize = 50_000;
@@ -18,11 +20,6 @@ fn all_met(what: &str, met: &[u64], wanted: &[usize]) {
     println!("{what}: {:?}", wanted.iter().map(|&n| (n, met[n])).collect::<Vec<_>>());
 }
 
-/// A refusal of the second translator as the library tells it: both numbers are 0 for none.
-fn told(refusal: Option<reference::Refusal>) -> Refusal {
-    refusal.map_or(Refusal { number: 0, place: 0 }, |r| Refusal { number: r.number, place: r.place })
-}
-
 fn compare_fold(pointers: &[u8], cells: &[u8]) -> u8 {
     let ours = native::fold(pointers, cells);
     let theirs = reference::fold(pointers, cells);
@@ -30,13 +27,8 @@ fn compare_fold(pointers: &[u8], cells: &[u8]) -> u8 {
     ours.0.number
 }
 
-fn compare_unfold(record: &[u8], counters: &[u32], np: usize, nc: usize, fill: u8) -> u8 {
-    let (mut p, mut c) = (vec![fill; np], vec![fill ^ 0x55; nc]);
-    let (mut q, mut d) = (p.clone(), c.clone());
-    let ours = native::unfold(record, counters, &mut p, &mut c);
-    let theirs = reference::unfold(record, counters, &mut q, &mut d);
-    assert_eq!((ours, &p, &c), (told(theirs.err()), &q, &d), "unfold of {record:x?} {counters:?}");
-    ours.number
+fn compare_unfold(record: &[u8], counters: &[u32], np: usize, nc: usize) -> u8 {
+    unfolding(record, counters, [np, nc], 7).number
 }
 
 fn compare_step(pointers: &[u8], cells: &[u8], record: &[u8], pick: u8, cell: usize) -> (u8, [u8; 4]) {
@@ -55,7 +47,7 @@ fn compare_step(pointers: &[u8], cells: &[u8], record: &[u8], pick: u8, cell: us
 
 #[test]
 fn folds_agree() {
-    let (mut d, mut met) = (Draw::new(1), [0u64; 17]);
+    let (mut d, mut met) = (Draw::new(1), [0u64; 20]);
     for i in 0..ROUNDS {
         let (p, c) = damaged_image(&mut d, sizes(i));
         met[compare_fold(&p, &c) as usize] += 1;
@@ -65,13 +57,16 @@ fn folds_agree() {
 
 #[test]
 fn unfolds_agree_and_fold_back() {
-    let (mut d, mut met) = (Draw::new(2), [0u64; 17]);
+    let (mut d, mut met) = (Draw::new(2), [0u64; 20]);
     for i in 0..ROUNDS {
         let (p, c) = image(&mut d, sizes(i));
         let (_, record, mut counters) = native::fold(&p, &c);
         let mut record = record.to_vec();
         let whole = counters;
         let sum: u32 = counters.iter().sum();
+        if d.one_in(12) {
+            spoil_shape(&mut d, &mut record);
+        }
         damage_record(&mut d, &mut record);
         match d.below(12) {
             0 => counters[d.below(12)] = d.below(3) as u32,
@@ -87,7 +82,7 @@ fn unfolds_agree_and_fold_back() {
             nc.min(240)
         };
         let np = if d.one_in(60) { d.below(9) } else { 6 };
-        let refusal = compare_unfold(&record, &counters, np, nc, d.number() as u8);
+        let refusal = unfolding(&record, &counters, [np, nc], d.number() as u8).number;
         met[refusal as usize] += 1;
         if refusal == 0 && counters == whole {
             let (mut q, mut e) = (vec![0; np], vec![0; nc]);
@@ -96,12 +91,12 @@ fn unfolds_agree_and_fold_back() {
             assert_eq!((again, &shape[..], sizes), (told(None), &record[..], counters));
         }
     }
-    all_met("unfold refusal", &met, &[0, 8, 9, 13, 15]);
+    all_met("unfold refusal", &met, &[0, 8, 9, 13, 15, 18, 19]);
 }
 
 #[test]
 fn steps_agree() {
-    let (mut d, mut met, mut faults) = (Draw::new(3), [0u64; 17], [0u64; 4]);
+    let (mut d, mut met, mut faults) = (Draw::new(3), [0u64; 20], [0u64; 4]);
     let (mut stops, mut second) = (0, 0);
     for i in 0..ROUNDS {
         let (p, c) = if d.one_in(6) { damaged_image(&mut d, sizes(i)) } else { image(&mut d, sizes(i)) };
@@ -144,18 +139,18 @@ fn limits_of_images() {
     assert_eq!(compare_fold(&[0, 0xfe, 0xfe, 0xfe, 0xfe, 0xfe], &longer), 13);
     // counters that sum to 240 and 241, and past 32 bits
     let two = record_of(2, [0, 1, 0xfe, 0xfe, 0xfe, 0xfe], &[0xfe, 0xff]);
-    assert_eq!(compare_unfold(&two, &counters(&[200, 40]), 6, 240, 7), 0);
-    assert_eq!(compare_unfold(&two, &counters(&[200, 41]), 6, 240, 7), 15);
-    assert_eq!(compare_unfold(&two, &counters(&[u32::MAX, 2]), 6, 240, 7), 15);
-    assert_eq!(compare_unfold(&two, &counters(&[u32::MAX, u32::MAX]), 6, 240, 7), 15);
-    assert_eq!(compare_unfold(&two, &counters(&[1, 1]), 6, 241, 7), 13);
-    // counters that are not twelve are looked at after the lengths, the layout and the numbering
+    assert_eq!(compare_unfold(&two, &counters(&[200, 40]), 6, 240), 0);
+    assert_eq!(compare_unfold(&two, &counters(&[200, 41]), 6, 240), 15);
+    assert_eq!(compare_unfold(&two, &counters(&[u32::MAX, 2]), 6, 240), 15);
+    assert_eq!(compare_unfold(&two, &counters(&[u32::MAX, u32::MAX]), 6, 240), 15);
+    assert_eq!(compare_unfold(&two, &counters(&[1, 1]), 6, 241), 13);
+    // counters that are not twelve are looked at after the lengths, the layout and the nodes
     let other = record_of(2, [1, 0, 0xfe, 0xfe, 0xfe, 0xfe], &[0xfe, 0xff]);
     for few in [vec![], vec![1, 1], vec![1; 11], vec![1; 13]] {
-        assert_eq!(compare_unfold(&two, &few, 6, 240, 7), 15);
-        assert_eq!(compare_unfold(&other, &few, 6, 240, 7), 9);
-        assert_eq!(compare_unfold(&two[..31], &few, 6, 240, 7), 8);
-        assert_eq!(compare_unfold(&two, &few, 5, 240, 7), 13);
+        assert_eq!(compare_unfold(&two, &few, 6, 240), 15);
+        assert_eq!(unfolding(&other, &few, [6, 240], 7), Refusal { number: 19, place: 0, node: Node(0) });
+        assert_eq!(compare_unfold(&two[..31], &few, 6, 240), 8);
+        assert_eq!(compare_unfold(&two, &few, 5, 240), 13);
     }
 }
 
@@ -164,8 +159,8 @@ fn odd_lengths() {
     for n in 0..9 {
         for m in [0, 1, 31, 33, 64, 241, 300] {
             compare_fold(&vec![0xfe; n], &vec![0xfd; m]);
-            compare_unfold(&vec![0; m], &[0; 12], n, m, 3);
-            compare_unfold(&vec![0; m], &vec![0; n], n, m, 3);
+            compare_unfold(&vec![0; m], &[0; 12], n, m);
+            compare_unfold(&vec![0; m], &vec![0; n], n, m);
             compare_step(&vec![0xfe; n], &vec![0xfd; m], &vec![0x53; n * 4], 0, 0);
         }
     }

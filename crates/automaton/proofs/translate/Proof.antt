@@ -41,7 +41,7 @@ returns-2 : tie.Need-returns-2
 returns-2 c =
     let k = c .before .before .before in
     let g = c .before .number .given .0 in
-    let e : k .check .result ≡ checked.Bad (g .0) (g .1 .0) = search needs in
+    let e : k .check .result ≡ checked.Bad (g .0) (g .1 .0) (g .1 .1 .0) = search needs in
     answer-bad (looked k) e
 
 returns-3 : tie.Need-returns-3

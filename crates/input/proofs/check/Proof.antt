@@ -1,12 +1,11 @@
 -- `check` meets its contract: the length first, then the records.
-use mathlib.Core.Path.{_∙_}
-use native.Mathlib.Omega.{arith}
+use mathlib.Core.Path.{_∙_, refl}
 use Rattle.input.proofs.Outcomes.{check-length, check-rest, length-even}
 use Rattle.input.proofs.check.Statement.{statement}
 use Rattle.input.proofs.check.Tie as tie
 
 returns : tie.Need-returns
-returns c = (check-length (c .before .before .args .input .now) (c .if1 .taken), (omega arith, omega arith))
+returns c = (check-length (c .before .before .args .input .now) (c .if1 .taken), refl)
 
 check-kinds-requires : tie.Need-check-kinds-requires
 check-kinds-requires c κs = length-even _ (c .if1 .left)

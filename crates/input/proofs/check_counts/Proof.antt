@@ -1,6 +1,6 @@
 -- `check_counts` meets its contract: what is no statement is a shape.
 use Prim.Native.Nat.{_-_}
-use mathlib.Core.Path.{_≡_, sym, ap, _∙_}
+use mathlib.Core.Path.{_≡_, sym, ap, _∙_, refl}
 use mathlib.Core.Bool.{true}
 use native.Mathlib.Omega.{arith}
 use lib.Dec.{leb}
@@ -22,7 +22,7 @@ returns c =
     let n = c .before .before .count-statements .ensures in (
       counts-2 (recordsOf s) (ap (between 1 64) (sym n) ∙ sym (c .before .within .ensures)
           ∙ not-true _ (c .if1 .taken)),
-      (omega arith, omega arith),
+      refl,
     )
 
 sub-shapes : tie.Need-sub-shapes
@@ -45,7 +45,7 @@ returns-2 c =
           (ap (between 1 64) (sym n) ∙ sym (c .before .before .before .within .ensures)
           ∙ not-false _ (c .before .before .if1 .left))
           (ap (between 1 16) (sym m) ∙ sym (c .before .within2 .ensures) ∙ not-true _ (c .if2 .taken)),
-      (omega arith, omega arith),
+      refl,
     )
 
 check-records-requires : tie.Need-check-records-requires

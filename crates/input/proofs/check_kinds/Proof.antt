@@ -1,7 +1,6 @@
 -- `check_kinds` meets its contract: the first wrong kind decides, where there is one.
-use mathlib.Core.Path.{_≡_, sym, _∙_}
+use mathlib.Core.Path.{_≡_, sym, _∙_, refl}
 use mathlib.Core.Option.{none, some}
-use native.Mathlib.Omega.{arith}
 use borrow.Author.Needs.{needs}
 use borrow.Author.Tests.{lt-ltb, le-ltb}
 use Rattle.model.specs.Listings.{recordsOf}
@@ -15,7 +14,7 @@ returns c =
     let a = c .before .before .before .args in
     let p = c .before .wrong-kind .result in
     let f : kindFound (a .records) p ≡ some p = rw (lt-ltb p (a .records) (c .if1 .taken)) in
-    (kinds-4 (recordsOf (a .input .now)) p (sym (c .before .wrong-kind .ensures) ∙ f), (omega arith, omega arith))
+    (kinds-4 (recordsOf (a .input .now)) p (sym (c .before .wrong-kind .ensures) ∙ f), refl)
 
 check-counts-requires : tie.Need-check-counts-requires
 check-counts-requires c κs =

@@ -5,13 +5,13 @@ use mathlib.Core.List.{[]}
 use native.Mathlib.Omega.{arith}
 use lib.ListN.{drop}
 use borrow.Author.Needs.{needs}
-use Rattle.model.specs.Records.{recordAt, refusal}
+use Rattle.model.specs.Records.{recordAt, refusalAt}
 use Rattle.model.specs.Translate.{badRecord}
 use Rattle.model.specs.Listings.{recordsOf}
 use Rattle.input.specs.RecordChecks.{earlier}
 use Rattle.input.proofs.Records.{records-pass, records-fail, records-pass-end}
-use Rattle.input.proofs.Shapes.{number-few}
 use Rattle.input.proofs.Outcomes.{records-bad, records-good}
+use Rattle.input.proofs.Shapes.{number-known}
 use Rattle.input.proofs.check_records.Statement.{statement}
 use Rattle.input.proofs.check_records.Tie as tie
 
@@ -25,26 +25,24 @@ abbrev μ-loop : tie.MeasureT-loop
 
 returns : tie.Need-returns Inv-loop μ-loop
 returns c =
-    let a = c .before .before .before .before .before .args in
+    let a = c .before .before .before .before .before .before .before .args in
     let s = a .input .now in
-    let l = c .before .before .before .loop in
-    let e = c .before .record-refusal .ensures in
-    let k = c .before .record-refusal .result in
-    let z = c .if1 .taken in (
-      records-bad (a .statements) (recordsOf s) (refusal k (l .i))
-          (l .inv .1 ∙ records-fail s (a .statements + a .shapes) (omega arith) (a .statements) (l .i) k (omega arith)
-          (sym e) z),
-      (omega arith, omega (arith, number-few (a .statements) (earlier s (l .i)) (recordAt s (l .i)), e)),
+    let l = c .before .before .before .before .before .loop in
+    let f = c .before .before .before .record-refusal in (
+      records-bad (a .statements) (recordsOf s) (refusalAt (f .result .number) (l .i) (f .result .node .0))
+          (l .inv .1 ∙ records-fail s (a .statements + a .shapes) (omega arith) (a .statements) (l .i) (omega arith)
+          (f .ensures) (c .before .if1 .taken)),
+      number-known (a .statements) (earlier s (l .i)) (recordAt s (l .i)) (f .ensures) (c .before .if1 .taken),
     )
 
 loop-again : tie.Need-loop-again Inv-loop μ-loop
 loop-again c =
-    let a = c .before .before .before .before .before .args in
-    let l = c .before .before .before .loop in (
+    let a = c .before .before .before .before .before .before .args in
+    let l = c .before .before .before .before .loop in (
       omega arith,
       l .inv .1
           ∙ records-pass (a .input .now) (a .statements + a .shapes) (omega arith) (a .statements) (l .i)
-          (omega arith) (sym (c .before .record-refusal .ensures) ∙ c .if1 .left),
+          (omega arith) (sym (c .before .before .record-refusal .ensures .number) ∙ c .if1 .left),
     )
 
 returns-2 : tie.Need-returns-2 Inv-loop μ-loop

@@ -1,7 +1,8 @@
 -- What folding and unfolding leave, for all inputs: which refusals they have, that a refusal leaves zeros or what
 -- stood, that lengths are kept, and what an accepted fold gives.
 use Prim.Native.Nat.{_+_, _-_, _≤_, suc, zero, ℕ}
-use Rattle.model.proofs.records.Checks.{accepted-zero, checked-by, none-failed, not-both, pass-none}
+use Rattle.model.proofs.records.Checks.{accepted-by, accepted-zero, checked-by, checked-nodeless, none-failed, not-both, pass-both, pass-none, pass-number, passing}
+use Rattle.model.proofs.records.NodeChecks.{nodes-pass}
 use Rattle.model.specs.Notions.{CheckedBy}
 use mathlib.Core.Path.{_∙_, _≡_, ap, refl, sym}
 use mathlib.Core.Logic.{_↔_}
@@ -13,8 +14,8 @@ use lib.ListN.{drop, length, length-append, length-map, length-replicate, replic
 use borrow.Author.Tests.{eq-eqb, eqb-true, le-leb, leb-true}
 use Rattle.model.specs.Base.{all, sum}
 use Rattle.model.specs.Heap.{Heap, IsHeap, Slot, closed}
-use Rattle.model.specs.Image.{Folding, Unfolding, cellBytesOf, countersFit, foldImage, heapOf, lengths, refusalImage, refusalUnfold, spread, spreadSlot, strand, strands, unfoldHeap, unfoldImage, checksImage, checksUnfold, verdictBy}
-use Rattle.model.specs.Records.{byte, filled, isZero, layoutH, shapeOf, shapeRecord, slotByte, valByte, valOf, Refusal, isAccepted, isRefused}
+use Rattle.model.specs.Image.{Folding, Unfolding, cellBytesOf, checkCounters, countersFit, foldImage, heapOf, lengths, nodeUnfold, refusalImage, refusalUnfold, spread, spreadSlot, strand, strands, unfoldHeap, unfoldImage, checksImage, checksUnfold, verdictBy}
+use Rattle.model.specs.Records.{byte, checksNodes, filled, isZero, layoutH, shapeOf, shapeRecord, slotByte, valByte, valOf, Refusal, isAccepted, isRefused}
 use Rattle.model.specs.Shape.{canonical, counters, nodeVal, segments, shape}
 use Rattle.model.proofs.records.Bytes.{filled-length}
 use Rattle.model.proofs.shapes.Canon.{fold-canon}
@@ -58,7 +59,7 @@ unfolding foldImage
 fold-zero ps cs e = rw (e, foldImage)
 
 pub fold-suc : (ps cs : List ℕ) (n : ℕ) → refusalImage ps cs ≡ suc n
-    → foldImage ps cs ≡ record { verdict = verdictBy (suc n); recordBytes = replicate 32 0; counts = replicate 12 0 }
+    → foldImage ps cs ≡ record { verdict = verdictBy (suc n) 0; recordBytes = replicate 32 0; counts = replicate 12 0 }
 unfolding foldImage
 fold-suc ps cs n e = rw (e, foldImage)
 
@@ -66,23 +67,23 @@ pub number-case {ℓ} : {C : Type ℓ} (n : ℕ) → (n ≡ 0 → C) → ((m : �
 number-case zero f g = f refl
 number-case (suc m) f g = g m refl
 
-pub fold-verdict : (ps cs : List ℕ) → foldImage ps cs .verdict ≡ verdictBy (refusalImage ps cs)
-fold-verdict ps cs = number-case (refusalImage ps cs) (λ e. ap (λ (f : Folding). f .verdict) (fold-zero ps cs e)
-    ∙ ap verdictBy (sym e))
-    (λ n e. ap (λ (f : Folding). f .verdict) (fold-suc ps cs n e) ∙ ap verdictBy (sym e))
+pub fold-verdict : (ps cs : List ℕ) → foldImage ps cs .verdict ≡ verdictBy (refusalImage ps cs) 0
+fold-verdict ps cs = number-case (refusalImage ps cs)
+    (λ e. ap (λ (f : Folding). f .verdict) (fold-zero ps cs e) ∙ sym (accepted-by 0 e))
+    (λ n e. ap (λ (f : Folding). f .verdict) (fold-suc ps cs n e) ∙ ap (λ m. verdictBy m 0) (sym e))
 
 -- it is refused by the checks of an image, in their order
 pub fold-checked : (ps cs : List ℕ) → CheckedBy (checksImage ps cs) (foldImage ps cs .verdict)
-fold-checked ps cs = checked-by (checksImage ps cs) (foldImage ps cs .verdict) refl (fold-verdict ps cs)
+fold-checked ps cs = checked-nodeless (checksImage ps cs) (foldImage ps cs .verdict) refl refl (fold-verdict ps cs)
 
 -- an accepted fold is of a heap
 pub fold-accepted : (ps cs : List ℕ) → foldImage ps cs .verdict ≡ isAccepted → refusalImage ps cs ≡ 0
-fold-accepted ps cs z = accepted-zero (refusalImage ps cs) (sym (fold-verdict ps cs) ∙ z)
+fold-accepted ps cs z = accepted-zero (refusalImage ps cs) 0 (sym (fold-verdict ps cs) ∙ z)
 
 pub fold-refused : (ps cs : List ℕ) (x : Refusal) → foldImage ps cs .verdict ≡ isRefused x
     → (foldImage ps cs .recordBytes ≡ replicate 32 0) × (foldImage ps cs .counts ≡ replicate 12 0)
 fold-refused ps cs x z = number-case (refusalImage ps cs)
-    (λ e. not-both (foldImage ps cs .verdict) x (fold-verdict ps cs ∙ ap verdictBy e) z)
+    (λ e. not-both (foldImage ps cs .verdict) x (fold-verdict ps cs ∙ accepted-by 0 e) z)
     (λ n e. let q = fold-suc ps cs n e in (ap (λ (f : Folding). f .recordBytes) q, ap (λ (f : Folding). f .counts) q))
 
 -- a shape can be written, and has at most twelve counters
@@ -140,15 +141,21 @@ unfolding unfoldImage
 unfold-zero r vs ps cs e = rw (e, unfoldImage)
 
 pub unfold-suc : (r vs ps cs : List ℕ) (n : ℕ) → refusalUnfold r vs (length ps) (length cs) ≡ suc n
-    → unfoldImage r vs ps cs ≡ record { verdict = verdictBy (suc n); ptrBytes = ps; cellBytes = cs }
+    → unfoldImage r vs ps cs ≡ record {
+      verdict = verdictBy (suc n) (nodeUnfold r vs (length ps) (length cs));
+      ptrBytes = ps;
+      cellBytes = cs;
+    }
 unfolding unfoldImage
 unfold-suc r vs ps cs n e = rw (e, unfoldImage)
 
 pub unfold-verdict : (r vs ps cs : List ℕ) → unfoldImage r vs ps cs .verdict
-    ≡ verdictBy (refusalUnfold r vs (length ps) (length cs))
-unfold-verdict r vs ps cs = number-case (refusalUnfold r vs (length ps) (length cs))
-    (λ e. ap (λ (f : Unfolding). f .verdict) (unfold-zero r vs ps cs e) ∙ ap verdictBy (sym e))
-    (λ n e. ap (λ (f : Unfolding). f .verdict) (unfold-suc r vs ps cs n e) ∙ ap verdictBy (sym e))
+    ≡ verdictBy (refusalUnfold r vs (length ps) (length cs)) (nodeUnfold r vs (length ps) (length cs))
+unfold-verdict r vs ps cs =
+    let v = nodeUnfold r vs (length ps) (length cs) in
+    number-case (refusalUnfold r vs (length ps) (length cs))
+    (λ e. ap (λ (f : Unfolding). f .verdict) (unfold-zero r vs ps cs e) ∙ sym (accepted-by v e))
+    (λ n e. ap (λ (f : Unfolding). f .verdict) (unfold-suc r vs ps cs n e) ∙ ap (λ m. verdictBy m v) (sym e))
 
 -- it is refused by its checks, in their order
 pub unfold-checked : (r vs ps cs : List ℕ) → CheckedBy (checksUnfold r vs (length ps) (length cs))
@@ -160,31 +167,36 @@ unfold-checked r vs ps cs =
 pub unfold-granted : (r vs ps cs : List ℕ) → unfoldImage r vs ps cs .verdict ≡ isAccepted
     → refusalUnfold r vs (length ps) (length cs) ≡ 0
 unfold-granted r vs ps cs z = accepted-zero (refusalUnfold r vs (length ps) (length cs))
-    (sym (unfold-verdict r vs ps cs) ∙ z)
+    (nodeUnfold r vs (length ps) (length cs)) (sym (unfold-verdict r vs ps cs) ∙ z)
 
 pub unfold-refused : (r vs ps cs : List ℕ) (x : Refusal) → unfoldImage r vs ps cs .verdict ≡ isRefused x
     → (unfoldImage r vs ps cs .ptrBytes ≡ ps) × (unfoldImage r vs ps cs .cellBytes ≡ cs)
 unfold-refused r vs ps cs x z = number-case (refusalUnfold r vs (length ps) (length cs))
-    (λ e. not-both (unfoldImage r vs ps cs .verdict) x (unfold-verdict r vs ps cs ∙ ap verdictBy e) z)
+    (λ e. not-both (unfoldImage r vs ps cs .verdict) x
+    (unfold-verdict r vs ps cs ∙ accepted-by (nodeUnfold r vs (length ps) (length cs)) e) z)
     (λ n e. let q = unfold-suc r vs ps cs n e in
     (ap (λ (f : Unfolding). f .ptrBytes) q, ap (λ (f : Unfolding). f .cellBytes) q))
 
--- when an unfolding is accepted: 13 for the lengths, then 8, 9 and 15
+-- when an unfolding is accepted: 13 for the lengths, then 8, the nodes (9, 18, 19) and 15
 pub unfold-accepted : (r vs : List ℕ) (np nc : ℕ) → (refusalUnfold r vs np nc ≡ 0)
     ↔ ((np ≡ 6) × (nc ≤ 240) × (length r ≡ 32) × (layoutH r ≡ true) × (canonical (shapeOf r) ≡ true)
     × (countersFit (byte r 3) vs nc ≡ true))
 unfold-accepted r vs np nc = (
-  (λ z. let p = none-failed (checksUnfold r vs np nc) refl z in (
-    eqb-true np 6 (and-l (eqb np 6) (leb nc 240) (p .0)),
-    leb-true nc 240 (and-r (eqb np 6) (leb nc 240) (p .0)),
-    eqb-true (length r) 32 (and-l (eqb (length r) 32) (layoutH r) (p .1 .0)),
-    and-r (eqb (length r) 32) (layoutH r) (p .1 .0),
-    p .1 .1 .0,
-    p .1 .1 .1 .0,
-  )),
+  (λ z. let by : (n : ℕ) → passing n (checksUnfold r vs np nc) ≡ true =
+      λ n. pass-number n (checksUnfold r vs np nc) (none-failed (checksUnfold r vs np nc) refl z) in (
+        eqb-true np 6 (and-l (eqb np 6) (leb nc 240) (by 13)),
+        leb-true nc 240 (and-r (eqb np 6) (leb nc 240) (by 13)),
+        eqb-true (length r) 32 (and-l (eqb (length r) 32) (layoutH r) (by 8)),
+        and-r (eqb (length r) 32) (layoutH r) (by 8),
+        nodes-pass (shapeOf r) .0 (by 9, (by 18, (by 19, tt))),
+        by 15,
+      )),
   λ q. pass-none (checksUnfold r vs np nc) (
     and-both (eqb np 6) (leb nc 240) (eq-eqb np 6 (q .0)) (le-leb nc 240 (q .1)),
-    (and-both (eqb (length r) 32) (layoutH r) (eq-eqb (length r) 32 (q .2)) (q .3), (q .4, (q .5, tt))),
+    (
+      and-both (eqb (length r) 32) (layoutH r) (eq-eqb (length r) 32 (q .2)) (q .3),
+      pass-both (checksNodes (shapeOf r)) (checkCounters r vs nc ∷ []) (nodes-pass (shapeOf r) .1 (q .4)) (q .5, tt),
+    ),
   ),
 )
 

@@ -6,12 +6,14 @@ use mathlib.Core.Path.{_≡_, ap, refl, sym}
 use mathlib.Core.List.{List, [], _∷_}
 use native.Mathlib.Omega.{arith}
 use lib.ListN.{drop}
-use Rattle.model.specs.Answers.{outcomeOf, stepAnswerOf, stepNumbers, verdictOf}
+use Rattle.model.specs.Answers.{outcomeOf, stepAnswerOf, stepNumbers, verdictOf, unfoldedVerdict}
 use Rattle.model.specs.Image.{StepAnswer, noStep, toFault, toNext, toStop}
-use Rattle.model.specs.Records.{isAccepted, refusal}
+use Rattle.model.specs.Records.{isAccepted, refusal, refusalAt}
 use Rattle.model.specs.Translate.{Outcome}
 use Rattle.model.specs.declared.Ended.{Ended}
 use Rattle.model.specs.declared.Ended.the-variants as ended
+use Rattle.model.specs.declared.Unfolded.{Unfolded}
+use Rattle.model.specs.declared.Unfolded.the-variants as unfolded
 use Rattle.model.specs.declared.Stepped.{Stepped}
 use Rattle.model.specs.declared.Stepped.the-variants as stepped
 use Rattle.model.specs.declared.Translated.{Translated}
@@ -26,6 +28,13 @@ verdict-one ended.Accepted (ended.Refused n p) e = never (cc)
 verdict-one (ended.Refused n p) ended.Accepted e = never (cc)
 verdict-one (ended.Refused n p) (ended.Refused m q) e = let x = refused-inj e in
     λ i. ended.Refused (x i .number) (x i .place)
+
+pub unfolded-one : (a b : Unfolded) → unfoldedVerdict a ≡ unfoldedVerdict b → a ≡ b
+unfolded-one unfolded.Accepted unfolded.Accepted e = refl
+unfolded-one unfolded.Accepted (unfolded.Refused n p v) e = never (cc)
+unfolded-one (unfolded.Refused n p v) unfolded.Accepted e = never (cc)
+unfolded-one (unfolded.Refused n p v) (unfolded.Refused m q w) e = let x = refused-inj e in
+    λ i. unfolded.Refused (x i .number) (x i .place) (record { 0 = x i .node })
 
 pub step-one : (a b : Stepped) → stepAnswerOf a ≡ stepAnswerOf b → a ≡ b
 step-one (stepped.Went b n) (stepped.Went c m) e =
@@ -53,13 +62,13 @@ step-one (stepped.Refused n p) (stepped.Refused m q) e =
 pub outcome-one : (a b : Translated) (ls es : List ℕ) → outcomeOf a ls es ≡ outcomeOf b ls es → a ≡ b
 outcome-one (translated.Listed l e) (translated.Listed m f) ls es q =
     λ i. translated.Listed (q i .tables .locCount) (q i .tables .edgeCount)
-outcome-one (translated.Listed l e) (translated.Refused n p) ls es q =
-    not-both isAccepted (refusal n p) refl (ap (λ (o : Outcome). o .verdict) q)
-outcome-one (translated.Refused n p) (translated.Listed l e) ls es q =
-    not-both isAccepted (refusal n p) refl (sym (ap (λ (o : Outcome). o .verdict) q))
-outcome-one (translated.Refused n p) (translated.Refused m r) ls es q =
-    let x : refusal n p ≡ refusal m r = refused-inj (ap (λ (o : Outcome). o .verdict) q) in
-    λ i. translated.Refused (x i .number) (x i .place)
+outcome-one (translated.Listed l e) (translated.Refused n p v) ls es q =
+    not-both isAccepted (refusalAt n p (v .0)) refl (ap (λ (o : Outcome). o .verdict) q)
+outcome-one (translated.Refused n p v) (translated.Listed l e) ls es q =
+    not-both isAccepted (refusalAt n p (v .0)) refl (sym (ap (λ (o : Outcome). o .verdict) q))
+outcome-one (translated.Refused n p v) (translated.Refused m r w) ls es q =
+    let x : refusalAt n p (v .0) ≡ refusalAt m r (w .0) = refused-inj (ap (λ (o : Outcome). o .verdict) q) in
+    λ i. translated.Refused (x i .number) (x i .place) (record { 0 = x i .node })
 
 -- only a step to a next statement tells a branch and that statement
 pub halted-numbers : (a : StepAnswer) → Halted a → drop 2 (stepNumbers a) ≡ 0 ∷ 0 ∷ []

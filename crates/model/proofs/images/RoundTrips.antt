@@ -12,7 +12,8 @@ use lib.Seq.{drop-at, length-take-le, take-at}
 use borrow.Author.Tests.{le-leb, leb-true, ne-eqb, eq-eqb}
 use Rattle.model.specs.Base.{all, sum}
 use Rattle.model.specs.Heap.{Heap, IsHeap, Slot, Val, cell, holds, next, null, order, undef, unused}
-use Rattle.model.specs.Image.{Unfolding, cellBytesOf, cellSlot, countersFit, foldImage, heapOf, unfoldHeap, unfoldImage, verdictBy}
+use Rattle.model.specs.Image.{Unfolding, cellBytesOf, cellSlot, countersFit, foldImage, heapOf, unfoldHeap, unfoldImage}
+use Rattle.model.proofs.records.Checks.{accepted-by}
 use Rattle.model.specs.Records.{byte, filled, isAccepted, isZero, layoutH, shapeOf, shapeRecord, slotByte, valByte, valOf}
 use Rattle.model.specs.Shape.{Seg, canonical, counters, segments, shape, size}
 use Rattle.model.proofs.records.Bytes.{all-zero, filled-length, small-up, val-back}
@@ -158,7 +159,7 @@ unfold-fold-bytes r vs ps cs z =
     let L = unfold-lengths r vs ps cs in
     let X = unfolded-heap r vs ps cs z in
     let n : foldImage P D .verdict ≡ isAccepted = fold-verdict P D
-    ∙ ap verdictBy (image-accepted P D .1 (L .0 ∙ A .0, omega (arith, L .1, A .1), X .0)) in
+    ∙ accepted-by 0 (image-accepted P D .1 (L .0 ∙ A .0, omega (arith, L .1, A .1), X .0)) in
     let G = fold-gives P D n in
     let s = G .0 ∙ ap shapeRecord (X .1) ∙ shape-record-back r (A .2) (A .3) in
     λ i. record { verdict = n i; recordBytes = s i; counts = (G .1 ∙ ap (filled 12) (X .2) ∙ X .3) i }
@@ -225,7 +226,7 @@ fold-unfold-bytes ps cs qs ds e q6 room most =
           s,
     ) in
     let n : unfoldImage r (ws ++ z) qs ds .verdict ≡ isAccepted = unfold-verdict r (ws ++ z) qs ds
-    ∙ ap verdictBy (unfold-accepted r (ws ++ z) (length qs) (length ds) .1
+    ∙ accepted-by _ (unfold-accepted r (ws ++ z) (length qs) (length ds) .1
     (q6, most, shape-length (shape h) W, layout-written (shape h) W, c, f)) in
     let X = unfolded-heap r (ws ++ z) qs ds n in
     rw (G .0, G .1) (n, same-renamed h _ (A .2) (X .0) (sym (X .1 ∙ S)) (sym (X .2 ∙ t)))

@@ -12,7 +12,7 @@ use borrow.Author.Tests.{not-true}
 use Rattle.model.specs.Image.{Stepping, answered, cellSlot, checksImage, checksStatement, checksStep, entryFits, heapOf, noStep, pastEnd, refusalImage, stays, stepImage, stepVerdict, verdictBy, StepAnswer, toFault, toNext, toStop}
 use Rattle.model.specs.Machine.{Answer, Effect, Entry, Stmt, accepts, answerOf, branch, done, fault, faulted, keep, refused, carryOut, step, stopped, went, entry, Fault, faultNumber, atNull, atUndef, leak, kind, action, isStop, perform}
 use Rattle.model.specs.Records.{checksS, firstFailed, isAccepted, isS, refusal, slotByte, stmtOf, unless, valByte, valOf}
-use Rattle.model.proofs.records.Checks.{checked-by, none-failed, not-both, pass-after, pass-before, pass-none}
+use Rattle.model.proofs.records.Checks.{accepted-by, checked-nodeless, none-failed, not-both, pass-after, pass-before, pass-none}
 use Rattle.model.proofs.expansion.Facts.{heap-closed, keep-any}
 use Rattle.model.proofs.images.Images.{image-accepted, number-case}
 use Rattle.model.proofs.lists.Logic.{and-l, and-r, bool-case}
@@ -62,20 +62,21 @@ answered-verdict st e ps cs a =
     by-effect b (done h) = refl
 
 step-verdict : (r : List ℕ) (p c : ℕ) (ps cs : List ℕ)
-    → stepVerdict (stepImage r p c ps cs .answer) ≡ verdictBy (firstFailed (checksStep r (entry p c) ps cs))
+    → stepVerdict (stepImage r p c ps cs .answer) ≡ verdictBy (firstFailed (checksStep r (entry p c) ps cs)) 0
 step-verdict r p c ps cs = by-case (step-cases r p c ps cs)
   where
     by-case : StepCases r p c ps cs → stepVerdict (stepImage r p c ps cs .answer)
-        ≡ verdictBy (firstFailed (checksStep r (entry p c) ps cs))
-    by-case (inl (n, e, q)) = ap (λ (s : Stepping). stepVerdict (s .answer)) q ∙ ap verdictBy (sym e)
+        ≡ verdictBy (firstFailed (checksStep r (entry p c) ps cs)) 0
+    by-case (inl (n, e, q)) = ap (λ (s : Stepping). stepVerdict (s .answer)) q ∙ ap (λ m. verdictBy m 0) (sym e)
     by-case (inr (e, q)) = ap (λ (s : Stepping). stepVerdict (s .answer)) q
-        ∙ answered-verdict (stmtOf r) (entry p c) ps cs (step-fits r (entry p c) ps cs e .2) ∙ ap verdictBy (sym e)
+        ∙ answered-verdict (stmtOf r) (entry p c) ps cs (step-fits r (entry p c) ps cs e .2)
+        ∙ sym (accepted-by 0 e)
 
 -- it is refused by its checks, in their order
 pub step-checked : (r : List ℕ) (p c : ℕ) (ps cs : List ℕ)
     → CheckedBy (checksStep r (entry p c) ps cs) (stepVerdict (stepImage r p c ps cs .answer))
 step-checked r p c ps cs =
-    checked-by (checksStep r (entry p c) ps cs) (stepVerdict (stepImage r p c ps cs .answer)) refl
+    checked-nodeless (checksStep r (entry p c) ps cs) (stepVerdict (stepImage r p c ps cs .answer)) refl refl
     (step-verdict r p c ps cs)
 
 -- ---- what a step answers

@@ -1,11 +1,14 @@
 -- What a translation leaves, for all inputs: how it can end, its tables and counts, when it is accepted, and which
 -- refusal it gives.
 use Prim.Native.Nat.{_*_, _+_, _-_, _/_, _<_, _≤_, ℕ}
+use Rattle.model.proofs.lists.Logic.{clash, mem-append-l}
+use Rattle.model.specs.Base.{mem}
 use Rattle.model.proofs.records.Checks.{not-both, refused-inj}
 use Rattle.model.specs.Answers.{refusalOf}
 use mathlib.Core.Path.{_∙_, _≡_, ap, refl, subst, sym}
 use mathlib.Core.Logic.{_↔_, _⊎_, inl, inr, ⊎-elim}
-use mathlib.Core.List.{List, [], map}
+use mathlib.Core.Bool.{true}
+use mathlib.Core.List.{List, [], _∷_, map}
 use native.Mathlib.Nat.{min-le-left, min-le-right}
 use native.Mathlib.Omega.{arith}
 use lib.ListN.{drop, length, length-map, replicate}
@@ -17,7 +20,7 @@ use Rattle.model.proofs.records.Bytes.{table-empty, table-length, table
 use Rattle.model.proofs.records.Checked.{GoodStarts, check-good, good-inj}
 use Rattle.model.proofs.listings.Exact.{listing-exact}
 use Rattle.model.proofs.listings.Listing.{listing-whole, outcome-case}
-use Rattle.model.specs.Listings.{Exact, IsFull, Placed, Refused, linkAt, locAt}
+use Rattle.model.specs.Listings.{Exact, IsFull, Placed, Refused, linkAt, locAt, numbersInput, numbersTranslate}
 use Rattle.model.proofs.listings.Moves.{edge-record, good-writable, links-wide, loc-good, loc-record, locs-wide}
 use Rattle.model.proofs.listings.Places.{full-number, full-says, one-listing, whole-listing}
 use Rattle.model.proofs.records.ReadBack.{location-injective}
@@ -61,23 +64,23 @@ refused-tables s a b y z = by-case (translate-cases s a b)
     by-case (inr (inl (r, x, e, p, q))) = subst (λ (o : Outcome). Cleared a b (o .tables)) (sym q) (cleared a b x)
     by-case (inr (inr (r, t, e, p, q))) = not-both (translate s a b .verdict) y (ap (λ (o : Outcome). o .verdict) q) z
 
--- the number is 1 to 12, and for 1 to 3 the place is 0
+-- the number is one of a translation's, and for 1 to 3 the place is 0
 pub translate-number : (s : List ℕ) (a b : ℕ) (x : Refusal) → translate s a b .verdict ≡ isRefused x
-    → (1 ≤ x .number) × (x .number ≤ 12) × (x .number ≤ 3 → x .place ≡ 0)
+    → (mem (x .number) numbersTranslate ≡ true) × (x .number ≤ 3 → x .place ≡ 0)
 translate-number s a b y z = by-case (translate-cases s a b)
   where
     is-refused : (x : Refusal) → translate s a b ≡ refusedWith a b x → x ≡ y
     is-refused x q = refused-inj (sym (ap (λ (o : Outcome). o .verdict) q) ∙ z)
 
     Small : Refusal → Type 0
-    Small x = (1 ≤ x .number) × (x .number ≤ 12) × (x .number ≤ 3 → x .place ≡ 0)
+    Small x = (mem (x .number) numbersTranslate ≡ true) × (x .number ≤ 3 → x .place ≡ 0)
 
     by-case : TranslateCases s a b → Small y
     by-case (inl (x, e, q)) = let n = bad-number s x (refused-input s x e) in
-        subst Small (is-refused x q) (n .0, omega arith, n .2)
+        subst Small (is-refused x q) (mem-append-l (x .number) numbersInput (11 ∷ 12 ∷ []) (n .0), n .1)
     by-case (inr (inl (r, x, e, p, q))) = subst Small (is-refused x q) (⊎-elim
-        (λ (f : x .number ≡ 11). (omega arith, omega arith, λ (l : x .number ≤ 3). absurd (omega arith)))
-        (λ (f : x .number ≡ 12). (omega arith, omega arith, λ (l : x .number ≤ 3). absurd (omega arith)))
+        (λ (f : x .number ≡ 11). (rw f, λ (l : x .number ≤ 3). absurd (omega arith)))
+        (λ (f : x .number ≡ 12). (rw f, λ (l : x .number ≤ 3). absurd (omega arith)))
         (full-number r (places 1024 a) (places 2048 b) x p))
     by-case (inr (inr (r, t, e, p, q))) = not-both (translate s a b .verdict) y (ap (λ (o : Outcome). o .verdict) q) z
 
@@ -88,7 +91,7 @@ zero-accepted s a b = by-verdict (translate s a b .verdict) refl
   where
     by-verdict : (v : Verdict) → translate s a b .verdict ≡ v → refusalOf v .number ≡ 0 → v ≡ isAccepted
     by-verdict isAccepted e z = refl
-    by-verdict (isRefused x) e z = absurd (omega (arith, translate-number s a b x e .0))
+    by-verdict (isRefused x) e z = clash (translate-number s a b x e .0) (rw z)
 
 -- an accepted translation is a listing of a checked routine
 abbrev pub Accepted : List ℕ → ℕ → ℕ → Type 0

@@ -181,13 +181,20 @@ full-says r cl ce x p =
     inr (explore-refused (r .stmts) (r .starts) cl ce x cl 0 (rw (length-map (r .starts) (at 0)) le, omega arith)
     (rw (q, listing) at p)))
 
--- its number is 11 or 12
-pub full-number : (r : Routine) (cl ce : ℕ) (x : Refusal) → listing r cl ce ≡ full x
-    → (x .number ≡ 11) ⊎ (x .number ≡ 12)
-full-number r cl ce x e = ⊎-elim
-    (λ (p : (cl < length (r .starts)) × (x ≡ refusal 11 cl)). inl (ap (λ (y : Refusal). y .number) (p .1)))
+-- its number is 11 or 12, and it is about no node
+pub full-is : (r : Routine) (cl ce : ℕ) (x : Refusal) → listing r cl ce ≡ full x
+    → (i : ℕ) × ((x ≡ refusal 11 i) ⊎ (x ≡ refusal 12 i))
+full-is r cl ce x e = ⊎-elim
+    (λ (p : (cl < length (r .starts)) × (x ≡ refusal 11 cl)). (cl, inl (p .1)))
     (λ (p : Refused (r .stmts) (r .starts) cl ce x). by-why (p .no-place .why)) (full-says r cl ce x e)
   where
-    by-why : {i : ℕ} {d : Edge} {u : Listing} → Why cl ce i d u x → (x .number ≡ 11) ⊎ (x .number ≡ 12)
-    by-why (no-location p q l) = inl (ap (λ (y : Refusal). y .number) p)
-    by-why (no-edge p q l) = inr (ap (λ (y : Refusal). y .number) p)
+    by-why : {i : ℕ} {d : Edge} {u : Listing} → Why cl ce i d u x → (j : ℕ) × ((x ≡ refusal 11 j) ⊎ (x ≡ refusal 12 j))
+    by-why {i} (no-location p q l) = (i, inl p)
+    by-why {i} (no-edge p q l) = (i, inr p)
+
+pub full-number : (r : Routine) (cl ce : ℕ) (x : Refusal) → listing r cl ce ≡ full x
+    → (x .number ≡ 11) ⊎ (x .number ≡ 12)
+full-number r cl ce x e =
+    let p = full-is r cl ce x e in
+    ⊎-elim (λ (q : x ≡ refusal 11 (p .0)). inl (ap (λ (y : Refusal). y .number) q))
+    (λ (q : x ≡ refusal 12 (p .0)). inr (ap (λ (y : Refusal). y .number) q)) (p .1)

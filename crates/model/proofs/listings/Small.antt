@@ -3,15 +3,16 @@
 use Prim.Native.Nat.{_-_, _≤_, ℕ}
 use mathlib.Core.Path.{_∙_, _≡_, ap, ap₂, refl, subst, sym}
 use mathlib.Core.Logic.{_↔_, _⊎_, inl, inr, ⊎-elim}
-use mathlib.Core.Bool.{false}
+use mathlib.Core.Bool.{false, true}
 use mathlib.Core.List.{List, _++_, append-nil, map, map-map}
 use native.Mathlib.Omega.{arith}
 use lib.Dec.{ltb}
 use lib.ListN.{length, length-map, replicate, take}
 use borrow.Author.Tests.{le-ltb}
-use Rattle.model.specs.Base.{numbers}
+use Rattle.model.proofs.lists.Logic.{clash}
+use Rattle.model.specs.Base.{numbers, mem}
 use Rattle.model.specs.Bench.{AcceptsFitting, EqualsFull, FailsAsFull, FitsIn, FullFitsIn, RefusesUnplaced, benchEdges, benchLocations, cutTo, endsAt, endsIn, endsOf, firstUnplaced, translateBench, translateFull, unplaced}
-use Rattle.model.specs.Listings.{Exact, IsFull, Placed, linkAt, noLink}
+use Rattle.model.specs.Listings.{Exact, IsFull, Placed, linkAt, noLink, numbersInput}
 use Rattle.model.specs.Records.{Refusal, Verdict, isAccepted, isRefused, locRecord, word}
 use Rattle.model.specs.Translate.{Listing, Outcome, Routine, bad, check, good, linkRecord, listedWith, places, refusedWith, tablesOf, translate}
 use Rattle.model.proofs.listings.Exact.{listing-exact}
@@ -164,14 +165,13 @@ refused-cases s a b x z = by-case (translate-cases s a b)
     )
     by-case (inr (inr (r, t, e, p, q))) = not-both (translate s a b .verdict) x (ap (λ (o : Outcome). o .verdict) q) z
 
--- exactly a failed check gives 1 to 10
+-- exactly a failed check gives a number of the input's
 failed-low : (s : List ℕ) (a b : ℕ) (x : Refusal)
-    → (check s ≡ bad x) ↔ ((translate s a b .verdict ≡ isRefused x) × (x .number ≤ 10))
+    → (check s ≡ bad x) ↔ ((translate s a b .verdict ≡ isRefused x) × (mem (x .number) numbersInput ≡ true))
 failed-low s a b x = (
-  (λ e. (bad-translate s a b x e, bad-number s x (refused-input s x e) .1)),
-  λ k. let h = k .1 in
-      ⊎-elim (λ e. e)
-      (λ m. absurd (⊎-elim (λ (n : x .number ≡ 11). omega arith) (λ (n : x .number ≡ 12). omega arith) (m .1)))
+  (λ e. (bad-translate s a b x e, bad-number s x (refused-input s x e) .0)),
+  λ k. ⊎-elim (λ e. e)
+      (λ m. ⊎-elim (λ (n : x .number ≡ 11). clash (k .1) (rw n)) (λ (n : x .number ≡ 12). clash (k .1) (rw n)) (m .1))
       (refused-cases s a b x (k .0)),
 )
 

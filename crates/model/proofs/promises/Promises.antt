@@ -2,26 +2,29 @@
 -- in PromisesShapes and PromisesListings, demand 3 in PromisesRuns, reading the tables in PromisesTables, and single
 -- statements in PromisesStatements. The words are those of specs/, Notions and Listings.
 use Prim.Native.Nat.{_*_, _-_, _/_, _<_, _≤_, suc, ℕ}
-use mathlib.Core.Path.{_∙_, _≡_, ap}
+use mathlib.Core.Path.{_∙_, _≡_}
 use mathlib.Core.Logic.{_↔_, _⊎_}
 use mathlib.Core.Bool.{false, true}
 use mathlib.Core.List.{List, [], _∷_}
 use native.Mathlib.Omega.{arith}
 use lib.ListN.{drop, getD, length, replicate}
-use Rattle.model.specs.Answers.{outcomeOf, stepAnswerOf, stepNumbers, verdictOf}
+use Rattle.model.specs.Base.{mem}
+use Rattle.model.specs.Answers.{outcomeOf, stepAnswerOf, stepNumbers, verdictOf, unfoldedVerdict}
 use Rattle.model.specs.Heap.{IsHeap}
-use Rattle.model.specs.Image.{answered, checksImage, checksStep, checksUnfold, foldImage, heapOf, stepImage, stepVerdict, toFault, unfoldImage, verdictBy}
+use Rattle.model.specs.Image.{answered, checksImage, checksStep, checksUnfold, foldImage, heapOf, stepImage, stepVerdict, toFault, unfoldImage}
+use Rattle.model.proofs.records.Checks.{accepted-by}
 use Rattle.model.specs.Machine.{entry, step}
 use Rattle.model.specs.Records.{Refusal, filled, isAccepted, isRefused, isS, shapeOf, shapeRecord, stmtOf}
 use Rattle.model.specs.Shape.{counters, shape}
 use Rattle.model.specs.Translate.{Routine, bad, check, good, translate}
 use Rattle.model.specs.declared.Ended.{Ended}
+use Rattle.model.specs.declared.Unfolded.{Unfolded}
 use Rattle.model.specs.declared.Stepped.{Stepped}
 use Rattle.model.specs.declared.Translated.{Translated}
 use Rattle.model.proofs.images.Images.{fold-accepted, fold-checked, fold-gives, fold-lengths, fold-refused, fold-verdict, image-accepted, unfold-checked, unfold-lengths, unfold-refused}
-use Rattle.model.specs.Listings.{BadInput, GoodInput, recordRefusal, recordsOf}
+use Rattle.model.specs.Listings.{BadInput, GoodInput, recordRefusal, recordsOf, numbersInput, numbersTranslate, numbersS, numbersH}
 use Rattle.model.specs.Notions.{CheckedBy, Halted}
-use Rattle.model.proofs.images.OneToOne.{halted-numbers, outcome-one, step-one, verdict-one}
+use Rattle.model.proofs.images.OneToOne.{halted-numbers, outcome-one, step-one, unfolded-one, verdict-one}
 use Rattle.model.proofs.listings.Outcomes.{bad-translate, fitting, places-most, refused-tables, translate-number}
 use Rattle.model.proofs.records.Refusals.{accepted-input, bad-number, good-accepted, record-number, refused-input}
 use Rattle.model.proofs.images.Stepping.{step-answers, step-checked, step-faults, step-lengths, step-stays}
@@ -31,11 +34,12 @@ use Rattle.model.proofs.images.Stepping.{step-answers, step-checked, st
 -- no two answers say the same: a finished call is never told as a refusal, nor a fault as a step
 abbrev pub AnswersDiffer : Type 0
 AnswersDiffer = ((a b : Ended) → verdictOf a ≡ verdictOf b → a ≡ b)
+    × ((a b : Unfolded) → unfoldedVerdict a ≡ unfoldedVerdict b → a ≡ b)
     × ((a b : Stepped) → stepAnswerOf a ≡ stepAnswerOf b → a ≡ b)
     × ((a b : Translated) (ls es : List ℕ) → outcomeOf a ls es ≡ outcomeOf b ls es → a ≡ b)
 
 pub answers-differ : AnswersDiffer
-answers-differ = (verdict-one, step-one, outcome-one)
+answers-differ = (verdict-one, unfolded-one, step-one, outcome-one)
 
 -- "The two record counts are reported, both 0 on a refusal." A refused translation leaves both tables all zero.
 abbrev pub RefusalClears : Type 0
@@ -78,16 +82,16 @@ RestIsZero = (s : List ℕ) (a b : ℕ)
 pub rest-is-zero : RestIsZero
 rest-is-zero s a b = let f = fitting s a b in (f .locRest, f .edgeRest)
 
--- the numbers are 1 to 12; "for 1, 2 and 3 it is 0"
+-- the numbers; "for 1, 2 and 3 it is 0"
 abbrev pub TranslateNumbers : Type 0
 TranslateNumbers = (s : List ℕ) (a b : ℕ) (x : Refusal) → translate s a b .verdict ≡ isRefused x
-    → (1 ≤ x .number) × (x .number ≤ 12) × (x .number ≤ 3 → x .place ≡ 0)
+    → (mem (x .number) numbersTranslate ≡ true) × (x .number ≤ 3 → x .place ≡ 0)
 
 pub translate-numbers : TranslateNumbers
 translate-numbers = translate-number
 
--- "Refusals by place of check", 1 to 10: a refused input has that wrong with it which the number says, at the place
--- given, and nothing before it
+-- "Refusals by place of check", those of the input: a refused input has that wrong with it which the number says, at
+-- the place given, and nothing before it
 abbrev pub InputRefused : Type 0
 InputRefused = (s : List ℕ) (x : Refusal) → check s ≡ bad x → BadInput s x
     × ((a b : ℕ) → translate s a b .verdict ≡ isRefused x)
@@ -102,10 +106,10 @@ InputAccepted = (s : List ℕ) (r : Routine) → (check s ≡ good r) ↔ GoodIn
 pub input-accepted : InputAccepted
 input-accepted s r = (accepted-input s r, good-accepted s r)
 
--- "The place given is the record number from 0 (for 1, 2 and 3 it is 0"; 5 to 7 are an S record's, 8 to 10 an H
--- record's
+-- "The place given is the record number from 0 (for 1, 2 and 3 it is 0"; 5 to 7 are an S record's, 8, 9, 18, 19 and 10
+-- an H record's
 abbrev pub InputNumbers : Type 0
-InputNumbers = (s : List ℕ) (x : Refusal) → BadInput s x → (1 ≤ x .number) × (x .number ≤ 10)
+InputNumbers = (s : List ℕ) (x : Refusal) → BadInput s x → (mem (x .number) numbersInput ≡ true)
     × (x .number ≤ 3 → x .place ≡ 0) × (4 ≤ x .number → x .place < length (recordsOf s))
 
 pub input-numbers : InputNumbers
@@ -113,8 +117,8 @@ input-numbers = bad-number
 
 abbrev pub RecordNumbers : Type 0
 RecordNumbers = (rs : List (List ℕ)) (i m : ℕ) → recordRefusal rs i ≡ suc m
-    → ((isS (getD rs i []) ≡ true) × (5 ≤ suc m) × (suc m ≤ 7)) ⊎ ((isS (getD rs i []) ≡ false) × (8 ≤ suc m)
-    × (suc m ≤ 10))
+    → ((isS (getD rs i []) ≡ true) × (mem (suc m) numbersS ≡ true)) ⊎ ((isS (getD rs i []) ≡ false)
+    × (mem (suc m) numbersH ≡ true))
 
 pub record-numbers : RecordNumbers
 record-numbers = record-number
@@ -135,7 +139,7 @@ pub fold-accepts : FoldAccepts
 fold-accepts ps cs = (
   (λ z. image-accepted ps cs .0 (fold-accepted ps cs z)),
   λ q. fold-verdict ps cs
-      ∙ ap verdictBy (image-accepted ps cs .1 q),
+      ∙ accepted-by 0 (image-accepted ps cs .1 q),
 )
 
 -- "A refused fold gives a zero record and zero counters"; a record has 32 bytes, and there are twelve counters
@@ -157,8 +161,8 @@ FoldGives = (ps cs : List ℕ) → foldImage ps cs .verdict ≡ isAccepted
 pub fold-is : FoldGives
 fold-is = fold-gives
 
--- "Unfolding checks the lengths (13), then 8, 9, 15": each exactly when its condition is met and none before it; the
--- place is 0
+-- "Unfolding checks the lengths (13), then 8, 9, 15", with 18 and 19 right after 9: each exactly when its condition is
+-- met and none before it, with its node; the place is 0
 abbrev pub UnfoldRefusals : Type 0
 UnfoldRefusals = (r vs ps cs : List ℕ) → CheckedBy (checksUnfold r vs (length ps) (length cs))
     (unfoldImage r vs ps cs .verdict)

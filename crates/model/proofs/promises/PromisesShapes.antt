@@ -149,7 +149,8 @@ merging-ends = merge-ends
 
 -- ==== shapes
 
--- "9: a node unreachable or not core, or another numbering": the test is passed exactly where there is none of it
+-- "a node unreachable or not core, or another numbering" (9, 18, 19): the test is passed exactly where there is none of
+-- it
 abbrev pub CanonicalIs : Type 0
 CanonicalIs = (h : Heap) → closed h ≡ true → (canonical h ≡ true)
     ↔ (((c : ℕ) → inUse (next h c) ≡ true → Reaches h c) × ((n : ℕ) → n < length (h .slots) → core h n ≡ true)
@@ -158,7 +159,7 @@ CanonicalIs = (h : Heap) → closed h ≡ true → (canonical h ≡ true)
 pub canonical-is-shape : CanonicalIs
 canonical-is-shape h k =
     let r = kept-is-reachable h k in
-    let q = canonical-is h in (
+    let q = canonical-is h (test-closed h k) in (
       (λ e. let z = q .0 e in (r .0 (kept-test h (z .0)), z .1, z .2)),
       λ z. q .1
           (test-kept h (r .1 (z .0)), z .1, z .2),

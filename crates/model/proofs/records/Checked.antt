@@ -1,11 +1,12 @@
 -- What the checks of the input say of an accepted one: its starting shapes are shapes with six pointers, and no two
 -- are equal.
 use Prim.Native.Nat.{_%_, _*_, _/_, _≤_, suc, zero, ℕ}
-use Rattle.model.proofs.records.Checks.{none-failed}
+use Rattle.model.proofs.records.Checks.{none-failed, pass-number, passing}
+use Rattle.model.proofs.records.NodeChecks.{nodes-pass}
 use mathlib.Core.Path.{_∙_, _≡_, ap, refl, subst, sym}
 use mathlib.Core.Logic.{inl, inr}
 use mathlib.Core.Option.{Option, none, some}
-use mathlib.Core.Bool.{_||_, cond, false, not, true}
+use mathlib.Core.Bool.{false, not, true}
 use mathlib.Core.List.{List, [], _∷_, map}
 use native.Mathlib.Omega.{arith}
 use lib.Dec.{eqb, leb}
@@ -14,9 +15,10 @@ use lib.Seq.{length-take-le}
 use borrow.Author.Tests.{eqb-true, leb-true, not-true}
 use Rattle.model.specs.Base.{all, any, count, sameList}
 use Rattle.model.specs.Heap.{Heap}
-use Rattle.model.specs.Records.{Refusal, isH, isS, layoutH, refusal, refusalH, refusalS, shapeOf, shapeRecord, checksH}
+use Rattle.model.specs.Records.{Refusal, checksH, checksRecord, failedNode, firstFailed, isH, layoutH, refusalAt, refusalH, shapeOf, shapeRecord, isS}
 use Rattle.model.specs.Shape.{canonical}
 use Rattle.model.specs.Translate.{Routine, bad, badKind, badRecord, between, check, checkCounts, checkKinds, checkRecords, chunks, good}
+use Rattle.model.specs.Listings.{noRecords, recordsOf}
 use Rattle.model.specs.Notions.{Canon, Distinct, In}
 use Rattle.model.proofs.shapes.Canonical.{canonical-canon}
 use Rattle.model.proofs.expansion.Facts.{test-closed}
@@ -35,25 +37,28 @@ pub record GoodH (r : List ℕ) : Type 0 where
 pub accepted-h : (earlier : List (List ℕ)) (r : List ℕ) → refusalH earlier r ≡ 0
     → (layoutH r ≡ true) × (canonical (shapeOf r) ≡ true) × (any (sameList eqb r) earlier ≡ false)
 accepted-h earlier r e =
-    let p = none-failed (checksH earlier r) refl e in
-    (p .0, p .1 .0, not-true (any (sameList eqb r) earlier) (p .1 .1 .0))
+    let by : (n : ℕ) → passing n (checksH earlier r) ≡ true =
+    λ n. pass-number n (checksH earlier r) (none-failed (checksH earlier r) refl e) in
+    (by 8, nodes-pass (shapeOf r) .0 (by 9, (by 18, (by 19, tt))), not-true (any (sameList eqb r) earlier) (by 10))
 
 -- each record of the list is accepted after those before it
 abbrev Accepted : ℕ → List (List ℕ) → List (List ℕ) → Type 0
 Accepted n earlier [] = Unit {0}
-Accepted n earlier (r ∷ rs) = (cond (isS r) (refusalS n r) (refusalH earlier r) ≡ 0) × Accepted n (r ∷ earlier) rs
+Accepted n earlier (r ∷ rs) = (firstFailed (checksRecord n earlier r) ≡ 0) × Accepted n (r ∷ earlier) rs
 
 records-accepted : (n i : ℕ) (earlier rs : List (List ℕ)) → badRecord n i earlier rs ≡ none → Accepted n earlier rs
 records-accepted n i earlier [] e = tt
 records-accepted n i earlier (r ∷ rs) e =
-    by-refusal (cond (isS r) (refusalS n r) (refusalH earlier r)) refl
+    by-refusal (firstFailed (checksRecord n earlier r)) refl
     (λ z. records-accepted n (suc i) (r ∷ earlier) rs z)
   where
-    by-refusal : (m : ℕ) → cond (isS r) (refusalS n r) (refusalH earlier r) ≡ m
+    by-refusal : (m : ℕ) → firstFailed (checksRecord n earlier r) ≡ m
         → (badRecord n (suc i) (r ∷ earlier) rs ≡ none → Accepted n (r ∷ earlier) rs) → Accepted n earlier (r ∷ rs)
     by-refusal zero q rec = (q, rec (rw (q, badRecord) at e))
-    by-refusal (suc m) q rec = let z : badRecord n i earlier (r ∷ rs) ≡ some (refusal (suc m) i) =
-        rw (q, badRecord) in some-none (sym e ∙ z)
+    by-refusal (suc m) q rec =
+        let z : badRecord n i earlier (r ∷ rs)
+        ≡ some (refusalAt (suc m) i (failedNode (checksRecord n earlier r))) = rw (q, badRecord) in
+        some-none (sym e ∙ z)
 
 later-accepted : (n m : ℕ) (earlier rs : List (List ℕ)) → Accepted n earlier rs → (e : List (List ℕ))
     × Accepted n e (drop m rs)
@@ -155,14 +160,16 @@ kinds-good rs r w e = by-kind (badKind false 0 rs) refl
     by-kind (some i) q = bad-good (rw (q, checkKinds) at e)
     by-kind none q = counts-good rs r w (kinds-sorted 0 rs q) (rw (q, checkKinds) at e)
 
+-- the records of an input have 32 bytes
+pub records-wide : (s : List ℕ) → noRecords s ≡ false → (x : List ℕ) → In x (recordsOf s) → length x ≡ 32
+records-wide s a =
+    let n = or-false-r (eqb (length s) 0) (not (eqb (length s % 32) 0)) a in
+    let m : length s % 32 ≡ 0 = bool-case (eqb (length s % 32) 0) (eqb-true (length s % 32) 0)
+    (λ z. clash refl (sym (ap not z) ∙ n)) in
+    chunks-wide (length s / 32) s (omega arith)
+
 -- an accepted input has good starting shapes
 pub check-good : (s : List ℕ) (r : Routine) → check s ≡ good r → GoodStarts r
 unfolding check
-check-good s r e = bool-case (eqb (length s) 0 || not (eqb (length s % 32) 0))
-    (λ a. bad-good (rw (a, check) at e))
-    (λ a. kinds-good (chunks (length s / 32) s) r (chunks-wide (length s / 32) s
-    (whole-part (or-false-r (eqb (length s) 0) (not (eqb (length s % 32) 0)) a))) (rw (a, check) at e))
-  where
-    whole-part : not (eqb (length s % 32) 0) ≡ false → length s ≡ 32 * (length s / 32)
-    whole-part h = bool-case (eqb (length s % 32) 0) (λ z. let m = eqb-true (length s % 32) 0 z in omega arith)
-        (λ z. clash refl (sym (ap not z) ∙ h))
+check-good s r e = bool-case (noRecords s) (λ a. bad-good (rw (a, check) at e))
+    (λ a. kinds-good (recordsOf s) r (records-wide s a) (rw (a, check) at e))

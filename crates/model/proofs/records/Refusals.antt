@@ -1,24 +1,24 @@
 -- The refusals of an input are those of 01's table, each at its place: what is wrong with a refused input, and that
 -- nothing is with an accepted one.
 use Prim.Native.Nat.{_+_, _<_, _≤_, suc, zero, ℕ}
-use Rattle.model.proofs.records.Checks.{failed-given}
-use Rattle.model.specs.Notions.{Given}
-use mathlib.Core.Path.{_∙_, _≡_, ap, refl, subst, sym}
+use Rattle.model.proofs.records.Checks.{failed-number}
+use mathlib.Core.Path.{_∙_, _≡_, ap, ap₂, refl, subst, sym}
 use mathlib.Core.Logic.{_⊎_, inl, inr, ⊎-elim}
 use mathlib.Core.Option.{none, some}
-use mathlib.Core.Bool.{Bool, _&&_, _||_, cond, false, not, or-false, true}
+use mathlib.Core.Bool.{Bool, _&&_, _||_, false, not, or-false, true}
 use mathlib.Core.List.{List, [], _++_, _∷_, append-nil}
 use native.Mathlib.Nat.{zero-add}
 use native.Mathlib.Omega.{arith}
-use lib.Dec.{eqb}
+use lib.Dec.{eqb, leb}
 use lib.ListN.{getD, length, take}
-use Rattle.model.specs.Base.{any, count, sameList}
+use Rattle.model.specs.Base.{all, any, count, mem, sameList}
+use borrow.Author.Tests.{leb-true}
+use Rattle.model.proofs.lists.Lists.{all-in, mem-in}
 use Rattle.model.specs.Heap.{next}
-use Rattle.model.specs.Records.{Refusal, isH, isS, layoutH, refusal, refusalH, refusalS, shapeOf, checksS, checksH, firstFailed, unless}
-use Rattle.model.specs.Shape.{canonical}
+use Rattle.model.specs.Records.{Refusal, Row, checksH, checksRecord, checksS, failedNode, firstFailed, isH, isS, refusal, refusalAt}
 use Rattle.model.specs.Translate.{Routine, bad, badKind, badRecord, between, check, checkCounts, checkKinds, checkRecords, good, routineOf}
 use Rattle.model.proofs.records.Checked.{bad-good, good-inj}
-use Rattle.model.specs.Listings.{BadInput, GoodInput, bad-kind, bad-length, bad-record, bad-shapes, bad-statements, noRecords, recordRefusal, recordsOf, wrongKind}
+use Rattle.model.specs.Listings.{BadInput, GoodInput, bad-kind, bad-length, bad-record, bad-shapes, bad-statements, noRecords, numbersH, numbersInput, numbersS, recordChecks, recordRefusal, recordsOf, wrongKind}
 use Rattle.model.proofs.lists.Logic.{and-l, and-r, bool-case, clash, not-false, or-r}
 
 -- ---- the first record of a wrong kind
@@ -72,14 +72,20 @@ kind-cases after i (r ∷ rs) = bool-case (isH r)
 
 -- ---- the first record that is refused
 
+-- the checks of record k, its refusal, and the node that is told with it
+abbrev checksAfter : ℕ → List (List ℕ) → List (List ℕ) → ℕ → List Row
+checksAfter n earlier rs k = checksRecord n (take k rs ++ earlier) (getD rs k [])
+
 abbrev refusedAfter : ℕ → List (List ℕ) → List (List ℕ) → ℕ → ℕ
-refusedAfter n earlier rs k = cond (isS (getD rs k [])) (refusalS n (getD rs k []))
-    (refusalH (take k rs ++ earlier) (getD rs k []))
+refusedAfter n earlier rs k = firstFailed (checksAfter n earlier rs k)
+
+abbrev nodeAfter : ℕ → List (List ℕ) → List (List ℕ) → ℕ → ℕ
+nodeAfter n earlier rs k = failedNode (checksAfter n earlier rs k)
 
 abbrev RecordCases : ℕ → ℕ → List (List ℕ) → List (List ℕ) → Type 0
 RecordCases n i earlier rs =
-    ((k m : ℕ) × (badRecord n i earlier rs ≡ some (refusal (suc m) (i + k))) × (k < length rs)
-    × (refusedAfter n earlier rs k ≡ suc m)
+    ((k m : ℕ) × (badRecord n i earlier rs ≡ some (refusalAt (suc m) (i + k) (nodeAfter n earlier rs k)))
+    × (k < length rs) × (refusedAfter n earlier rs k ≡ suc m)
     × ((j : ℕ) → j < k → refusedAfter n earlier rs j ≡ 0))
     ⊎ ((badRecord n i earlier rs ≡ none) × ((k : ℕ) → k < length rs → refusedAfter n earlier rs k ≡ 0))
 
@@ -92,25 +98,21 @@ any-swap p (y ∷ l) m x = ap (λ z. p y || z) (any-swap p l m x) ∙ swap (p y)
     swap false b c = refl
 
 -- the order of the earlier records does not matter
-earlier-same : (n : ℕ) (earlier rs : List (List ℕ)) (r : List ℕ) (k : ℕ) → refusedAfter n earlier (r ∷ rs) (suc k)
-    ≡ refusedAfter n (r ∷ earlier) rs k
-earlier-same n earlier rs r k =
-    let x = getD rs k [] in
-    ap (λ (b : Bool). cond (isS x) (refusalS n x)
-    (firstFailed (unless 8 (layoutH x) ∷ unless 9 (canonical (shapeOf x)) ∷ unless 10 (not b) ∷ [])))
-    (sym (any-swap (sameList eqb x) (take k rs) earlier r))
+earlier-same : (n : ℕ) (earlier rs : List (List ℕ)) (r : List ℕ) (k : ℕ) → checksAfter n earlier (r ∷ rs) (suc k)
+    ≡ checksAfter n (r ∷ earlier) rs k
+earlier-same n earlier rs r k = rw (any-swap (sameList eqb (getD rs k [])) (take k rs) earlier r)
 
 record-cases : (n i : ℕ) (earlier rs : List (List ℕ)) → RecordCases n i earlier rs
 record-cases n i earlier [] = inr (refl, λ k l. absurd (omega arith))
-record-cases n i earlier (r ∷ rs) = by-first (cond (isS r) (refusalS n r) (refusalH earlier r)) refl
+record-cases n i earlier (r ∷ rs) = by-first (firstFailed (checksRecord n earlier r)) refl
     (record-cases n (suc i) (r ∷ earlier) rs)
   where
-    by-first : (m : ℕ) → cond (isS r) (refusalS n r) (refusalH earlier r) ≡ m → RecordCases n (suc i) (r ∷ earlier) rs
+    by-first : (m : ℕ) → firstFailed (checksRecord n earlier r) ≡ m → RecordCases n (suc i) (r ∷ earlier) rs
         → RecordCases n i earlier (r ∷ rs)
     by-first (suc m) e c = inl (
       0,
       m,
-      rw (e, badRecord) (ap (λ p. some (refusal (suc m) p)) (omega arith)),
+      rw (e, badRecord) (ap (λ p. some (refusalAt (suc m) p (failedNode (checksRecord n earlier r)))) (omega arith)),
       omega
           arith,
       e,
@@ -120,26 +122,26 @@ record-cases n i earlier (r ∷ rs) = by-first (cond (isS r) (refusalS n r) (ref
         inl (
           suc k,
           m,
-          rw (e, badRecord) (q ∙ ap (λ p. some (refusal (suc m) p)) (omega arith)),
+          rw (e, badRecord) (q ∙ ap₂ (λ p cs. some (refusalAt (suc m) p (failedNode cs))) (omega arith)
+              (sym (earlier-same n earlier rs r k))),
           omega arith,
-          earlier-same n earlier rs r k ∙ w,
+          ap firstFailed (earlier-same n earlier rs r k) ∙ w,
           λ j l. by-place j l,
         )
       where
         by-place : (j : ℕ) → j < suc k → refusedAfter n earlier (r ∷ rs) j ≡ 0
         by-place zero l = e
-        by-place (suc j) l = earlier-same n earlier rs r j ∙ f j (omega arith)
+        by-place (suc j) l = ap firstFailed (earlier-same n earlier rs r j) ∙ f j (omega arith)
     by-first zero e (inr (q, f)) = inr (rw (e, badRecord) q, λ k l. by-place k l)
       where
         by-place : (k : ℕ) → k < suc (length rs) → refusedAfter n earlier (r ∷ rs) k ≡ 0
         by-place zero l = e
-        by-place (suc k) l = earlier-same n earlier rs r k ∙ f k (omega arith)
+        by-place (suc k) l = ap firstFailed (earlier-same n earlier rs r k) ∙ f k (omega arith)
 
 -- ---- the whole check
 
-none-earlier : (rs : List (List ℕ)) (k : ℕ) → recordRefusal rs k ≡ refusedAfter (count isS rs) [] rs k
-none-earlier rs k = ap (λ l. cond (isS (getD rs k [])) (refusalS (count isS rs) (getD rs k []))
-    (refusalH l (getD rs k []))) (sym (append-nil (take k rs)))
+none-earlier : (rs : List (List ℕ)) (k : ℕ) → recordChecks rs k ≡ checksAfter (count isS rs) [] rs k
+none-earlier rs k = ap (λ l. checksRecord (count isS rs) l (getD rs k [])) (sym (append-nil (take k rs)))
 
 -- a refused input and what is wrong with it, or an accepted one with nothing wrong
 abbrev pub CheckCases : List ℕ → Type 0
@@ -166,10 +168,12 @@ module _ (s : List ℕ) (a : noRecords s ≡ false) where
     by-record : between 1 64 (count isS (recordsOf s)) ≡ true → between 1 16 (count isH (recordsOf s)) ≡ true
         → RecordCases (count isS (recordsOf s)) 0 [] (recordsOf s) → CheckCases s
     by-record b c (inl (i, m, p, lt, w, g)) = inl (
-      refusal (suc m) (0 + i),
+      refusalAt (suc m) (0 + i) (nodeAfter (count isS (recordsOf s)) [] (recordsOf s) i),
       counts-records b c ∙ rw (p, checkRecords),
-      bad-record m i (ap (refusal (suc m)) (zero-add i)) a f b c lt (λ j l. none-earlier (recordsOf s) j ∙ g j l)
-          (none-earlier (recordsOf s) i ∙ w),
+      bad-record m i
+          (ap₂ (λ q cs. refusalAt (suc m) q (failedNode cs)) (zero-add i) (sym (none-earlier (recordsOf s) i))) a f b c
+          lt (λ j l. ap firstFailed (none-earlier (recordsOf s) j) ∙ g j l)
+          (ap firstFailed (none-earlier (recordsOf s) i) ∙ w),
     )
     by-record b c (inr (p, g)) = inr (
       routineOf (count isS (recordsOf s)) (recordsOf s),
@@ -179,8 +183,7 @@ module _ (s : List ℕ) (a : noRecords s ≡ false) where
         kinds = f;
         statements = b;
         shapes = c;
-        records = λ j l. none-earlier (recordsOf s) j
-            ∙ g j l;
+        records = λ j l. ap firstFailed (none-earlier (recordsOf s) j) ∙ g j l;
         isRead = refl;
       },
     )
@@ -238,43 +241,35 @@ good-accepted s r G = ⊎-elim
 
 -- ---- numbers and places
 
-statement-number : (n : ℕ) (r : List ℕ) (m : ℕ) → refusalS n r ≡ suc m → (5 ≤ suc m) × (suc m ≤ 7)
-statement-number n r m e = by-check (failed-given (checksS n r) m e)
-  where
-    by-check : Given (checksS n r) (suc m) → (5 ≤ suc m) × (suc m ≤ 7)
-    by-check (inl (z, p)) = (omega arith, omega arith)
-    by-check (inr (p, inl (z, q))) = (omega arith, omega arith)
-    by-check (inr (p, inr (q, inl (z, w)))) = (omega arith, omega arith)
-    by-check (inr (p, inr (q, inr (w, x)))) = absurd x
-
-shape-number : (earlier : List (List ℕ)) (r : List ℕ) (m : ℕ) → refusalH earlier r ≡ suc m → (8 ≤ suc m) × (suc m ≤ 10)
-shape-number earlier r m e = by-check (failed-given (checksH earlier r) m e)
-  where
-    by-check : Given (checksH earlier r) (suc m) → (8 ≤ suc m) × (suc m ≤ 10)
-    by-check (inl (z, p)) = (omega arith, omega arith)
-    by-check (inr (p, inl (z, q))) = (omega arith, omega arith)
-    by-check (inr (p, inr (q, inl (z, w)))) = (omega arith, omega arith)
-    by-check (inr (p, inr (q, inr (w, x)))) = absurd x
-
--- 5 to 7 are an S record's, 8 to 10 an H record's
+-- an S record's refusal has one of its numbers, an H record's one of its
 pub record-number : (rs : List (List ℕ)) (i m : ℕ) → recordRefusal rs i ≡ suc m
-    → ((isS (getD rs i []) ≡ true) × (5 ≤ suc m) × (suc m ≤ 7)) ⊎ ((isS (getD rs i []) ≡ false) × (8 ≤ suc m)
-    × (suc m ≤ 10))
-record-number rs i m e = bool-case (isS (getD rs i []))
-    (λ a. let z = statement-number (count isS rs) (getD rs i []) m (rw a at e) in inl (a, z .0, z .1))
-    (λ a. let z = shape-number (take i rs) (getD rs i []) m (rw a at e) in inr (a, z .0, z .1))
+    → ((isS (getD rs i []) ≡ true) × (mem (suc m) numbersS ≡ true)) ⊎ ((isS (getD rs i []) ≡ false)
+    × (mem (suc m) numbersH ≡ true))
+record-number rs i m e =
+    let r = getD rs i [] in
+    bool-case (isS r)
+    (λ a. inl (a, failed-number (λ n. mem n numbersS) (checksS (count isS rs) r) refl m (rw a at e)))
+    (λ a. inr (a, failed-number (λ n. mem n numbersH) (checksH (take i rs) r) refl m (rw a at e)))
 
--- the number is 1 to 10; for 1, 2 and 3 the place is 0, for the others it is the number of a record
-pub bad-number : (s : List ℕ) (x : Refusal) → BadInput s x
-    → (1 ≤ x .number) × (x .number ≤ 10) × (x .number ≤ 3 → x .place ≡ 0)
-    × (4 ≤ x .number → x .place < length (recordsOf s))
-bad-number s x (bad-length e a) = rw e (omega arith, omega arith, (λ l. refl), λ l. absurd (omega arith))
-bad-number s x (bad-kind i e a lt f w) = rw e (omega arith, omega arith, (λ l. absurd (omega arith)), λ l. lt)
-bad-number s x (bad-statements e a f b) = rw e (omega arith, omega arith, (λ l. refl), λ l. absurd (omega arith))
-bad-number s x (bad-shapes e a f b c) = rw e (omega arith, omega arith, (λ l. refl), λ l. absurd (omega arith))
-bad-number s x (bad-record n i e a f b c lt g w) = rw e (⊎-elim
-    (λ (p : (isS (getD (recordsOf s) i []) ≡ true) × (5 ≤ suc n) × (suc n ≤ 7)).
-    (omega arith, omega arith, (λ (l : suc n ≤ 3). absurd (omega arith)), λ (l : 4 ≤ suc n). lt))
-    (λ (p : (isS (getD (recordsOf s) i []) ≡ false) × (8 ≤ suc n) × (suc n ≤ 10)).
-    (omega arith, omega arith, (λ (l : suc n ≤ 3). absurd (omega arith)), λ (l : 4 ≤ suc n). lt))
-    (record-number (recordsOf s) i n w))
+pub among : (p : ℕ → Bool) (l : List ℕ) → all p l ≡ true → (n : ℕ) → mem n l ≡ true → p n ≡ true
+among p l k n h = all-in p l n k (mem-in n l h)
+
+-- numbers of the input's that are 5 or more
+later : (l : List ℕ) → all (λ k. mem k numbersInput) l ≡ true → all (leb 5) l ≡ true → (n : ℕ) → mem n l ≡ true
+    → (mem n numbersInput ≡ true) × (5 ≤ n)
+later l t u n h = (among (λ k. mem k numbersInput) l t n h, leb-true 5 n (among (leb 5) l u n h))
+
+-- the number is one of the input's; for 1, 2 and 3 the place is 0, for the others it is the number of a record
+pub bad-number : (s : List ℕ) (x : Refusal) → BadInput s x → (mem (x .number) numbersInput ≡ true)
+    × (x .number ≤ 3 → x .place ≡ 0) × (4 ≤ x .number → x .place < length (recordsOf s))
+bad-number s x (bad-length e a) = rw e (refl, (λ l. refl), λ l. absurd (omega arith))
+bad-number s x (bad-kind i e a lt f w) = rw e (refl, (λ l. absurd (omega arith)), λ l. lt)
+bad-number s x (bad-statements e a f b) = rw e (refl, (λ l. refl), λ l. absurd (omega arith))
+bad-number s x (bad-shapes e a f b c) = rw e (refl, (λ l. refl), λ l. absurd (omega arith))
+bad-number s x (bad-record n i e a f b c lt g w) =
+    let k : (mem (suc n) numbersInput ≡ true) × (5 ≤ suc n) = ⊎-elim
+    (λ (p : (isS (getD (recordsOf s) i []) ≡ true) × (mem (suc n) numbersS ≡ true)).
+    later numbersS refl refl (suc n) (p .1))
+    (λ (p : (isS (getD (recordsOf s) i []) ≡ false) × (mem (suc n) numbersH ≡ true)).
+    later numbersH refl refl (suc n) (p .1)) (record-number (recordsOf s) i n w) in
+    rw e (k .0, (λ l. absurd (let h = k .1 in omega arith)), λ l. lt)

@@ -10,7 +10,7 @@ use lib.ListN.{length, length-map}
 use borrow.Author.Tests.{eqb-false, eqb-true}
 use Rattle.model.specs.Base.{mem, numbers}
 use Rattle.model.specs.Heap.{Heap, Slot, Val, cell, closed, holds, kept, next, null, order, undef, unused}
-use Rattle.model.specs.Shape.{Seg, cells, core, cut, cutFrom, last, node, nodeSlot, nodeVal, numbered, segments, shape}
+use Rattle.model.specs.Shape.{Seg, cells, core, cut, cutFrom, last, node, nodeSlot, nodeVal, segments, shape}
 use Rattle.model.proofs.shapes.Bound.{nodes-core}
 use Rattle.model.proofs.expansion.Cores.{first-inj}
 use Rattle.model.specs.Notions.{Kept, Expands, cat, flat, segAt, AllUsed, Closed, ClosedHeap, seg, Canon}

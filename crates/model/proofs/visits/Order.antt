@@ -48,6 +48,27 @@ pigeon (suc b) l nd h =
     let ne : (n ≡ b → ⊥) = λ e. clash (subst (λ x. mem x (del b l) ≡ true) e k) (gone-del b l nd) in omega arith) in
     omega (arith, length-del b l)
 
+-- and a list that holds all numbers below b has at least b
+keep-del : (x n : ℕ) (l : List ℕ) → (n ≡ x → ⊥) → mem n l ≡ true → mem n (del x l) ≡ true
+unfolding del
+keep-del x n [] ne h = h
+keep-del x n (y ∷ l) ne h = bool-case (eqb x y)
+    (λ e. rw e (mem-cases n y l h (λ q. absurd (ne (q ∙ sym (eqb-true x y e)))) (λ k. k)))
+    (λ e. rw e (mem-cases n y l h (λ q. rw (q, eqb-same y)) (λ k. mem-there n y (del x l) (keep-del x n l ne k))))
+
+shorter-del : (x : ℕ) (l : List ℕ) → mem x l ≡ true → suc (length (del x l)) ≤ length l
+unfolding del
+shorter-del x [] h = clash h refl
+shorter-del x (y ∷ l) h = bool-case (eqb x y) (λ e. rw e (omega arith))
+    (λ e. let r = shorter-del x l (rw e at h) in rw e (omega arith))
+
+pub crowd : (b : ℕ) (l : List ℕ) → ((n : ℕ) → n < b → mem n l ≡ true) → b ≤ length l
+crowd zero l h = omega arith
+crowd (suc b) l h =
+    let r = crowd b (del b l) (λ n k. let ne : (n ≡ b → ⊥) = λ e. omega arith in keep-del b n l ne
+    (h n (omega arith))) in
+    omega (arith, shorter-del b l (h b (omega arith)))
+
 pub nodup-snoc : (s : List ℕ) (c : ℕ) → NoDup s → mem c s ≡ false → NoDup (s ++ c ∷ [])
 nodup-snoc [] c nd h = (refl, tt)
 nodup-snoc (x ∷ s) c nd h = (

@@ -26,7 +26,7 @@ returns-2 c =
     let w = c .before .before .write-refusal in
     let a = c .before .before .before .before .before .before .before .before .before .before .args in
     let g = c .before .before .before .before .before .outcome2 .given .0 in
-    let e : a .outcome ≡ translated.Refused (g .0) (g .1 .0) = search needs in
+    let e : a .outcome ≡ translated.Refused (g .0) (g .1 .0) (g .1 .1 .0) = search needs in
     (search needs, w .ensures .1 ∙ refused-text (a .locations .now) (a .edges .now) e)
 
 pub write-outcome-spec : {M : Type 1} → statement M

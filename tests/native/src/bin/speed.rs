@@ -1,6 +1,9 @@
 //! speed: times of the proved library, of the second translator and, where it was linked, of a translator in C, on the same inputs in
-//! one run. Prints, and judges nothing.
+//! one run. Prints, and judges nothing but that the translator in C answers as the proved library does, damaged inputs too.
 
+use native::damage::{among_shapes, drawn_routine};
+use native::draw::Draw;
+use reference::selftest::damaged_shapes;
 use std::hint::black_box;
 use std::time::Instant;
 
@@ -52,10 +55,11 @@ fn images() {
 
 type Tables = (Vec<u8>, Vec<u8>);
 
+/// The translator in C, where it was linked: refusal, place and node, and both counts.
 #[cfg(peer)]
-fn peer(input: &[u8], t: &mut Tables) -> bool {
+fn peer(input: &[u8], t: &mut Tables) -> Option<[usize; 5]> {
     extern "C" {
-        fn peer_translate(
+        fn peer_translate5(
             input: *const u8,
             len: usize,
             locations: *mut u8,
@@ -66,17 +70,47 @@ fn peer(input: &[u8], t: &mut Tables) -> bool {
             b: *mut u32,
             number: *mut u32,
             place: *mut u32,
+            node: *mut u32,
         ) -> i32;
     }
-    let mut n = [0u32; 4];
-    let [a, b, c, d] = &mut n;
-    unsafe { peer_translate(input.as_ptr(), input.len(), t.0.as_mut_ptr(), t.0.len(), t.1.as_mut_ptr(), t.1.len(), a, b, c, d) };
-    true
+    let mut n = [0u32; 5];
+    let [a, b, c, d, e] = &mut n;
+    unsafe {
+        peer_translate5(input.as_ptr(), input.len(), t.0.as_mut_ptr(), t.0.len(), t.1.as_mut_ptr(), t.1.len(), a, b, c, d, e)
+    };
+    let [locations, edges, number, place, node] = n.map(|number| number as usize);
+    Some([number, place, node, locations, edges])
 }
 
 #[cfg(not(peer))]
-fn peer(_: &[u8], _: &mut Tables) -> bool {
-    false
+fn peer(_: &[u8], _: &mut Tables) -> Option<[usize; 5]> {
+    None
+}
+
+/// Both answers and all tables are the same. Gives the refusal, none where there is no translator in C.
+fn agree(input: &[u8]) -> Option<usize> {
+    let mut theirs = (vec![0xaa; 32_768], vec![0xaa; 65_536]);
+    let told = peer(input, &mut theirs)?;
+    let mut ours = (vec![0x55; 32_768], vec![0x55; 65_536]);
+    let (refusal, [locations, edges]) = native::translate(input, &mut ours.0, &mut ours.1);
+    let answer = [refusal.number.into(), refusal.place, refusal.node.0.into(), locations, edges];
+    assert_eq!(answer, told, "the translator in C on {input:x?}");
+    assert!(ours == theirs, "tables of the translator in C on {input:x?}");
+    Some(told[0])
+}
+
+/// Routines of every kind, and 9, 18 and 19 at every node, by the proved library and by the translator in C.
+fn agreement() {
+    let mut d = Draw::new(1);
+    let mut inputs: Vec<Vec<u8>> = (0..3_000).map(|i| drawn_routine(&mut d, i)).collect();
+    inputs.extend(damaged_shapes(1).take(3_500).map(|(record, _)| among_shapes(&mut d, &record).0));
+    let mut met = [0; 20];
+    for refusal in inputs.iter().filter_map(|input| agree(input)) {
+        met[refusal] += 1;
+    }
+    if met != [0; 20] {
+        println!("\nthe same as in C: refusal, place, node, counts and tables of {} routines, by refusal {met:?}", inputs.len());
+    }
 }
 
 /// Nanoseconds for one call: proved, second, C. Tables of so many locations and twice as many edges.
@@ -85,7 +119,7 @@ fn times(input: &[u8], places: usize) -> [f64; 3] {
     let calls = if places > 100 && input.len() > 1000 { 30 } else { 300 };
     let ours = best(calls, || native::translate(black_box(input), &mut t.0, &mut t.1));
     let theirs = best(calls.min(20), || reference::translate(black_box(input), &mut t.0, &mut t.1));
-    let c = if peer(input, &mut t) { best(calls, || peer(black_box(input), &mut t)) } else { f64::NAN };
+    let c = if cfg!(peer) { best(calls, || peer(black_box(input), &mut t)) } else { f64::NAN };
     [ours, theirs, c]
 }
 
@@ -137,7 +171,7 @@ fn least_times(input: &[u8], sizes: &[usize]) -> Vec<[f64; 2]> {
         for (times, &places) in least.iter_mut().zip(sizes) {
             let mut t = (vec![0u8; 32 * places], vec![0u8; 64 * places]);
             let ours = round(5, || native::translate(black_box(input), &mut t.0, &mut t.1));
-            let c = if peer(input, &mut t) { round(50, || peer(black_box(input), &mut t)) } else { f64::NAN };
+            let c = if cfg!(peer) { round(50, || peer(black_box(input), &mut t)) } else { f64::NAN };
             *times = [times[0].min(ours), times[1].min(c)];
         }
     }
@@ -194,5 +228,6 @@ fn reached(input: &[u8], places: usize) -> usize {
 
 fn main() {
     images();
+    agreement();
     translations();
 }

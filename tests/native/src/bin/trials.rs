@@ -1,19 +1,12 @@
 //! trials SEED..: inputs with what the second translator answers, for a program in C (tests/controller) to try on the
 //! proved library. Nothing here calls that library. Each seed gives half of what the program wants to see, on a thread
-//! of its own.
-//!
-//! A trial is a letter with its fields. A number has 8 bytes, the low byte first; bytes stand after how many they are.
-//! What is given stands first, then what is told: refusal, place, and the rest.
-//!   T  input, lengths of both tables; counts, L records, E records; refusal, place and counts with full tables
-//!   F  pointers, cells; shape, twelve counters
-//!   U  record, number of counters, these, lengths of pointers and cells; pointers and cells, none where refused
-//!   S  pointers, cells, statement, pick, cell; answer (four bytes), pointers, cells
-//!   R  lengths of both tables, both counts, which table, number; where the record begins, its length
-//!   Z  the end: how many trials there were
+//! of its own. How they are written: src/stream.rs.
 
-use native::damage::{drawn_routine, many_nodes, spoil_shape};
+use native::damage::{among_shapes, any_values, counters_of, drawn_routine, many_nodes, spoil_shape, spoiled};
 use native::draw::{damage_record, damaged_image, image, statement, Draw};
 use native::rings::{exact, fork, full, plain_ring, ring, ring_at_border, FULL};
+use native::stream::Stream;
+use reference::selftest::damaged_shapes;
 use reference::{Refusal, Stepped, Translated};
 use std::collections::HashSet;
 use std::io::Write;
@@ -25,61 +18,12 @@ const EXACT: usize = 20;
 const OTHER: usize = 2_500;
 const HEAPS: usize = 10_200;
 const FEW: usize = 2_600;
+/// Each of 9, 18 and 19 at each node so often, and others.
+const EACH_NODE: usize = 100;
+const BY_CHANCE: usize = 1_000;
 
 /// The bytes of the bench's tables.
 const BENCH: [usize; 2] = [4_096, 8_192];
-
-#[derive(Default)]
-struct Stream {
-    bytes: Vec<u8>,
-    trials: usize,
-}
-
-impl Stream {
-    fn begin(&mut self, letter: u8) {
-        self.bytes.push(letter);
-        self.trials += 1;
-    }
-
-    fn number(&mut self, number: usize) {
-        self.bytes.extend_from_slice(&(number as u64).to_le_bytes());
-    }
-
-    fn numbers(&mut self, numbers: &[usize]) {
-        numbers.iter().for_each(|&number| self.number(number));
-    }
-
-    fn block(&mut self, bytes: &[u8]) {
-        self.number(bytes.len());
-        self.bytes.extend_from_slice(bytes);
-    }
-
-    /// A refusal's number and place, both 0 for none.
-    fn refusal(&mut self, refusal: Option<Refusal>) {
-        let Refusal { number, place } = refusal.unwrap_or(Refusal { number: 0, place: 0 });
-        self.numbers(&[number.into(), place]);
-    }
-}
-
-/// The records in use; all bytes after them are zero.
-fn in_use(mut table: Vec<u8>, count: usize) -> Vec<u8> {
-    let rest = table.split_off(32 * count);
-    assert!(rest.iter().all(|&byte| byte == 0));
-    table
-}
-
-fn translation(out: &mut Stream, input: &[u8], lengths: [usize; 2], full: Translated) -> Translated {
-    let [mut locations, mut edges] = lengths.map(|length| vec![0xa5; length]);
-    let told = reference::translate(input, &mut locations, &mut edges);
-    out.begin(b'T');
-    out.block(input);
-    out.numbers(&lengths);
-    out.numbers(&[told.refusal.into(), told.place, told.locations, told.edges]);
-    out.block(&in_use(locations, told.locations));
-    out.block(&in_use(edges, told.edges));
-    out.numbers(&[full.refusal.into(), full.place, full.locations, full.edges]);
-    told
-}
 
 /// Listings that just fit the bench's tables, and that just do not: which refusal must come.
 fn at_the_limits(out: &mut Stream, d: &mut Draw) {
@@ -95,16 +39,16 @@ fn at_the_limits(out: &mut Stream, d: &mut Draw) {
         let mut different = HashSet::new();
         while different.len() < EXACT {
             let (input, listed) = exact(d, wanted);
-            let told = translation(out, &input, BENCH, listed);
+            let told = out.translation(&input, BENCH, listed);
             assert_eq!(told.refusal, refusal);
             different.insert(input);
         }
     }
     for chooses in 0..EXACT {
         let (input, listed) = plain_ring(d, 64, 2, 64);
-        assert_eq!(translation(out, &input, BENCH, listed).refusal, 0);
+        assert_eq!(out.translation(&input, BENCH, listed).refusal, 0);
         let (input, listed) = plain_ring(d, 43, 3, 2 * chooses);
-        assert_eq!(translation(out, &input, BENCH, listed).refusal, 11);
+        assert_eq!(out.translation(&input, BENCH, listed).refusal, 11);
     }
 }
 
@@ -129,18 +73,18 @@ fn lengths(d: &mut Draw, full: &Translated) -> [usize; 2] {
 fn translations(out: &mut Stream, d: &mut Draw) {
     for i in 0..RANDOM {
         let input = drawn_routine(d, i);
-        translation(out, &input, BENCH, full(&input));
+        out.translation(&input, BENCH, full(&input));
     }
     for i in 0..BORDER {
         let ring = if i % 50 == 0 { ring(d, 400) } else { ring_at_border(d) };
         let input = fork(&ring, i % 3, i % 2);
-        translation(out, &input, BENCH, full(&input));
+        out.translation(&input, BENCH, full(&input));
     }
     at_the_limits(out, d);
     for i in 0..OTHER {
         let input = if i % 10 == 0 { fork(&ring_at_border(d), 1, 1) } else { drawn_routine(d, i) };
         let listed = full(&input);
-        translation(out, &input, lengths(d, &listed), listed);
+        out.translation(&input, lengths(d, &listed), listed);
     }
 }
 
@@ -226,19 +170,31 @@ fn drawn_unfolding(d: &mut Draw, i: usize) -> (Vec<u8>, Vec<u32>, [usize; 2]) {
 fn unfoldings(out: &mut Stream, d: &mut Draw) {
     for i in 0..FEW {
         let (record, counters, lengths) = drawn_unfolding(d, i);
-        let [mut pointers, mut cells] = lengths.map(|length| vec![0xa5; length]);
-        let refusal = reference::unfold(&record, &counters, &mut pointers, &mut cells).err();
-        if refusal.is_some() {
-            assert!(pointers.drain(..).chain(cells.drain(..)).all(|byte| byte == 0xa5));
-        }
-        out.begin(b'U');
-        out.block(&record);
-        out.number(counters.len());
-        counters.iter().for_each(|&counter| out.number(counter as usize));
-        out.numbers(&lengths);
-        out.refusal(refusal);
-        out.block(&pointers);
-        out.block(&cells);
+        out.unfolding(&record, &counters, lengths);
+    }
+}
+
+/// A record that keeps the layout, among the starting shapes of a routine and in an unfolding. Gives what comes, at the place of the
+/// record.
+fn both_ways(out: &mut Stream, d: &mut Draw, record: &[u8; 32]) -> [Option<Refusal>; 2] {
+    let (input, at) = among_shapes(d, record);
+    let listed = full(&input);
+    let tables = if d.one_in(3) { lengths(d, &listed) } else { BENCH };
+    let Translated { refusal: number, place, node, .. } = out.translation(&input, tables, listed);
+    let counters = counters_of(d, record);
+    let unfolded = out.unfolding(record, &counters, [6, 240]);
+    [(place == at).then_some(Refusal { number, place: 0, node }), unfolded]
+}
+
+/// H records that keep the layout and are no shapes: made on purpose, so that what is due is known, and by chance.
+fn damaged(out: &mut Stream, d: &mut Draw) {
+    // 9 and 18 at twelve nodes, 19 at eleven
+    for (record, due) in damaged_shapes(d.number()).take(35 * EACH_NODE) {
+        assert_eq!(both_ways(out, d, &record), [Some(due); 2], "{record:x?}");
+    }
+    for i in 0..BY_CHANCE {
+        let record = if i % 2 == 0 { spoiled(d) } else { any_values(d) };
+        both_ways(out, d, &record);
     }
 }
 
@@ -280,7 +236,7 @@ fn records(out: &mut Stream, d: &mut Draw) {
 
 fn batch(seed: u64) -> Stream {
     let (mut out, mut d) = (Stream::default(), Draw::new(seed));
-    for kind in [translations, folds, steps, unfoldings, records] {
+    for kind in [translations, folds, steps, unfoldings, records, damaged] {
         kind(&mut out, &mut d);
     }
     out

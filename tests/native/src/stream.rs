@@ -1,0 +1,89 @@
+//! Trials as they are written for a program in C (tests/controller): what is given to a call, and what the second translator answers.
+//! Nothing here calls the proved library.
+//!
+//! A trial is a letter with its fields. A number has 8 bytes, the low byte first; bytes stand after how many they are.
+//! What is given stands first, then what is told: refusal, place, node, and the rest.
+//!   T  input, lengths of both tables; counts, L records, E records; refusal, place, node and counts with full tables
+//!   F  pointers, cells; shape, twelve counters
+//!   U  record, number of counters, these, lengths of pointers and cells; pointers and cells, none where refused
+//!   S  pointers, cells, statement, pick, cell; answer (four bytes), pointers, cells
+//!   R  lengths of both tables, both counts, which table, number; where the record begins, its length
+//!   Z  the end: how many trials there were
+
+use reference::{Refusal, Translated};
+
+#[derive(Default)]
+pub struct Stream {
+    pub bytes: Vec<u8>,
+    pub trials: usize,
+}
+
+impl Stream {
+    pub fn begin(&mut self, letter: u8) {
+        self.bytes.push(letter);
+        self.trials += 1;
+    }
+
+    pub fn number(&mut self, number: usize) {
+        self.bytes.extend_from_slice(&(number as u64).to_le_bytes());
+    }
+
+    pub fn numbers(&mut self, numbers: &[usize]) {
+        numbers.iter().for_each(|&number| self.number(number));
+    }
+
+    pub fn block(&mut self, bytes: &[u8]) {
+        self.number(bytes.len());
+        self.bytes.extend_from_slice(bytes);
+    }
+
+    /// A refusal's number, place and node, all 0 for none.
+    pub fn refusal(&mut self, refusal: Option<Refusal>) {
+        let Refusal { number, place, node } = refusal.unwrap_or(Refusal::at(0, 0));
+        self.numbers(&[number.into(), place, node.0.into()]);
+    }
+
+    fn answer(&mut self, &Translated { refusal: number, place, node, locations, edges }: &Translated) {
+        self.refusal(Some(Refusal { number, place, node }));
+        self.numbers(&[locations, edges]);
+    }
+
+    /// A translation into tables of these lengths; `full` is the answer with full tables.
+    pub fn translation(&mut self, input: &[u8], lengths: [usize; 2], full: Translated) -> Translated {
+        let [mut locations, mut edges] = lengths.map(|length| vec![0xa5; length]);
+        let told = reference::translate(input, &mut locations, &mut edges);
+        self.begin(b'T');
+        self.block(input);
+        self.numbers(&lengths);
+        self.answer(&told);
+        self.block(&in_use(locations, told.locations));
+        self.block(&in_use(edges, told.edges));
+        self.answer(&full);
+        told
+    }
+
+    /// An unfolding into a heap of these lengths.
+    pub fn unfolding(&mut self, record: &[u8], counters: &[u32], lengths: [usize; 2]) -> Option<Refusal> {
+        let [mut pointers, mut cells] = lengths.map(|length| vec![0xa5; length]);
+        let refusal = reference::unfold(record, counters, &mut pointers, &mut cells).err();
+        if refusal.is_some() {
+            assert!(pointers.drain(..).chain(cells.drain(..)).all(|byte| byte == 0xa5));
+        }
+        self.begin(b'U');
+        self.block(record);
+        self.number(counters.len());
+        counters.iter().for_each(|&counter| self.number(counter as usize));
+        self.numbers(&lengths);
+        self.refusal(refusal);
+        self.block(&pointers);
+        self.block(&cells);
+        refusal
+    }
+}
+
+/// The records in use; all bytes after them are zero.
+fn in_use(mut table: Vec<u8>, count: usize) -> Vec<u8> {
+    let rest = table.split_off(32 * count);
+    assert!(rest.iter().all(|&byte| byte == 0));
+    table
+}
