@@ -6,7 +6,6 @@ pub mod Canonical
 pub mod Unfold
 pub mod Iso
 pub mod SameShape
-pub mod Reach
 pub mod Segments
 pub mod OneMerge
 pub mod Merge
