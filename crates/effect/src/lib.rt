@@ -172,6 +172,7 @@ pub fn run_effect(d: Decoded, x: usize, pointers: &mut [u8], cells: &mut [u8]) -
         6 => new_cell(d.u, x, pointers, cells),
         7 => free_at(at, pointers, cells),
         12 => relink_through(at, v, cells),
+        13 => set_pointer(d.u, 0xfe, pointers),
         _ => test_fault(d, &pointers[..]),
     }
 }
