@@ -133,7 +133,18 @@ module _ (W : Heap) (sg : ℕ → Seg) (H : Heap) (X : Expansion W sg H) where
     ptrs = X .ptrs;
   }
 
--- ---- what holds of an effect holds after lost cells are settled
+-- ---- lost cells settled: collected, or a leak
+
+-- a fault stays, and so does a heap that keeps its cells
+pub settle-fault : (b : Bool) (f : Fault) → settle b (fault f) ≡ fault f
+settle-fault true f = refl
+settle-fault false f = refl
+
+pub settle-kept : (b : Bool) (h : Heap) → Kept h → settle b (done h) ≡ done h
+settle-kept true h k = ap done (collect-same h k)
+settle-kept false h k = ap (λ x. cond x (done h) (fault leak)) (kept-test h k)
+
+-- what holds of the effect, of each fault and of a heap when it is collected
 
 pub settle-any : (b : Bool) (P : Effect → Type 0) → ((f : Fault) → P (fault f))
     → ((h : Heap) → P (done h) → P (done (collect h))) → (x : Effect) → P x → P (settle b x)

@@ -144,14 +144,14 @@ view-acts (tests u s) h n e = absurd e
 view-acts picks h n e = absurd e
 
 -- so it collects nothing
-pub view-keeps : (k : Kind) (h : Heap) (n : ℕ) → Views (view (actionOf k) h) n → collects k ≡ false
-view-keeps k h n e = ap collects (view-acts k h n e .1)
+pub view-collects : (k : Kind) (h : Heap) (n : ℕ) → Views (view (actionOf k) h) n → collects k ≡ false
+view-collects k h n e = ap collects (view-acts k h n e .1)
 
 pub tail-used : (op : Op) (x n k : ℕ) (h g : Heap) → Views (view (action op) (splitHeap n k h)) n → eqb k n ≡ false
     → Used (next h) n
     → carryOut op x (splitHeap n k h) ≡ done g → Used (next g) k
 tail-used op x n k h g a d u e =
     subst (InUse k) e
-    (rw (view-keeps (kind op) (splitHeap n k h) n a) (keep-used k (perform (action op) x (splitHeap n k h))
+    (rw (view-collects (kind op) (splitHeap n k h) n a) (keep-used k (perform (action op) x (splitHeap n k h))
     (effect-used (action op) x n k (splitHeap n k h) a d (subst (λ nx. Used nx k) (sym (next-split n k h))
     (tail-in (next h) n k u)))))

@@ -22,7 +22,7 @@ use Rattle.model.proofs.expansion.Start.{start}
 use Rattle.model.proofs.expansion.Step.{branch-same, step-go}
 use Rattle.model.proofs.ways.Relinks.{heap-leaks, split-leaks}
 use Rattle.model.proofs.ways.Ways.{count-length, size-at, whole-fits, view-node, split-fits, one-alone}
-use Rattle.model.proofs.expansion.Splits.{view-acts, view-keeps}
+use Rattle.model.proofs.expansion.Splits.{view-acts, view-collects}
 use Rattle.model.proofs.ways.Views.{view-looks, acts-no-pick, ways-guards}
 
 -- ---- guards on counters
@@ -116,7 +116,7 @@ module _ (s : ℕ) (st : Stmt) (H : Heap) (cl : ClosedHeap H) (kp : Kept H) wher
       let X = start H cl kp in
       let aw : accepts op-of d (y .heap) ≡ true =
       accept-room op-of d (y .heap) (view-looks does (shape H) n q .roomy (y .heap) nodes) (λ z. omega arith) in
-      let k = view-keeps (kind op-of) (shape H) n q in
+      let k = view-collects (kind op-of) (shape H) n q in
       fault-lands s st H cl kp y e leak gd
       (step-go st d (y .heap) g aw
       ∙ ap (λ c. answerOf st (branch op-of 0 (y .heap)) (settle c (perform does nodes (y .heap)))) k
