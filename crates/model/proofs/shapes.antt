@@ -9,3 +9,4 @@ pub mod SameShape
 pub mod Segments
 pub mod OneMerge
 pub mod Merge
+pub mod Count
