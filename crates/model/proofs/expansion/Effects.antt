@@ -56,7 +56,7 @@ closed-ptr nx [] u k = tt
 closed-ptr nx (v ∷ vs) zero k = k .0
 closed-ptr nx (v ∷ vs) (suc u) k = closed-ptr nx vs u (k .1)
 
-closed-set : (nx : ℕ → Slot) (vs : List Val) (u : ℕ) (v : Val) → AllClosed nx vs → Closed nx v
+pub closed-set : (nx : ℕ → Slot) (vs : List Val) (u : ℕ) (v : Val) → AllClosed nx vs → Closed nx v
     → AllClosed nx (set vs u v)
 closed-set nx [] u v k q = tt
 closed-set nx (x ∷ vs) zero v k q = (q, k .1)

@@ -9,6 +9,7 @@ use native.Mathlib.Omega.{arith}
 use lib.Dec.{eqb}
 use lib.ListN.{length, length-map}
 use borrow.Author.Tests.{not-true}
+use Rattle.model.specs.Heap.{IsHeap}
 use Rattle.model.specs.Image.{Stepping, answered, cellSlot, checksImage, checksStatement, checksStep, entryFits, heapOf, noStep, pastEnd, refusalImage, stays, stepImage, stepVerdict, verdictBy, StepAnswer, toFault, toNext, toStop}
 use Rattle.model.specs.Machine.{Answer, Effect, Entry, Stmt, accepts, answerOf, branch, done, fault, faulted, refused, carryOut, step, stopped, went, entry, Fault, faultNumber, atNull, atUndef, leak, kind, action, isStop, perform, collects, settle}
 use Rattle.model.specs.Records.{checksS, firstFailed, isAccepted, isS, refusal, slotByte, stmtOf, unless, valByte, valOf}
@@ -92,6 +93,16 @@ step-answers r p c ps cs z = by-case (step-cases r p c ps cs)
     by-case (inl (n, e, q)) = not-both (stepVerdict (stepImage r p c ps cs .answer)) (refusal (suc n) 0) z
         (ap (λ (s : Stepping). stepVerdict (s .answer)) q)
     by-case (inr (e, q)) = q
+
+-- and its image is a heap
+pub step-heap : (r : List ℕ) (p c : ℕ) (ps cs : List ℕ) → stepVerdict (stepImage r p c ps cs .answer) ≡ isAccepted
+    → IsHeap (heapOf ps cs)
+step-heap r p c ps cs z = by-case (step-cases r p c ps cs)
+  where
+    by-case : StepCases r p c ps cs → IsHeap (heapOf ps cs)
+    by-case (inl (n, e, q)) = not-both (stepVerdict (stepImage r p c ps cs .answer)) (refusal (suc n) 0) z
+        (ap (λ (s : Stepping). stepVerdict (s .answer)) q)
+    by-case (inr (e, q)) = image-accepted ps cs .0 (step-fits r (entry p c) ps cs e .0) .2
 
 abbrev KnownFault : StepAnswer → Type 0
 KnownFault (toNext b n) = Unit {0}
