@@ -1,13 +1,13 @@
 -- What is left by the marks of a visit is the collected heap, and the marks tell its core cells.
-use Prim.Native.Nat.{ℕ, suc, _+_, _<_, _≤_}
+use Prim.Native.Nat.{ℕ, suc, _+_, _<_}
 use native.Mathlib.Omega.{arith}
 use mathlib.Core.Path.{_≡_, refl, sym, ap, ap₂, _∙_}
-use mathlib.Core.Bool.{Bool, cond, not, Bool·not-not}
+use mathlib.Core.Bool.{Bool, not, Bool·not-not}
 use mathlib.Core.List.{List, [], _∷_, map}
 use lib.Dec.{eqb}
 use lib.ListN.{length, getD}
 use Rattle.model.specs.Base.{mem}
-use Rattle.model.specs.Heap.{Heap, order}
+use Rattle.model.specs.Heap.{order}
 use Rattle.model.specs.Image.{cellSlot, heapOf}
 use Rattle.model.specs.Machine.{collect, keepSlots}
 use Rattle.model.specs.Records.{valOf}

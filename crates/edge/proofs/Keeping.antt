@@ -2,7 +2,7 @@
 -- the run would be done with the heap as it is, which is its own shape, and each counter is carried.
 use Prim.Native.Nat.{ℕ, _+_, _^_, _≤_, _<_}
 use mathlib.Core.Path.{_≡_, refl, subst, sym, ap, ap₂, _∙_}
-use mathlib.Core.Bool.{_&&_, true, false, cond}
+use mathlib.Core.Bool.{_&&_, true, false}
 use mathlib.Core.List.{List, [], _∷_, map, map-map}
 use native.Mathlib.Omega.{arith}
 use lib.Dec.{leb}
@@ -64,9 +64,12 @@ pub still-faults : {l : List ℕ} {d : Decoded} {y : Way} (f : ℕ) → keepsAt 
 still-faults {l = l} {d = d} {y = y} f stays t bad s h R =
     let k = length (h .slots) in
     let x = answer-fault (action (opIn d)) k h (closed-test h (R .isShape .closed)) f h
-    (subst (λ (g : Heap). effectOf f g ≡ effect (opIn d) k g) (shape-is R) (t k (shapeOf l) refl)) bad in
-    (x .0, x .2, ap (carryOut (opIn d) k) (still-heap R stays)
-        ∙ ap (settle (collects (kind (opIn d)))) (x .1) ∙ settle-fault (collects (kind (opIn d))) _)
+    (subst (λ (g : Heap). effectOf f g ≡ effect (opIn d) k g) (shape-is R) (t k (shapeOf l) refl)) bad in (
+      x .0,
+      x .2,
+      ap (carryOut (opIn d) k) (still-heap R stays)
+          ∙ ap (settle (collects (kind (opIn d)))) (x .1) ∙ settle-fault (collects (kind (opIn d))) _,
+    )
 
 pub still-keeps : (l : List ℕ) (d : Decoded) (f : ℕ) → TestFault d (take 6 (drop 4 l)) f → f ≡ 0 → KeepsShape l d
 still-keeps l d f t z n = sym (sym (ap (λ i. effectOf i (shapeOf l)) z) ∙ t n (shapeOf l) refl)

@@ -120,8 +120,7 @@ module _ (cs l : List ℕ) (nd : NoDup l) (left : List Slot)
             length-map l (slotAt cs),
             used-below (map (slotAt cs) l) i
                 (cell c, e),
-          ) in
-          (
+          ) in (
             h,
             stays (getD l i 0) (mem-at l i h) ∙ sym (getD-map (slotAt cs) l i 0 unused h) ∙ e,
           )

@@ -11,7 +11,7 @@ use Rattle.model.specs.Heap.{Heap, IsHeap, Slot, Val, cell, closed, each
 use Rattle.model.specs.Shape.{Seg}
 use Rattle.model.specs.Notions.{Kept, Expansion, AllClosed, Closed, ClosedHeap, Used}
 use Rattle.model.proofs.expansion.Folds.{kept-down, kept-up}
-use Rattle.model.proofs.lists.Logic.{and-both, and-l, and-r, bool-case, bool-ext, clash}
+use Rattle.model.proofs.lists.Logic.{and-both, and-l, and-r, bool-ext, clash}
 use Rattle.model.proofs.expansion.Writes.{slot-clash}
 
 pub used-of : (s : Slot) → inUse s ≡ true → (v : Val) × (s ≡ holds v)

@@ -1,7 +1,6 @@
 -- What a plain step that drops leaves of an image, byte by byte.
 use Prim.Native.Nat.{_<_, ℕ}
 use mathlib.Core.Path.{_∙_, _≡_, ap, sym}
-use mathlib.Core.Bool.{true}
 use mathlib.Core.List.{List, map}
 use native.Mathlib.Omega.{arith}
 use lib.Dec.{eqb}
@@ -10,7 +9,7 @@ use borrow.Author.Tests.{eqb-true}
 use Rattle.model.specs.Base.{mem}
 use Rattle.model.specs.Heap.{Heap, next, null, order, unused}
 use Rattle.model.specs.Image.{Stepping, answered, cellSlot, heapOf, stepImage, stepVerdict, toNext}
-use Rattle.model.specs.Machine.{collect, drops, entry, kind, setPtr, went}
+use Rattle.model.specs.Machine.{collect, entry, kind, setPtr, went}
 use Rattle.model.specs.Notions.{ClosedHeap, Reaches}
 use Rattle.model.specs.Records.{byte, isAccepted, opOf, slotByte, stmtOf, valByte, valOf}
 use Rattle.model.proofs.expansion.Collect.{collect-slots, lost-goes, visited-stays}

@@ -10,7 +10,7 @@ use borrow.Author.Tests.{eqb-true}
 use Rattle.model.specs.Base.{mem, numbers}
 use Rattle.model.specs.Heap.{Heap, Slot, Val, cell, holds, next, null, order, tour, undef, unused, walk}
 use Rattle.model.specs.Notions.{NoDup, AllClosed, AllUsed, Closed, ClosedHeap, Tours, Used, Walks, at-null, at-seen, at-undef, go, tour-done, tour-more}
-use Rattle.model.proofs.lists.Logic.{bool-case, clash, eqb-same, eqb-sym, mem-append, mem-append-cases, mem-cases, mem-here, mem-one, mem-there, not-true, or-false-l, or-false-r}
+use Rattle.model.proofs.lists.Logic.{bool-case, clash, eqb-same, eqb-sym, mem-append, mem-append-cases, mem-cases, mem-here, mem-one, mem-there, or-false-l, or-false-r}
 use Rattle.model.proofs.lists.Numbers.{length-numbers, mem-numbers, numbers-mem, numbers-nodup}
 
 -- a list without the first x

@@ -1,19 +1,19 @@
 -- Drops: the step to the collected heap, the one edge, and the counters that it carries.
 use Prim.Native.Nat.{_<_, suc, zero, ℕ}
 use mathlib.Core.Path.{_∙_, _≡_, ap, refl, subst, sym}
-use mathlib.Core.Logic.{_↔_, _⊎_, inl, inr}
-use mathlib.Core.Bool.{Bool, cond, false, true}
+use mathlib.Core.Logic.{_⊎_, inl, inr}
+use mathlib.Core.Bool.{cond, false, true}
 use mathlib.Core.List.{List, [], _∷_, map}
 use native.Mathlib.Omega.{arith}
 use lib.ListN.{getD, length, set}
 use borrow.Author.Tests.{ne-eqb}
 use Rattle.model.specs.Base.{joined, mem}
-use Rattle.model.specs.Edges.{Edge, Update, Weight, at, counter, edgeBy, edgesAt, one, stepBy, updateOf, view, waysOf, whole}
+use Rattle.model.specs.Edges.{Edge, Update, Weight, at, edgeBy, edgesAt, stepBy, updateOf, view, waysOf, whole}
 use Rattle.model.specs.Heap.{Heap, Slot, Val, kept, next, null, order, ptr, tour, undef, walk}
 use Rattle.model.specs.Machine.{Entry, Kind, Op, Stmt, accepts, actionOf, acts, answerOf, branch, choose, clear, collect, collects, copy, done, drops, effect, entry, fault, faulted, free, halts, isNull, isStop, kind, leak, letGo, load, new, perform, picks, relink, same, setNull, setPtr, settle, skip, step, stop, store, tests, went}
 use Rattle.model.specs.Notions.{ClosedHeap, In, Kept, Reaches, segAt}
 use Rattle.model.specs.Shape.{Seg, cells, core, segments, shape}
-use Rattle.model.proofs.expansion.Collect.{collect-closed, collect-same, collect-slots, order-collect}
+use Rattle.model.proofs.expansion.Collect.{collect-same, order-collect}
 use Rattle.model.proofs.expansion.Cuts.{flat-cut, flat-mem, mem-flat-in}
 use Rattle.model.proofs.expansion.Effects.{closed-set}
 use Rattle.model.proofs.expansion.Reach.{order-reaches, reaches-order}
@@ -146,8 +146,7 @@ module _ (st : Stmt) (u : ℕ) (k : kind (st .op) ≡ drops u) where
           let o : mem n (order (collect cut)) ≡ true = rw (order-collect cut cut-closed)
           (reaches-order cut cut-closed n r) in
           let (m, lm, has) = flat-mem ss n
-          (subst (λ l. mem n l ≡ true) (sym (flat-cut (core (collect cut)) (order (collect cut)))) o) in
-          (
+          (subst (λ l. mem n l ≡ true) (sym (flat-cut (core (collect cut)) (order (collect cut)))) o) in (
             updateOf nodes carries (segAt ss m),
             map-in (updateOf nodes carries) (segAt ss m) ss (getD-in ss _ m lm),
             adds-update nodes carries (segAt ss m) n n lt has (rw (ne-eqb n nodes (λ e. omega arith), eqb-same n)),

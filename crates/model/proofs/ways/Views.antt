@@ -9,7 +9,7 @@ use native.Mathlib.Omega.{arith}
 use lib.ListN.{length}
 use Rattle.model.specs.Edges.{Guard, Way, splitHeap, whole, View, noNode, oneNode, twoNodes, view, waysOf, picksOf, Test, isOne, isMore, oneAt, moreAt}
 use Rattle.model.specs.Heap.{Heap, cell, next, Slot, ptr}
-use Rattle.model.specs.Machine.{picks, Kind, Action, actionOf, acceptsCell, point, acts, follow, tests, link, make, release, halts, compare, splice, stay}
+use Rattle.model.specs.Machine.{picks, Kind, Action, acceptsCell, point, acts, follow, link, make, release, compare, splice, stay}
 use Rattle.model.specs.Shape.{Seg}
 use Rattle.model.proofs.expansion.Effects.{closed-ptr}
 use Rattle.model.proofs.expansion.Splits.{pair-is, view-is}
