@@ -22,7 +22,8 @@ use Rattle.model.proofs.records.NodeChecks.{first-fails, none-fails}
 use Rattle.model.proofs.shapes.Canonical.{all-node, visit-count}
 use Rattle.model.proofs.visits.Order.{used-below}
 use Rattle.visit.specs.Visit.{Visited}
-use Rattle.visit.proofs.Laws.{kept-held, visited-length}
+use Rattle.visit.proofs.Whole.{kept-held}
+use Rattle.visit.proofs.Laws.{visited-length}
 use Rattle.canonical.proofs.Finding.{moved-first, place-same}
 
 below-one : (a : ℕ) → ltb a 1 ≡ eqb a 0

@@ -12,7 +12,8 @@ use Rattle.model.specs.Heap.{closed, eachUsed, kept}
 use Rattle.model.specs.Image.{cellSlot, heapOf, lengths, refusalImage, checksImage}
 use Rattle.model.proofs.lists.Logic.{and-l, and-r}
 use Rattle.model.proofs.records.Checks.{given-failed, pass-none}
-use Rattle.visit.proofs.Laws.{kept-held, kept-marked}
+use Rattle.visit.proofs.Whole.{kept-held}
+use Rattle.visit.proofs.Laws.{kept-marked}
 use Rattle.visit.specs.Visit.{VisitReady, Visited}
 use Rattle.image_checks.specs.Checked.{ImageChecked}
 

@@ -19,7 +19,8 @@ use Rattle.model.proofs.visits.Order.{pigeon, toured, used-below}
 use Rattle.model.specs.Notions.{Used}
 use Rattle.effect.specs.Effect.{HasEffect, effectOf}
 use Rattle.effect.proofs.Laws.{answer-done, answer-fault, effect-closed, image-slots}
-use Rattle.visit.proofs.Laws.{kept-held, kept-marked, visited-length}
+use Rattle.visit.proofs.Whole.{kept-held}
+use Rattle.visit.proofs.Laws.{kept-marked, visited-length}
 use Rattle.visit.specs.Visit.{Held, VisitReady, Visited}
 use Rattle.machine.proofs.Laws.{run-collects, run-fault, run-keeps}
 use Rattle.model.specs.Structs.{opIn}

@@ -3,7 +3,7 @@
 use Prim.Native.Nat.{ℕ, suc, _+_, _<_, _≤_}
 use native.Mathlib.Omega.{arith}
 use mathlib.Core.Path.{_≡_, refl, sym, ap, ap₂, _∙_}
-use mathlib.Core.Bool.{Bool, true, not, _&&_, Bool·not-not}
+use mathlib.Core.Bool.{Bool, not, _&&_, Bool·not-not}
 use mathlib.Core.List.{List, [], _∷_, map}
 use lib.Dec.{eqb}
 use lib.ListN.{length, getD, length-map}
@@ -11,10 +11,7 @@ use lib.Seq.{length-take-le}
 use Rattle.model.specs.Base.{mem}
 use Rattle.model.specs.Heap.{Slot, unused, holds, eachUsed, kept, order}
 use Rattle.model.specs.Image.{cellSlot, heapOf}
-use Rattle.model.specs.Shape.{core}
-use Rattle.model.proofs.expansion.Collect.{collect-same}
-use Rattle.model.proofs.expansion.Facts.{test-kept}
-use Rattle.visit.specs.Visit.{Held, Visited}
+use Rattle.visit.specs.Visit.{Visited}
 
 -- tests that agree on the cells
 each-same : (p q : ℕ → Bool) (i : ℕ) (ss : List Slot) → ((c : ℕ) → c < i + length ss → p c ≡ q c) → eachUsed p i ss
@@ -30,11 +27,6 @@ module _ {ps cs o s : List ℕ} {r : ℕ} (d : Visited ps cs o s r) where
       each-same (λ c. not (eqb (getD s c 0) 0)) (λ c. mem c (order (heapOf ps cs))) 0 (map cellSlot cs)
       (λ c k. let h : c < length cs = omega (arith, length-map cs cellSlot) in ap not (d .marked c h)
       ∙ Bool·not-not (mem c (order (heapOf ps cs))))
-
-  -- where no cell is lost, the marks tell the core cells
-  pub kept-held : kept (heapOf ps cs) ≡ true → Held ps cs s
-  kept-held k c h =
-      d .held c h ∙ ap (λ g. core g c) (collect-same (heapOf ps cs) (test-kept (heapOf ps cs) k))
 
   -- the order has r cells, where there is room for all
   pub visited-length : length cs ≤ length o → length (order (heapOf ps cs)) ≡ r

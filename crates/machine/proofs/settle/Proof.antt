@@ -1,5 +1,5 @@
 -- `machine::settle` meets its contract: lost cells are collected at op 13, else they are fault 3.
-use mathlib.Core.Path.{_≡_, sym}
+use mathlib.Core.Path.{sym}
 use borrow.Author.Needs.{needs}
 use borrow.Author.Tests.{eq-eqb, ne-eqb}
 use Rattle.machine.proofs.settle.Statement.{statement}
@@ -8,26 +8,20 @@ use Rattle.machine.proofs.settle.Tie as tie
 returns : tie.Need-returns
 returns c =
     let a = c .before .before .before .before .before .before .before .args in
-    let e : a .op ≡ 13 = search needs in
-    record { fault = rw (eq-eqb (a .op) 13 e); cells = rw (eq-eqb (a .op) 13 e) (c .before .before .collect .ensures) }
+    let e = eq-eqb (a .op) 13 (c .before .before .before .before .if1 .taken) in
+    record { fault = rw e; cells = rw e (c .before .before .collect .ensures) }
 
 returns-2 : tie.Need-returns-2
 returns-2 c =
     let a = c .before .before .before .before .before .before .args in
-    let n : (a .op ≡ 13 → ⊥) = search needs in
-    record {
-      fault = rw (ne-eqb (a .op) 13 n, sym (c .before .keeps-all .ensures), c .if2 .taken);
-      cells = rw (ne-eqb (a .op) 13 n);
-    }
+    let e = ne-eqb (a .op) 13 (c .before .before .before .if1 .left) in
+    record { fault = rw (e, sym (c .before .keeps-all .ensures), c .if2 .taken); cells = rw e }
 
 returns-3 : tie.Need-returns-3
 returns-3 c =
     let a = c .before .before .before .before .before .before .args in
-    let n : (a .op ≡ 13 → ⊥) = search needs in
-    record {
-      fault = rw (ne-eqb (a .op) 13 n, sym (c .before .keeps-all .ensures), c .if2 .left);
-      cells = rw (ne-eqb (a .op) 13 n);
-    }
+    let e = ne-eqb (a .op) 13 (c .before .before .before .if1 .left) in
+    record { fault = rw (e, sym (c .before .keeps-all .ensures), c .if2 .left); cells = rw e }
 
 pub settle-spec : {M : Type 1} → statement M
 settle-spec =

@@ -45,7 +45,7 @@ slots-same p i (holds v ∷ ss) h =
 -- ---- what collection keeps
 
 pub collect-slots : (h : Heap) → length (collect h .slots) ≡ length (h .slots)
-collect-slots h = slots-length (λ c. mem c (order h)) 0 (h .slots)
+collect-slots h = slots-length _ 0 (h .slots)
 
 pub next-collect : (h : Heap) (c : ℕ) → next (collect h) c ≡ cond (mem c (order h)) (next h c) unused
 next-collect h c =

@@ -8,7 +8,7 @@ use native.Mathlib.Omega.{arith}
 use lib.ListN.{getD, length, set}
 use borrow.Author.Tests.{ne-eqb}
 use Rattle.model.specs.Base.{joined, mem}
-use Rattle.model.specs.Edges.{Edge, Update, Weight, at, edgeBy, edgesAt, stepBy, updateOf, view, waysOf, whole}
+use Rattle.model.specs.Edges.{Edge, Update, Way, Weight, at, edgeBy, edgesAt, stepBy, updateOf, view, waysOf, whole}
 use Rattle.model.specs.Heap.{Heap, Slot, Val, kept, next, null, order, ptr, tour, undef, walk}
 use Rattle.model.specs.Machine.{Entry, Kind, Op, Stmt, accepts, actionOf, acts, answerOf, branch, choose, clear, collect, collects, copy, done, drops, effect, entry, fault, faulted, free, halts, isNull, isStop, kind, leak, letGo, load, new, perform, picks, relink, same, setNull, setPtr, settle, skip, step, stop, store, tests, went}
 use Rattle.model.specs.Notions.{ClosedHeap, In, Kept, Reaches, segAt}
@@ -89,6 +89,15 @@ leak-stops st e h g go a c d l =
 
 -- ---- a drop
 
+-- the edge of a step that goes on: to the shape of the heap that it leaves, with the counters of that heap's segments
+went-edge : (s n : ℕ) (y : Way) (b t : ℕ) (g : Heap) → edgeBy s n y (went b t g) ≡ record {
+  branchNo = b;
+  guards = y .guards;
+  to = at t (shape g);
+  updates = map (updateOf n (y .weight)) (segments g);
+} ∷ []
+went-edge s n y b t g = refl
+
 module _ (st : Stmt) (u : ℕ) (k : kind (st .op) ≡ drops u) where
   pub drop-goes : (e : Entry) (h : Heap) → step st e h ≡ went 0 (st .firstTarget) (collect (setPtr u null h))
   drop-goes e h = step-as st e h (drops u) k
@@ -115,6 +124,7 @@ module _ (st : Stmt) (u : ℕ) (k : kind (st .op) ≡ drops u) where
     drop-edge =
         ap (λ (c : Kind). joined (map (λ y. edgeBy i nodes y (stepBy st nodes y)) (waysOf c (view (actionOf c) h) h))) k
         ∙ ap (λ a. joined (edgeBy i nodes (whole [] 0 h) a ∷ [])) (drop-goes (entry 0 nodes) h)
+        ∙ ap (λ es. joined (es ∷ [])) (went-edge i nodes (whole [] 0 h) 0 (st .firstTarget) (collect cut))
 
     module _ (cl : ClosedHeap h) where
       cut-closed : ClosedHeap cut
