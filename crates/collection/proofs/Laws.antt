@@ -26,7 +26,8 @@ left-slots : (s : List ℕ) (p : ℕ → Bool) (i : ℕ) (cs : List ℕ)
     → map cellSlot (leftBytes s i cs) ≡ keepSlots p i (map cellSlot cs)
 left-slots s p i [] h = refl
 left-slots s p i (b ∷ cs) h =
-    ap₂ _∷_ (bool-case (eqb (getD s i 0) 0) (λ e. rw (e, sym (h i (omega arith)), e)) (λ e. rw (e, sym (h i (omega arith)), e)))
+    let k = sym (h i (omega arith)) in
+    ap₂ _∷_ (bool-case (eqb (getD s i 0) 0) (λ e. rw (e, k, e)) (λ e. rw (e, k, e)))
     (left-slots s p (suc i) cs (λ c k. h c (omega arith)))
 
 module _ {ps cs o s : List ℕ} {n : ℕ} (v : Visited ps cs o s n) where

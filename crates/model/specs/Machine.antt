@@ -172,8 +172,8 @@ abbrev pub keep : Effect → Effect
 keep (fault f) = fault f
 keep (done h) = cond (kept h) (done h) (fault leak)
 
--- 02, job 6: "every cell that this leaves unreachable is gone". A slot keeps what it holds where its number, counted from
--- i, passes the test; else it is not in use.
+-- 02, job 6: "every cell that this leaves unreachable is gone". A slot keeps what it holds where its number, counted
+-- from i, passes the test; else it is not in use.
 abbrev pub keepSlots : (ℕ → Bool) → ℕ → List Slot → List Slot
 keepSlots p i [] = []
 keepSlots p i (s ∷ ss) = cond (p i) s unused ∷ keepSlots p (suc i) ss

@@ -141,4 +141,5 @@ pub held-core : (ps cs l : List ℕ) (m c : ℕ) → c < 0xfe → NoDup l → l 
 held-core ps cs l m c f nd e y =
     let h = heapOf ps cs in
     alike-two y ∙ pointing-two c (heldBy cs c l) ps f ∙ ap (λ b. any (isCell c) (map valOf ps) || b)
-    (both-two cs l nd (collect h .slots) (λ d i. visited-stays h d (rw e at i)) (λ d v q. rw e (collect-back h d v q)) c)
+    (both-two cs l nd (collect h .slots) (λ d i. visited-stays h d (rw e at i)) (λ d v q. rw e (collect-back h d v q))
+    c)

@@ -111,8 +111,8 @@ run-effect-spec =
     tie.close
     (tie.spec (λ c. search needs) (λ c. search needs) (λ c. search needs) (λ c. search needs) (λ c κs. search needs)
     (λ c κs. search needs) load-through-requires store-through-requires store-through-requires-2 new-cell-requires
-    free-at-requires relink-through-requires (λ c κs. search needs) test-fault-requires (λ c. search needs) returns (λ c. search needs)
-    returns-2
+    free-at-requires relink-through-requires (λ c κs. search needs) test-fault-requires (λ c. search needs) returns
+    (λ c. search needs) returns-2
     (λ c. search needs) (λ c. search needs) returns-3 (λ c. search needs) returns-4 (λ c. search needs) returns-5
     (λ c. search needs) (λ c. search needs) returns-6 (λ c. search needs) (λ c. search needs) returns-7
     (λ c. search needs) returns-8 (λ c. search needs) returns-9 (λ c. search needs) returns-10)

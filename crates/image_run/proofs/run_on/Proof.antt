@@ -23,10 +23,11 @@ visit-requires c κs =
 returns-2 : tie.Need-returns-2
 returns-2 c =
     let v = c .before .before .before .before .before .before .before in
-    let e = v .before .before .before .before .before .before .before .before .before .before .run-effect in
-    ran-on (run-settled (run-ready (c .before .before .before .before .before .before .before .before .before .before .before .before .before .before .before
-    .before .before .before .before .before .before .before .pre)) (bytes (e .last .1 .1 .0) (e .last .1 .1 .1 .0)) (e .ensures) (search needs)
-    (v .visit .ensures) (v .visit .kept .1 .1 .0) (c .before .before .settle .ensures))
+    let e = v .before .before .before .before .before .before .before .before .before .before in
+    let s = e .before .before .before .before .before in
+    let r = e .run-effect in
+    ran-on (run-settled (run-ready (s .pre)) (bytes (r .last .1 .1 .0) (r .last .1 .1 .1 .0)) (r .ensures)
+    (search needs) (v .visit .ensures) (v .visit .kept .1 .1 .0) (c .before .before .settle .ensures))
 
 pub run-on-spec : {M : Type 1} → statement M
 run-on-spec =

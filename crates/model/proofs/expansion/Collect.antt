@@ -40,7 +40,8 @@ slots-same p i [] h = refl
 slots-same p i (unused ∷ ss) h =
     ap₂ _∷_ (bool-case (p i) (λ e. rw e) (λ e. rw e)) (slots-same p (suc i) ss h)
 slots-same p i (holds v ∷ ss) h =
-    ap₂ _∷_ (rw (and-l (p i) (eachUsed p (suc i) ss) h)) (slots-same p (suc i) ss (and-r (p i) (eachUsed p (suc i) ss) h))
+    ap₂ _∷_ (rw (and-l (p i) (eachUsed p (suc i) ss) h))
+    (slots-same p (suc i) ss (and-r (p i) (eachUsed p (suc i) ss) h))
 
 -- ---- what collection keeps
 
@@ -89,7 +90,8 @@ module _ (h : Heap) (cl : ClosedHeap h) where
 
   pub collect-closed : ClosedHeap (collect h)
   collect-closed = (
-    in-closed (next (collect h)) (h .ptrs) (λ v i. val-closed v (λ c e. from-pointer (subst (λ x. In x (h .ptrs)) e i))),
+    in-closed (next (collect h)) (h .ptrs)
+        (λ v i. val-closed v (λ c e. from-pointer (subst (λ x. In x (h .ptrs)) e i))),
     λ n v e. let b = collect-back h n v e in
         val-closed v (λ c q. along (order-reaches h cl n (b .0)) (b .1 ∙ ap holds q)),
   )

@@ -187,7 +187,8 @@ answer-lengths st e ps cs cl q =
         let b = collects (kind (st .op)) in
         by-effect (branch (st .op) (e .pick) h) (settle b x)
         (settle-any b (PtrsAre (length (h .ptrs))) (λ f. tt) (λ g k. k) x (leaves-ptrs a n h x L))
-        (settle-any b (SlotsAre (length (h .slots))) (λ f. tt) (λ g k. collect-slots g ∙ k) x (leaves-slots a n h q x L))
+        (settle-any b (SlotsAre (length (h .slots))) (λ f. tt) (λ g k. collect-slots g ∙ k) x
+        (leaves-slots a n h q x L))
 
 pub step-lengths : (r : List ℕ) (p c : ℕ) (ps cs : List ℕ) → SameLengths ps cs (stepImage r p c ps cs)
 step-lengths r p c ps cs = by-case (step-cases r p c ps cs)

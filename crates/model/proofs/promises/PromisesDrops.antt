@@ -2,7 +2,7 @@
 -- cites a law.
 use Prim.Native.Nat.{_<_, ℕ}
 use mathlib.Core.Path.{_∙_, _≡_, ap, refl, subst, sym}
-use mathlib.Core.Bool.{false, true}
+use mathlib.Core.Bool.{Bool, cond, false, true}
 use mathlib.Core.Logic.{_↔_, _⊎_, inl, inr, ⊎-elim}
 use mathlib.Core.List.{List, [], _∷_}
 use lib.ListN.{getD, length, set}
@@ -10,13 +10,13 @@ use Rattle.model.specs.Base.{count, sum}
 use Rattle.model.specs.Edges.{Edge, Update, at, edgesAt}
 use Rattle.model.specs.Heap.{Heap, IsHeap, Val, cell, closed, holds, inUse, kept, next, null, ptr, undef}
 use Rattle.model.specs.Image.{heapOf, stepImage, stepVerdict, toNext}
-use Rattle.model.specs.Machine.{Entry, Stmt, accepts, collect, done, effect, faulted, isStop, kind, leak, letGo, setPtr, step, went}
+use Rattle.model.specs.Machine.{Entry, Op, Stmt, accepts, answerOf, collect, done, effect, fault, faulted, isStop, kind, leak, letGo, setNull, setPtr, step, went}
 use Rattle.model.specs.Notions.{Expansion, In, Reaches}
 use Rattle.model.specs.Records.{byte, isAccepted}
 use Rattle.model.specs.Shape.{Seg, core, counters, shape}
 use Rattle.model.proofs.expansion.Collect.{collect-back, collect-closed, collect-expands, collect-kept, collect-same, collect-twice, visited-stays}
 use Rattle.model.proofs.expansion.Cores.{core-is}
-use Rattle.model.proofs.expansion.Facts.{heap-kept, is-heap, test-closed}
+use Rattle.model.proofs.expansion.Facts.{heap-kept, is-heap, test-closed, test-kept}
 use Rattle.model.proofs.expansion.Reach.{order-reaches, reaches-order}
 use Rattle.model.proofs.images.DropBytes.{drop-answer, drop-gone, drop-pointers, drop-stays}
 use Rattle.model.proofs.shapes.Count.{counters-add-up}
@@ -93,6 +93,10 @@ counters-sum = counters-add-up
 
 -- ==== the statement
 
+-- a statement without a second target
+abbrev goingTo : Op → ℕ → Stmt
+goingTo op t = record { op = op; firstTarget = t; secondTarget = 0 }
+
 -- "u becomes null and every cell that this leaves unreachable is gone": on every heap and for every entry; so it is no
 -- fault and is not refused
 abbrev pub DropGoes : Type 0
@@ -110,6 +114,23 @@ DropOnlyNull = (st : Stmt) (e : Entry) (h : Heap) → IsHeap h → (u : ℕ) →
 pub drops-only-null : DropOnlyNull
 drops-only-null st e h x u o n =
     drops-go st e h u o ∙ ap (went 0 (st .firstTarget)) (null-keeps h u (heap-kept h x) n)
+
+-- so it differs from `u := null` exactly where that leaks
+abbrev pub DropBesideNull : Type 0
+DropBesideNull = (e : Entry) (h : Heap) (u t : ℕ) → (kept (setPtr u null h) ≡ true
+    → step (goingTo (letGo u) t) e h ≡ step (goingTo (setNull u) t) e h)
+    × (kept (setPtr u null h) ≡ false → step (goingTo (setNull u) t) e h ≡ faulted leak)
+
+pub drops-beside-null : DropBesideNull
+drops-beside-null e h u t = (
+  (λ k. drops-go (goingTo (letGo u) t) e h u refl
+      ∙ ap (went 0 t) (collect-same (setPtr u null h) (test-kept (setPtr u null h) k)) ∙ sym (null-step true k)),
+  null-step false,
+)
+  where
+    null-step : (b : Bool) → kept (setPtr u null h) ≡ b → step (goingTo (setNull u) t) e h
+        ≡ answerOf (goingTo (setNull u) t) 0 (cond b (done (setPtr u null h)) (fault leak))
+    null-step b k = ap (λ x. answerOf (goingTo (setNull u) t) 0 (cond x (done (setPtr u null h)) (fault leak))) k
 
 -- "Its one edge has no guard and never leads to a fault": it leads to the shape of what is left
 abbrev pub DropEdge : Type 0
