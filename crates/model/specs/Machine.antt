@@ -178,7 +178,7 @@ abbrev pub keepSlots : (ℕ → Bool) → ℕ → List Slot → List Slot
 keepSlots p i [] = []
 keepSlots p i (s ∷ ss) = cond (p i) s unused ∷ keepSlots p (suc i) ss
 
--- the heap with its visited cells alone; these hold no other cell
+-- the heap with its visited cells alone, which hold no others
 abbrev pub collect : Heap → Heap
 collect h = let o = order h in record { ptrs = h .ptrs; slots = keepSlots (λ c. mem c o) 0 (h .slots) }
 
