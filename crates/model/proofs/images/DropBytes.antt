@@ -13,7 +13,7 @@ use Rattle.model.specs.Machine.{collect, entry, kind, setPtr, went}
 use Rattle.model.specs.Notions.{ClosedHeap, Reaches}
 use Rattle.model.specs.Records.{byte, isAccepted, opOf, slotByte, stmtOf, valByte, valOf}
 use Rattle.model.proofs.expansion.Collect.{collect-slots, lost-goes, visited-stays}
-use Rattle.model.proofs.expansion.Effects.{closed-set}
+use Rattle.model.proofs.expansion.Effects.{set-closed}
 use Rattle.model.proofs.expansion.Facts.{heap-closed}
 use Rattle.model.proofs.expansion.Reach.{order-reaches, reaches-order}
 use Rattle.model.proofs.images.Stepping.{step-answers, step-heap}
@@ -54,9 +54,7 @@ module _ (r : List ℕ) (p c : ℕ) (ps cs : List ℕ) (ok : stepVerdict (stepIm
       (omega (arith, collect-slots cut, length-map cs cellSlot))
 
   cut-closed : ClosedHeap cut
-  cut-closed =
-      let cl = heap-closed (heapOf ps cs) (step-heap r p c ps cs ok) in
-      (closed-set (next (heapOf ps cs)) (map valOf ps) u null (cl .0) tt, cl .1)
+  cut-closed = set-closed (heapOf ps cs) u null (heap-closed (heapOf ps cs) (step-heap r p c ps cs ok)) tt
 
   pub drop-stays : (i : ℕ) → i < length cs → Reaches cut i → getD (stepImage r p c ps cs .cellBytes) i 0 ≡ getD cs i 0
   drop-stays i lt q =

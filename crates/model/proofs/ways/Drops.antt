@@ -15,7 +15,7 @@ use Rattle.model.specs.Notions.{ClosedHeap, In, Kept, Reaches, segAt}
 use Rattle.model.specs.Shape.{Seg, cells, core, segments, shape}
 use Rattle.model.proofs.expansion.Collect.{collect-same, order-collect}
 use Rattle.model.proofs.expansion.Cuts.{flat-cut, flat-mem, mem-flat-in}
-use Rattle.model.proofs.expansion.Effects.{closed-set}
+use Rattle.model.proofs.expansion.Effects.{set-closed}
 use Rattle.model.proofs.expansion.Reach.{order-reaches, reaches-order}
 use Rattle.model.proofs.expansion.Step.{step-as, step-go}
 use Rattle.model.proofs.lists.Lists.{getD-in, in-map, map-in}
@@ -128,7 +128,7 @@ module _ (st : Stmt) (u : ℕ) (k : kind (st .op) ≡ drops u) where
 
     module _ (cl : ClosedHeap h) where
       cut-closed : ClosedHeap cut
-      cut-closed = (closed-set (next h) (h .ptrs) u null (cl .0) tt, cl .1)
+      cut-closed = set-closed h u null cl tt
 
       -- the cells of the segments that are left are the cells that are still visited
       visited : (s : Seg) → In s (segments (collect cut)) → (c : ℕ) → mem c (cells s) ≡ true → mem c (order cut) ≡ true
