@@ -48,7 +48,7 @@ slots-same p i (holds v ∷ ss) h =
 pub collect-slots : (h : Heap) → length (collect h .slots) ≡ length (h .slots)
 collect-slots h = slots-length _ 0 (h .slots)
 
-pub next-collect : (h : Heap) (c : ℕ) → next (collect h) c ≡ cond (mem c (order h)) (next h c) unused
+next-collect : (h : Heap) (c : ℕ) → next (collect h) c ≡ cond (mem c (order h)) (next h c) unused
 next-collect h c =
     slot-kept (λ x. mem x (order h)) 0 (h .slots) c ∙ ap (λ x. cond (mem x (order h)) (next h c) unused) (zero-add c)
 
@@ -146,8 +146,7 @@ pub settle-kept : (b : Bool) (h : Heap) → Kept h → settle b (done h) ≡ don
 settle-kept true h k = ap done (collect-same h k)
 settle-kept false h k = ap (λ x. cond x (done h) (fault leak)) (kept-test h k)
 
--- what holds of the effect, of each fault and of a heap when it is collected
-
+-- what holds of the effect, of each fault, and of a heap once it is collected, holds afterwards
 pub settle-any : (b : Bool) (P : Effect → Type 0) → ((f : Fault) → P (fault f))
     → ((h : Heap) → P (done h) → P (done (collect h))) → (x : Effect) → P x → P (settle b x)
 settle-any true P bad less (fault f) p = p
