@@ -1,5 +1,6 @@
 // The effect of a statement on a heap image that is lent.
-// An effect answers 0 where it is done, else the fault's number; a fault leaves the image. Lost cells are not looked for.
+// An effect answers 0 where it is done, else the fault's number; a fault leaves the image. Nothing is done about lost
+// cells.
 use model::Decoded;
 use model::Pointer;
 ghost use mathlib.Core.Path.{_≡_};
