@@ -30,7 +30,7 @@ slots-length p i (s ∷ ss) = ap suc (slots-length p (suc i) ss)
 slot-kept : (p : ℕ → Bool) (i : ℕ) (ss : List Slot) (c : ℕ)
     → getD (keepSlots p i ss) c unused ≡ cond (p (i + c)) (getD ss c unused) unused
 slot-kept p i [] c = bool-case (p (i + c)) (λ e. rw e) (λ e. rw e)
-slot-kept p i (s ∷ ss) zero = ap (λ x. cond (p x) s unused) (omega arith)
+slot-kept p i (s ∷ ss) zero = let e : i ≡ i + 0 = omega arith in ap (λ x. cond (p x) s unused) e
 slot-kept p i (s ∷ ss) (suc c) =
     slot-kept p (suc i) ss c ∙ ap (λ x. cond (p x) (getD ss c unused) unused) (omega arith)
 
