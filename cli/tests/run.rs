@@ -172,6 +172,32 @@ fn unlink_leak_loses_the_cell_between() {
     }
 }
 
+/// What the sister of `clear` says of itself: no fault, one edge from each start without guard and update, and every cell
+/// goes, as in the loop that frees a list. Round a ring, that loop tests a pointer to a freed cell.
+#[test]
+fn clear_drop_clears_as_clear_does() {
+    let (source, routine, automaton) = open("clear-drop");
+    assert!(automaton.locations.iter().all(|l| l.fault == 0));
+    assert_eq!(automaton.edges.iter().map(|e| e.from).collect::<Vec<_>>(), [0, 1, 2]);
+    assert!(automaton.edges.iter().all(|e| e.guards.is_empty() && e.updates.is_empty()));
+    let rings = "shape\n        p0 -> ring -> ring\nshape\n        p0 -> list -> ring -> ring\n";
+    let freeing = Source::of_bytes("clear", (example("clear") + rings).into_bytes()).unwrap();
+    let (other, loops) = (freeing.routine().unwrap(), freeing.automaton(ALL_PLACES).unwrap());
+    let lists = (1..=240).map(|cells| (0, vec![cells]));
+    let rings = (1..6).flat_map(|a| (1..6).map(move |b| (2, vec![a, b]))).chain((1..=240).map(|cells| (1, vec![cells])));
+    let left = |ran: &Ran| ran.text.rsplit("\n  heap ").next().unwrap().lines().next().unwrap().trim().to_string();
+    for (shape, heap) in lists.chain(rings) {
+        let options = || Options { heap: heap.clone(), shape, picks: Vec::new(), steps: 1500 };
+        let dropped = go(&source, &routine, &automaton, &options());
+        assert_eq!((&dropped.end, dropped.steps), (&End::Stop, 1), "{}", dropped.text);
+        assert!(dropped.text.contains(&format!("\n{}  heap ", went(heap.iter().sum::<u32>() as usize))), "{}", dropped.text);
+        let freed = go(&freeing, &other, &loops, &options());
+        assert_eq!(freed.end, if shape == 0 { End::Stop } else { End::Fault(2) }, "{}", freed.text);
+        assert_eq!(left(&dropped), "p0 -> null", "{}", dropped.text);
+        assert!(shape > 0 || left(&freed) == "p0, p1 -> null", "{}", freed.text);
+    }
+}
+
 /// On every list, alone or with an end that is shared: the first cell stays, what nothing else leads to goes, and the
 /// end belongs to the other list.
 #[test]

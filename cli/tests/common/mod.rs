@@ -6,8 +6,21 @@ use std::path::{Path, PathBuf};
 use std::process::{Command, Output, Stdio};
 use tool::record::{Shape, NODES, NULL, POINTERS, SIZE};
 
-pub const EXAMPLES: [&str; 12] =
-    ["reverse", "insert", "remove", "unlink", "clear", "drop", "ring", "two-lists", "leak", "unlink-leak", "freed", "compared"];
+pub const EXAMPLES: [&str; 13] = [
+    "reverse",
+    "insert",
+    "remove",
+    "unlink",
+    "clear",
+    "clear-drop",
+    "drop",
+    "ring",
+    "two-lists",
+    "leak",
+    "unlink-leak",
+    "freed",
+    "compared",
+];
 
 pub fn root() -> PathBuf {
     Path::new(env!("CARGO_MANIFEST_DIR")).parent().unwrap().to_path_buf()
