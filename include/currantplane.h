@@ -72,7 +72,8 @@ enum currantplane_op {
     CURRANTPLANE_TEST_SAME = 9, /* test u = w */
     CURRANTPLANE_CHOOSE = 10,
     CURRANTPLANE_SKIP = 11,
-    CURRANTPLANE_RELINK = 12    /* u.next := w.next */
+    CURRANTPLANE_RELINK = 12,   /* u.next := w.next */
+    CURRANTPLANE_DROP = 13      /* drop u: u := null, and the cells that no pointer then reaches are gone */
 };
 
 /* faults: byte 2 of an L record, and byte 0 of a step's answer */
@@ -80,7 +81,7 @@ enum {
     CURRANTPLANE_NO_FAULT = 0,
     CURRANTPLANE_AT_NULL = 1,      /* a statement reads or writes through null */
     CURRANTPLANE_AT_UNDEFINED = 2, /* through an undefined pointer, frees one, or compares one in a test */
-    CURRANTPLANE_LEAK = 3          /* a statement leaves a cell that no pointer reaches */
+    CURRANTPLANE_LEAK = 3          /* a statement other than DROP leaves a cell that no pointer reaches */
 };
 
 /* ---- refusals */
@@ -93,7 +94,7 @@ enum currantplane_refusal {
     CURRANTPLANE_BAD_SHAPES = 3,     /* not 1 to 16 H */
     /* translate; the place is the record's number from 0. step (4 to 7) and unfold (8, 9, 18, 19): the place is 0 */
     CURRANTPLANE_BAD_KIND = 4,       /* a record that is neither S nor H, or an S after an H; in a step, no S */
-    CURRANTPLANE_BAD_OP = 5,         /* op above 12 */
+    CURRANTPLANE_BAD_OP = 5,         /* op above 13 */
     CURRANTPLANE_BAD_FIELD = 6,      /* a used pointer above 5, or an unused byte not zero */
     CURRANTPLANE_BAD_TARGET = 7,     /* a used target is no statement; in a step, not below 64 */
     CURRANTPLANE_BAD_LAYOUT = 8,     /* an H record breaks the layout */
@@ -213,9 +214,10 @@ uint8_t currantplane_unfold(const uint8_t *shape, size_t shape_length,
  * place             0, in every case
  *
  * Accepted (0): the step goes on (fault 0, stop 0), and the heap is changed by it; or it faults, or the statement is a
- * stop, and then branch and next statement are 0 and the heap stays as it was. Refused (13, 14, 4, 5, 6, 7, 16,
- * looked at in this order): the answer is zeros and the heap stays as it was. Of `answer` as many bytes are written as
- * it has, at most four; the rest of it is left. `place` is written. */
+ * stop, and then branch and next statement are 0 and the heap stays as it was. DROP never faults: the cells that it
+ * loses become 0xfd, and what the others hold is left. Every other statement that would lose a cell is fault 3.
+ * Refused (13, 14, 4, 5, 6, 7, 16, looked at in this order): the answer is zeros and the heap stays as it was. Of
+ * `answer` as many bytes are written as it has, at most four; the rest of it is left. `place` is written. */
 uint8_t currantplane_step(uint8_t *pointers, size_t pointers_length,
                           uint8_t *cells, size_t cells_length,
                           const uint8_t *statement, size_t statement_length, uint8_t pick, size_t cell,
@@ -273,7 +275,8 @@ static inline uint8_t currantplane_guarded(const uint8_t *edge, int second)
 }
 
 /* E, but not to a fault: the update of a node below the target's k. Its new counter is the constant plus the old
- * counters that are added. */
+ * counters that are added. An old counter is added in one update at most: in none where its cells are gone, by FREE or
+ * DROP. */
 static inline uint16_t currantplane_update(const uint8_t *edge, size_t node)
 {
     return currantplane_word(edge + 8 + 2 * node);

@@ -55,7 +55,7 @@ fn legend(routine: &Routine) -> Vec<String> {
     let mut lines: Vec<String> = [
         "",
         "n0(c0) is node 0, which stands for c0 cells in a row; c0' is the counter after the edge.",
-        "An edge without updates keeps the counters. Thick border: start. Double border: stop. Filled: fault.",
+        "An edge without updates keeps the counters that are left. Thick border: start. Double border: stop. Filled: fault.",
     ]
     .map(String::from)
     .into();

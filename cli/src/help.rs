@@ -33,7 +33,8 @@ currantplane translate FILE [--hex | --dot | --svg OUT] [--locations N] [--edges
 
 Prints the automaton of a routine: each location with its statement and its shape, each edge with
 its condition and its updates, the faults, and totals. Where two guards are given, an edge is
-enabled when both hold.
+enabled when both hold. The edge of a `drop` has no guard; a counter that stands in none of its
+updates is that of cells that went.
 
   --hex            exactly what the program `translate` prints: a record a line, locations then
                    edges, or `refused NUMBER PLACE`, for 9, 18 and 19 `refused NUMBER PLACE NODE`.
@@ -72,7 +73,7 @@ heap's shape and counters with the location and the automaton's counters.
   --picks P,P,..   what each `choose` picks in turn, 0 or 1; when none is left the run ends
   --steps N        the most steps; without it, 200
 
-`new` takes the lowest cell that is not in use.
+`new` takes the lowest cell that is not in use. `drop` says how many cells went, if any did.
 ";
 
 const ASSEMBLE: &str = "\

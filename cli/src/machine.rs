@@ -36,6 +36,12 @@ impl Machine {
         }
     }
 
+    /// How many cells were in use in the heap before and are not in this one.
+    pub fn gone_since(&self, before: &Machine) -> usize {
+        let each = before.cells.iter().zip(&self.cells);
+        each.filter(|(&old, &new)| old != UNUSED && new == UNUSED).count()
+    }
+
     /// A step of the proved library; new takes the lowest cell that is not in use. A fault is a step of branch 0.
     pub fn step(&mut self, statement: &Record, pick: u8) -> Stepped {
         let cell = self.cells.iter().position(|&c| c == UNUSED).unwrap_or(CELLS);

@@ -20,6 +20,7 @@ pub fn statement(s: &Statement) -> String {
         Op::Choose => "choose".into(),
         Op::Skip => "skip".into(),
         Op::Relink => format!("p{u}.next := p{w}.next"),
+        Op::Drop => format!("drop p{u}"),
     }
 }
 

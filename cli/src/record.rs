@@ -24,13 +24,14 @@ pub enum Op {
     Choose,
     Skip,
     Relink,
+    Drop,
 }
 
 use Op::*;
 
 impl Op {
-    pub const ALL: [Op; 13] =
-        [Stop, SetNull, Copy, ReadNext, WriteNull, WriteNext, New, Free, TestNull, TestEqual, Choose, Skip, Relink];
+    pub const ALL: [Op; 14] =
+        [Stop, SetNull, Copy, ReadNext, WriteNull, WriteNext, New, Free, TestNull, TestEqual, Choose, Skip, Relink, Drop];
 
     pub fn uses_u(self) -> bool {
         !matches!(self, Stop | Choose | Skip)

@@ -18,7 +18,7 @@ const MEANINGS: [(&str, &str); 19] = [
         "a record is neither S nor H, or an S stands after an H",
         "put statements (byte 0 is 0x53) first and starting shapes (byte 0 is 0x48) after them",
     ),
-    ("the op of a statement is above 12", "use an op from 0 (stop) to 12 (u.next := w.next)"),
+    ("the op of a statement is above 13", "use an op from 0 (stop) to 13 (drop u)"),
     (
         "a pointer that the statement uses is above 5, or a byte that it does not use is not zero",
         "use pointers 0 to 5, and set all other bytes to zero",

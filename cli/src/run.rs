@@ -128,6 +128,9 @@ impl Run<'_> {
         if pair.machine.fault != 0 {
             text.push_str(&self.faulted(&before, &pair.machine, branch));
         }
+        if statement.op == Op::Drop {
+            text.push_str(&went(pair.machine.gone_since(&before)));
+        }
         taken.map_err(End::Mismatch)?;
         self.judge(pair, text)
     }
@@ -206,5 +209,13 @@ impl Run<'_> {
             }
         };
         paragraph("", 0, &format!("{so_far} {how}"))
+    }
+}
+
+/// The routine's own side of a drop: how many cells went, if any.
+fn went(cells: usize) -> String {
+    match cells {
+        0 => String::new(),
+        _ => format!("{:<INDENT$}{} went\n", "  routine", names::count(cells, "cell")),
     }
 }

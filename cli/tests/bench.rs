@@ -163,7 +163,7 @@ fn too_large_for_the_full_translator() {
 fn a_refused_record() {
     let twice = ring(&["choose"; 64], 3) + "shape\np0 -> a -> c -> null\np1 -> b -> c\n";
     let mut op = assemble(&ring(&["choose"; 64], 3)).unwrap().records;
-    op[32 * 63 + 1] = 13;
+    op[32 * 63 + 1] = 14;
     let inner = ring(&["choose"; 64], 3) + "shape\np0 -> a -> b\n";
     let cases = [
         (twice.into_bytes(), "refused 10 67\n"),

@@ -82,6 +82,8 @@ fn help_says_what_is_proved() {
     for option in ["--heap", "--shape", "--picks", "--steps"] {
         assert!(text(&printed(&["help", "run"], b"")).contains(option));
     }
+    assert!(text(&printed(&["help", "translate"], b"")).contains("The edge of a `drop` has no guard;"));
+    assert!(text(&printed(&["help", "run"], b"")).contains("`drop` says how many cells went"));
 }
 
 #[test]

@@ -13,7 +13,7 @@ use tool::source::Source;
 use tool::style::Style;
 use tool::text::{assemble, disassemble};
 
-const PIECES: [&str; 24] = [
+const PIECES: [&str; 25] = [
     "p0",
     "p5",
     "p6",
@@ -33,6 +33,7 @@ const PIECES: [&str; 24] = [
     "=",
     "new",
     "free",
+    "drop",
     "test",
     "choose",
     "é",
@@ -93,7 +94,7 @@ fn damaged_records() {
             3 => drop(records.splice(0..0, records[..32].repeat(60 + d.below(6)))),
             _ => {
                 let at = d.below(records.len() / 32) * 32 + if d.one_in(3) { d.below(32) } else { d.below(13) };
-                records[at] = if d.one_in(2) { d.below(13) as u8 } else { d.below(256) as u8 };
+                records[at] = if d.one_in(2) { d.below(15) as u8 } else { d.below(256) as u8 };
             }
         }
         let places = if round % 3 == 0 { Places { locations: d.below(20), edges: d.below(20) } } else { ALL_PLACES };

@@ -122,6 +122,29 @@ fn the_arrows_of_a_relink() {
     }
 }
 
+/// The arrow of a drop has no condition, and no words at all where no counter is left or all are kept. No box has a
+/// fault.
+#[test]
+fn the_arrow_of_a_drop() {
+    for (chains, lines) in [
+        ("p0 -> a", &[][..]),
+        ("p0, p1 -> a", &[]),
+        ("p0 -> undefined", &[]),
+        ("p0 -> a\np1 -> b", &["c0' = c1"]),
+        ("p0 -> a -> c\np1 -> b -> c", &["c0' = c1 + c2"]),
+        ("p0 -> a -> c -> c\np1 -> b -> c", &["c0' = c2", "c1' = c1"]),
+    ] {
+        let body = format!("drop p0\nstop\nshape\n{chains}\n");
+        let shown = text(&printed(&["translate", "-", "--dot"], body.as_bytes()));
+        let lines: Vec<String> = lines.iter().map(|l| l.to_string()).collect();
+        let table = format!("<<TABLE BORDER=\"0\" CELLPADDING=\"3\"><TR><TD>{}</TD></TR></TABLE>>", said(&lines));
+        let label = if lines.is_empty() { "\"\"".into() } else { table };
+        assert!(shown.ends_with(&format!("  l0 -> l1 [label={label}]\n}}\n")), "{shown}");
+        assert!(shown.contains("  l0 [label=<<B>location 0, start</B><BR ALIGN=\"LEFT\"/>0: drop p0<BR "), "{shown}");
+        assert!(!shown.contains("fillcolor"), "{shown}");
+    }
+}
+
 #[test]
 fn without_graphviz_nothing_is_written() {
     let file = folder("no-graphviz").join("picture.svg");

@@ -37,11 +37,19 @@ fn relinked(byte: usize, to: u8) -> Vec<u8> {
     records
 }
 
+/// The same, where statement 0 is a drop: it has no w.
+fn dropped(byte: usize, to: u8) -> Vec<u8> {
+    let mut records = changed(0, 1, 13);
+    records[3] = 0;
+    records[byte] = to;
+    records
+}
+
 #[test]
 fn records_that_are_refused() {
     let whole = assemble(SMALL).unwrap().records;
     let many = |statements: usize, shapes: usize| [whole[..32].repeat(statements), whole[96..128].repeat(shapes)].concat();
-    let cases: [(Vec<u8>, u8, &str); 26] = [
+    let cases: [(Vec<u8>, u8, &str); 34] = [
         (Vec::new(), 1, "here:    it has 0 bytes"),
         (whole[..95].to_vec(), 1, "here:    it has 95 bytes"),
         (many(65, 1), 2, "here:    there are 65"),
@@ -51,13 +59,21 @@ fn records_that_are_refused() {
         (changed(1, 0, 0x54), 4, "at record 1\n  record:  540a0000"),
         (changed(1, 0, 0x54), 4, "here:    byte 0 is 0x54"),
         (changed(4, 0, 0x53), 4, "here:    an S record stands after an H record"),
-        (changed(1, 1, 13), 5, "at record 1, which is statement 1\n"),
-        (changed(1, 1, 13), 5, "here:    the op is 13"),
-        (changed(1, 1, 13), 5, "meaning: the op of a statement is above 12\n"),
-        (changed(1, 1, 13), 5, "change:  use an op from 0 (stop) to 12 (u.next := w.next)\n"),
+        (changed(1, 1, 14), 5, "at record 1, which is statement 1\n"),
+        (changed(1, 1, 14), 5, "here:    the op is 14"),
+        (changed(1, 1, 14), 5, "meaning: the op of a statement is above 13\n"),
+        (changed(1, 1, 14), 5, "change:  use an op from 0 (stop) to 13 (drop u)\n"),
+        (changed(1, 1, 255), 5, "here:    the op is 255"),
         (changed(0, 3, 6), 6, "here:    pointer w (byte 3) is 6"),
         (relinked(3, 6), 6, "here:    pointer w (byte 3) is 6"),
         (changed(1, 1, 12), 6, "here:    op 12 does not use byte 5, and it is 2"),
+        (dropped(2, 6), 6, "here:    pointer u (byte 2) is 6"),
+        (dropped(3, 1), 6, "here:    op 13 does not use byte 3, and it is 1"),
+        (dropped(3, 6), 6, "here:    op 13 does not use byte 3, and it is 6"),
+        (changed(1, 1, 13), 6, "here:    op 13 does not use byte 5, and it is 2"),
+        (dropped(31, 9), 6, "here:    op 13 does not use byte 31, and it is 9"),
+        (dropped(4, 3), 7, "here:    the first target (byte 4) is 3, and the statements are 0 to 2"),
+        (dropped(4, 255), 7, "here:    the first target (byte 4) is 255, and the statements are 0 to 2"),
         (changed(2, 4, 1), 6, "here:    op 0 does not use byte 4, and it is 1"),
         (changed(1, 5, 3), 7, "here:    the second target (byte 5) is 3, and the statements are 0 to 2"),
         (changed(3, 1, 1), 8, "at record 3, which is starting shape 0\n"),
@@ -73,6 +89,15 @@ fn records_that_are_refused() {
         let said = said_of(&input, number);
         let flat = said.replace("\n           ", " ");
         assert!(flat.contains(expected), "{expected} is not in\n{said}");
+    }
+}
+
+/// With a byte that is allowed the same records pass, so that it is the other one which is refused.
+#[test]
+fn a_drop_that_is_not_refused() {
+    for input in [dropped(2, 5), dropped(4, 2)] {
+        let done = tool(&["translate", "-", "--hex"], &input);
+        assert_eq!((done.status.code(), text(&done.stderr)), (Some(0), String::new()), "{}", text(&done.stdout));
     }
 }
 

@@ -3,8 +3,8 @@
 mod common;
 
 use common::{example, printed, text, tool, Draw};
-use tool::automaton::{Automaton, Guard, ALL_PLACES};
-use tool::record::Routine;
+use tool::automaton::{Automaton, Guard, Update, ALL_PLACES};
+use tool::record::{Op, Routine};
 use tool::run::{End, Options, Ran, Run};
 use tool::source::Source;
 use tool::style::Style;
@@ -29,10 +29,39 @@ fn options(d: &mut Draw, routine: &Routine, most: usize) -> Options {
     }
 }
 
+/// What a drop must say where so many cells went.
+fn went(cells: usize) -> String {
+    match cells {
+        0 => String::new(),
+        1 => "  routine    1 cell went\n".into(),
+        _ => format!("  routine    {cells} cells went\n"),
+    }
+}
+
+/// How many drops of a run let cells go, and how many none. Each says by how much the sum of the counters falls,
+/// which the automaton gives and not the heap; no other step says it.
+fn drops_in(ran: &str) -> [usize; 2] {
+    let flat = ran.replace(&format!("\n{}", " ".repeat(17)), " ");
+    let parts: Vec<&str> = flat.split("\nstep ").collect();
+    let cells = |part: &str| -> usize {
+        let line = part.lines().find(|l| l.starts_with("  match ")).expect("a match");
+        line.split(", c").skip(1).map(|counter| counter.split_once(" = ").unwrap().1.parse::<usize>().unwrap()).sum()
+    };
+    let mut counts = [0; 2];
+    for pair in parts.windows(2) {
+        let drop = pair[1].lines().next().unwrap().contains(": drop p");
+        let fewer = if drop { cells(pair[0]) - cells(pair[1]) } else { 0 };
+        let told: String = pair[1].lines().filter(|l| l.ends_with(" went")).map(|l| format!("{l}\n")).collect();
+        assert_eq!(told, went(fewer), "{ran}");
+        counts[usize::from(fewer == 0)] += usize::from(drop);
+    }
+    counts
+}
+
 #[test]
 fn random_runs_match() {
     let mut d = Draw::new(3);
-    let (mut runs, mut steps, mut faults, mut stops, mut two_guards) = (0, 0, [0; 4], 0, 0);
+    let (mut runs, mut steps, mut faults, mut stops, mut two_guards, mut drops) = (0, 0, [0; 4], 0, 0, [0; 2]);
     for round in 0..1500 {
         let source = Source::of_bytes("a", d.routine(if round % 4 == 0 { 40 } else { 9 })).unwrap();
         let Ok(automaton) = source.automaton(ALL_PLACES) else { continue };
@@ -49,6 +78,8 @@ fn random_runs_match() {
             runs += 1;
             steps += ran.steps;
             two_guards += ran.text.lines().filter(|l| l.starts_with("  edge ") && l.contains(" and c")).count();
+            let more = drops_in(&ran.text);
+            drops = [0, 1].map(|kind| drops[kind] + more[kind]);
             match ran.end {
                 End::Fault(fault) => faults[fault as usize] += 1,
                 End::Stop => stops += 1,
@@ -59,6 +90,7 @@ fn random_runs_match() {
     assert!(runs > 5000 && steps > 20_000 && stops > 100, "{runs} runs, {steps} steps, {stops} stops");
     assert!(faults[1..].iter().all(|&n| n > 50), "{faults:?}");
     assert!(two_guards > 100, "{two_guards} edges with two guards taken");
+    assert!(drops.iter().all(|&n| n > 300), "{drops:?} drops with cells that went and without");
 }
 
 /// The examples that are right never fault, from any starting shape; those that are wrong always do, the one that unlinks from
@@ -137,6 +169,54 @@ fn unlink_leak_loses_the_cell_between() {
             "\nstep 6       statement 5: p0.next := p1.next\n  edge 11    if c0 >= 2\n  routine    FAULT 3 at statement 5: leak;";
         assert_eq!((ran.end == End::Fault(3), ran.text.contains(lost)), (cells > 2, cells > 2), "{}", ran.text);
         assert!(ran.text.contains("c0 = 2, c1 = ") == (cells > 2) && !ran.text.contains(": free p1"), "{}", ran.text);
+    }
+}
+
+/// What the sister of `clear` says of itself: no fault, one edge from each start without guard and update, and every cell
+/// goes, as in the loop that frees a list. Round a ring, that loop tests a pointer to a freed cell.
+#[test]
+fn clear_drop_clears_as_clear_does() {
+    let (source, routine, automaton) = open("clear-drop");
+    assert!(automaton.locations.iter().all(|l| l.fault == 0));
+    assert_eq!(automaton.edges.iter().map(|e| e.from).collect::<Vec<_>>(), [0, 1, 2]);
+    assert!(automaton.edges.iter().all(|e| e.guards.is_empty() && e.updates.is_empty()));
+    let rings = "shape\n        p0 -> ring -> ring\nshape\n        p0 -> list -> ring -> ring\n";
+    let freeing = Source::of_bytes("clear", (example("clear") + rings).into_bytes()).unwrap();
+    let (other, loops) = (freeing.routine().unwrap(), freeing.automaton(ALL_PLACES).unwrap());
+    let lists = (1..=240).map(|cells| (0, vec![cells]));
+    let rings = (1..6).flat_map(|a| (1..6).map(move |b| (2, vec![a, b]))).chain((1..=240).map(|cells| (1, vec![cells])));
+    let left = |ran: &Ran| ran.text.rsplit("\n  heap ").next().unwrap().lines().next().unwrap().trim().to_string();
+    for (shape, heap) in lists.chain(rings) {
+        let options = || Options { heap: heap.clone(), shape, picks: Vec::new(), steps: 1500 };
+        let dropped = go(&source, &routine, &automaton, &options());
+        assert_eq!((&dropped.end, dropped.steps), (&End::Stop, 1), "{}", dropped.text);
+        assert!(dropped.text.contains(&format!("\n{}  heap ", went(heap.iter().sum::<u32>() as usize))), "{}", dropped.text);
+        let freed = go(&freeing, &other, &loops, &options());
+        assert_eq!(freed.end, if shape == 0 { End::Stop } else { End::Fault(2) }, "{}", freed.text);
+        assert_eq!(left(&dropped), "p0 -> null", "{}", dropped.text);
+        assert!(shape > 0 || left(&freed) == "p0, p1 -> null", "{}", freed.text);
+    }
+}
+
+/// On every list, alone or with an end that is shared: the first cell stays, what nothing else leads to goes, and the
+/// end belongs to the other list.
+#[test]
+fn drop_keeps_the_first_cell_and_the_shared_end() {
+    let (source, routine, automaton) = open("drop");
+    let run = |shape: usize, heap: &[u32], left: &str| {
+        let options = Options { heap: heap.to_vec(), shape, picks: Vec::new(), steps: 200 };
+        let ran = go(&source, &routine, &automaton, &options);
+        assert_eq!((&ran.end, ran.steps), (&End::Stop, 4), "{}", ran.text);
+        let last = ran.text.split("\nstep 4       statement 3: drop p1\n").nth(1).expect("a drop");
+        let after_edge = last.split_once('\n').unwrap().1;
+        assert!(after_edge.starts_with(&format!("{}  heap ", went(heap[0] as usize - 1))), "{last}");
+        assert!(last.contains(&format!(" at statement 4 (done), {left}\n\n")), "{left} is not in\n{last}");
+    };
+    for cells in 1..=240 {
+        run(0, &[cells], "c0 = 1");
+    }
+    for (list, end, other) in (1..8).flat_map(|l| (1..4).flat_map(move |e| (1..4).map(move |o| (l, e, o)))) {
+        run(1, &[list, end, other], &format!("c0 = 1, c1 = {}", end + other));
     }
 }
 
@@ -439,6 +519,121 @@ fn relinks_that_fault() {
         assert!(step.contains(&side), "{side} is not in\n{step}");
         assert!(step.ends_with(&format!(": FAULT {fault} at statement 0, {words}")), "{words} is not in\n{step}");
     }
+}
+
+/// A drop from each of these shapes.
+const DROPPED: &str = "\
+drop p0
+stop
+shape                       # 0: a list of its own
+p0 -> a -> null
+shape                       # 1: its end is that of the list at p1 too
+p0 -> a -> c -> null
+p1 -> b -> c
+shape                       # 2: p1 leads to all of it
+p0, p1 -> a -> null
+shape                       # 3: a list that runs into a ring
+p0 -> a -> b -> b
+shape                       # 4: the same, and p1 leads to the ring
+p0 -> a -> b -> b
+p1 -> b
+shape                       # 5: p0 null
+shape                       # 6: p0 undefined
+p0 -> undefined
+p1 -> a -> null
+";
+
+/// What is printed of the only step of a run from one of them, with this statement first, and how the run ends.
+fn dropped(statement: &str, shape: usize, heap: &[u32]) -> (String, End) {
+    let source = Source::of_bytes("a", DROPPED.replacen("drop p0", statement, 1).into_bytes()).unwrap();
+    let (routine, automaton) = (source.routine().unwrap(), source.automaton(ALL_PLACES).unwrap());
+    let ran = go(&source, &routine, &automaton, &Options { heap: heap.to_vec(), shape, picks: Vec::new(), steps: 200 });
+    assert!(ran.matched && ran.steps == 1, "{}", ran.text);
+    let step = ran.text.split(&format!("\nstep 1       statement 0: {statement}\n")).nth(1).expect("a step");
+    (step.split("\n\n").next().unwrap().to_string(), ran.end)
+}
+
+/// How many cells went, in words, and nothing where none did; then the heap and the counters as for any other step.
+#[test]
+fn drops_say_how_many_cells_went() {
+    let none = "  heap       p0, p1 -> null\n  match      location 7 at statement 1";
+    let list = "  heap       p1 -> 0 -> 1 -> 2 -> null
+             p0 -> null
+  match      location 8 at statement 1, c0 = 3";
+    let cases: [(usize, &[u32], String); 9] = [
+        (0, &[1], format!("  edge 0\n  routine    1 cell went\n{none}")),
+        (0, &[2], format!("  edge 0\n  routine    2 cells went\n{none}")),
+        (0, &[240], format!("  edge 0\n  routine    240 cells went\n{none}")),
+        (
+            1,
+            &[2, 1, 2],
+            "  edge 1     c0' = c1 + c2
+  routine    2 cells went
+  heap       p1 -> 3 -> 4 -> 2 -> null
+             p0 -> null
+  match      location 8 at statement 1, c0 = 3"
+                .into(),
+        ),
+        (2, &[3], format!("  edge 2     counters kept\n{list}")),
+        (3, &[1, 2], format!("  edge 3\n  routine    3 cells went\n{none}")),
+        (
+            4,
+            &[1, 2],
+            "  edge 4     c0' = c1
+  routine    1 cell went
+  heap       p1 -> 1 -> 2 -> 1
+             p0 -> null
+  match      location 9 at statement 1, c0 = 2"
+                .into(),
+        ),
+        (5, &[], format!("  edge 5\n{none}")),
+        (6, &[3], format!("  edge 6     counters kept\n{list}")),
+    ];
+    for (shape, heap, expected) in cases {
+        assert_eq!(dropped("drop p0", shape, heap), (expected, End::Stop), "shape {shape}, heap {heap:?}");
+    }
+}
+
+/// Setting the pointer to null leaks exactly where a drop lets cells go, and no step but a drop says that cells went.
+#[test]
+fn what_a_drop_lets_go_is_a_leak_otherwise() {
+    let heaps: [&[u32]; 7] = [&[3], &[2, 1, 2], &[3], &[1, 2], &[1, 2], &[], &[3]];
+    for (shape, heap) in heaps.into_iter().enumerate() {
+        let (step, _) = dropped("drop p0", shape, heap);
+        let (other, end) = dropped("p0 := null", shape, heap);
+        let went = step.contains(" went\n");
+        assert_eq!(went, [0, 1, 3, 4].contains(&shape), "{step}");
+        assert_eq!(end, if went { End::Fault(3) } else { End::Stop }, "{other}");
+        assert!(!other.contains(" went"), "{other}");
+    }
+    let (freed, end) = dropped("free p0", 0, &[1]);
+    assert!(end == End::Stop && freed.contains("p0 -> undefined") && !freed.contains(" went"), "{freed}");
+}
+
+/// A drop that carries the counter of cells that went, leaves out that of cells that stay, or has a guard.
+#[test]
+fn a_changed_drop_is_told() {
+    let (source, routine, whole) = open("drop");
+    let told = |change: &dyn Fn(&mut Automaton)| {
+        let mut changed = whole.clone();
+        change(&mut changed);
+        let options = Options { heap: vec![4, 2, 3], shape: 1, picks: Vec::new(), steps: 200 };
+        matches!(go(&source, &routine, &changed, &options).end, End::Mismatch(_))
+    };
+    let at_drop = |n: usize| routine.statements[whole.locations[whole.edges[n].from].statement].op == Op::Drop;
+    let adds = |u: &Update, counters: &[usize]| u.constant == 0 && u.added().eq(counters.iter().copied());
+    let shared = |n: usize| whole.edges[n].updates.iter().any(|u| adds(u, &[2, 3]));
+    let edge = (0..whole.edges.len()).find(|&n| at_drop(n) && shared(n)).expect("the drop where the end is shared");
+    let carried = |counter: usize| *whole.edges.iter().flat_map(|e| &e.updates).find(|u| adds(u, &[counter])).unwrap();
+    assert!(!told(&|_| {}));
+    for counter in [1, 2] {
+        assert!(told(&|a| a.edges[edge].updates[1] = carried(counter)), "c{counter} alone");
+    }
+    assert!(told(&|a| a.edges[edge].updates.push(carried(1))));
+    assert!(told(&|a| a.edges[edge].updates.truncate(1)));
+    assert!(told(&|a| a.edges[edge].updates[1].constant += 1));
+    assert!(told(&|a| a.edges[edge].guards.push(Guard::IsOne(1))));
+    assert!(told(&|a| a.edges[edge].to = whole.locations.iter().position(|l| l.fault == 3).unwrap()));
 }
 
 /// The guard on the sum of all counters, which was the old fault.

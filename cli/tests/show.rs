@@ -112,6 +112,38 @@ edge 2         from location 0  if c0 >= 2  to location 3, FAULT 3: leak\nlocati
     assert!(said("1").lines().all(|l| l.chars().count() <= 100), "{}", said("1"));
 }
 
+/// The edge of a drop, in hex and in words: no guard, and no update where every cell went.
+#[test]
+fn the_edge_of_a_drop() {
+    let body = b"drop p0\nstop\nshape\np0 -> a -> null\nshape\np0 -> a -> c -> null\np1 -> b -> c\n";
+    let said = |number: &str| text(&printed(&["show", "-", "edge", number], body));
+    let zeros = |n: usize| "0".repeat(n);
+    let all = format!(
+        "record         4500000002000000{}
+edge 0         from location 0  to location 2
+location 0     start, statement 0: drop p0
+               p0 -> n0(c0) -> null
+               p1 -> null
+location 2     statement 1: stop
+               p0, p1 -> null\n",
+        zeros(48)
+    );
+    assert!(said("0").ends_with(&all), "{}", said("0"));
+    let some = format!(
+        "record         4500010003000000{}{}
+edge 1         from location 1  to location 3: c0' = c1 + c2
+location 1     start, statement 0: drop p0
+               p0 -> n0(c0) -> n1(c1) -> null
+               p1 -> n2(c2) -> n1
+location 3     statement 1: stop
+               p1 -> n0(c0) -> null
+               p0 -> null\n",
+        "0610",
+        zeros(44)
+    );
+    assert!(said("1").ends_with(&some), "{}", said("1"));
+}
+
 /// Ten nodes, the second guard on the last: its number takes all of its four bits.
 #[test]
 fn a_second_guard_on_node_9() {

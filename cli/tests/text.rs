@@ -6,6 +6,10 @@ use common::{example, root, text, tool, Draw};
 use tool::record::Routine;
 use tool::text::{assemble, disassemble};
 
+/// The words of the language.
+const WORDS: [&str; 13] =
+    ["choose", "drop", "else", "free", "goto", "new", "next", "null", "shape", "skip", "stop", "test", "undefined"];
+
 /// The first line of what is said of a wrong text.
 fn message(body: &str) -> String {
     let error = assemble(body).expect_err(body);
@@ -80,6 +84,41 @@ fn errors_in_relinks() {
             "p0.next := p1.next # last\nshape\n",
             "f:1:19: found the end of the line, expected `goto` and a label, since no statement follows".into(),
         ),
+    ];
+    for (body, expected) in cases {
+        assert_eq!(message(body), expected, "{body}");
+    }
+}
+
+#[test]
+fn errors_in_drops() {
+    let alone = "`goto` or the end of the line, since `drop` takes a pointer alone";
+    let cases = [
+        ("drop\nshape\n", "f:1:5: found the end of the line, expected a pointer, p0 to p5".to_string()),
+        ("drop # it\nshape\n", "f:1:5: found the end of the line, expected a pointer, p0 to p5".into()),
+        ("drop null\nshape\n", "f:1:6: found `null`, expected a pointer, p0 to p5".into()),
+        ("drop list\nshape\n", "f:1:6: found `list`, expected a pointer, p0 to p5".into()),
+        ("drop p6\nshape\n", "f:1:6: found `p6`, expected a pointer, p0 to p5".into()),
+        ("a: drop goto a\nshape\n", "f:1:9: found `goto`, expected a pointer, p0 to p5".into()),
+        ("drop p0.next\nshape\n", format!("f:1:8: found `.`, expected {alone}")),
+        ("a: drop p0 . next goto a\nshape\n", format!("f:1:12: found `.`, expected {alone}")),
+        ("free p0.next\nshape\n", format!("f:1:8: found `.`, expected {}", alone.replace("drop", "free"))),
+        ("drop p0, p1\nshape\n", "f:1:8: found `,`, expected `goto` or the end of the line".into()),
+        ("drop p0 p1\nshape\n", "f:1:9: found `p1`, expected `goto` or the end of the line".into()),
+        ("drop p0 := null\nshape\n", "f:1:9: found `:=`, expected `goto` or the end of the line".into()),
+        ("a: drop p0 else a\nshape\n", "f:1:12: found `else`, expected `goto` or the end of the line".into()),
+        ("a: drop p0 goto a a\nshape\n", "f:1:19: found `a`, expected the end of the line".into()),
+        ("p0 := drop\nshape\n", "f:1:7: found `drop`, expected `null`, `new` or a pointer, p0 to p5".into()),
+        ("Drop p0\nshape\n", "f:1:1: found `Drop`, expected a statement, a label with `:`, or `shape`".into()),
+        (
+            "drop p0 # last\nshape\n",
+            "f:1:8: found the end of the line, expected `goto` and a label, since no statement follows".into(),
+        ),
+        (
+            "drop: skip goto drop\nshape\n",
+            "f:1:1: found `drop`, expected a label, which is no word of the language and no pointer".into(),
+        ),
+        ("stop\nshape\np0 -> drop\n", "f:3:7: found `drop`, expected a node, `null` or `undefined`".into()),
     ];
     for (body, expected) in cases {
         assert_eq!(message(body), expected, "{body}");
@@ -175,8 +214,10 @@ fn the_page_says_what_is_so() {
         assert_eq!((done.status.code(), text(&done.stderr)), (Some(status), answer.to_string()));
     }
     let grammar = blocks("ebnf").concat();
-    for word in ["choose", "else", "free", "goto", "new", "next", "null", "shape", "skip", "stop", "test", "undefined"] {
+    for word in WORDS {
         assert!(grammar.contains(&format!("\"{word}\"")), "{word} is not in the grammar");
+        let label = format!("{word}: stop\nshape\n");
+        assert!(message(&label).ends_with(", which is no word of the language and no pointer"), "{word} is a label");
     }
 }
 
@@ -205,6 +246,27 @@ fn a_relink_both_ways() {
             let spaced = same.replace("{u}", &u.to_string()).replace("{w}", &w.to_string());
             assert_eq!(assemble(&format!("skip\na: {spaced} goto a\nshape\n")).unwrap().records, made.records, "{spaced}");
         }
+    }
+}
+
+#[test]
+fn a_drop_both_ways() {
+    for u in 0..6u8 {
+        let body = format!("      skip\nL1:   drop p{u} goto L1\n\nshape\n");
+        let made = assemble(&body).unwrap();
+        let mut expected = [0; 32];
+        expected[..5].copy_from_slice(&[0x53, 13, u, 0, 1]);
+        assert_eq!(made.records[32..64], expected, "{body}");
+        assert_eq!(disassemble(&Routine::read(&made.records)), body);
+        for same in ["a:drop\tp{u} goto a # x", "a:\n\n drop  p{u}  goto a"] {
+            let spaced = same.replace("{u}", &u.to_string());
+            assert_eq!(assemble(&format!("skip\n{spaced}\nshape\n")).unwrap().records, made.records, "{spaced}");
+        }
+        // without a target it leads to the next statement
+        let next = format!("      drop p{u}\n      stop\n\nshape\n");
+        let made = assemble(&next).unwrap();
+        assert_eq!(made.records[..5], [0x53, 13, u, 0, 1], "{next}");
+        assert_eq!(disassemble(&Routine::read(&made.records)), next);
     }
 }
 

@@ -6,6 +6,7 @@ use common::{example, root, text, tool, Draw};
 use std::collections::HashMap;
 use tool::automaton::{tables, Automaton, Tables, ALL_PLACES};
 use tool::listing::Listing;
+use tool::record::{Op, NULL, SIZE};
 use tool::source::Source;
 use tool::style::Style;
 
@@ -340,6 +341,71 @@ fn the_edges_of_a_relink() {
         let idle = if statement.contains("p1") { "p2, p3, p4, p5" } else { "p1, p2, p3, p4, p5" };
         assert!(shown.contains(&format!("\nNot drawn: {idle}, which are null throughout.\n")), "{shown}");
     }
+}
+
+/// The edge of a drop: one, without a guard and to no fault. The counter of cells that went is in no update, and a node
+/// that is no longer core is merged.
+#[test]
+fn the_edge_of_a_drop() {
+    let cases = [
+        ("", "to location 1"),
+        ("p1 -> a", "to location 1: counters kept"),
+        ("p0 -> undefined", "to location 1"),
+        ("p0 -> undefined\np1 -> a", "to location 1: counters kept"),
+        ("p0 -> a", "to location 1"),
+        ("p0 -> a -> undefined", "to location 1"),
+        ("p0 -> a -> a", "to location 1"),
+        ("p0 -> a -> b -> b", "to location 1"),
+        ("p0, p1 -> a", "to location 1: counters kept"),
+        ("p0 -> a\np1 -> b", "to location 1: c0' = c1"),
+        ("p0 -> a -> b\np1 -> b", "to location 1: c0' = c1"),
+        ("p0 -> a -> b -> b\np1 -> b", "to location 1: c0' = c1"),
+        ("p1 -> a -> b\np0 -> b", "to location 1: c0' = c0 + c1"),
+        ("p0 -> a -> c\np1 -> b -> c", "to location 1: c0' = c1 + c2"),
+        ("p0 -> a -> c\np1 -> b -> c\np2 -> c", "to location 1: c0' = c2, c1' = c1"),
+        ("p0 -> a -> c -> c\np1 -> b -> c", "to location 1: c0' = c2, c1' = c1"),
+        ("p0 -> a -> d\np1 -> b -> d\np2 -> c -> d", "to location 1: c0' = c2, c1' = c1, c2' = c3"),
+    ];
+    for (chains, expected) in cases {
+        let body = format!("drop p0\nstop\nshape\n{chains}\n");
+        let (shown, tables) = listing(&Source::of_bytes("a", body.into_bytes()).unwrap()).unwrap();
+        let first = shown.split("\n\n").nth(1).unwrap();
+        assert!(first.starts_with("location 0     start, statement 0: drop p0\n"), "{shown}");
+        assert_eq!(first.split_once("\n  edge 0       ").unwrap().1, expected, "{chains}");
+        assert_eq!(tables.locations[SIZE + 4], NULL, "{shown}");
+        assert!(shown.contains("\nNo location has a fault: "), "{shown}");
+        // a pointer that a drop names is drawn, also where it is null
+        assert!(shown.contains("\nNot drawn: p") && !shown.contains("\nNot drawn: p0"), "{shown}");
+    }
+}
+
+/// In random listings too a drop has one edge, without a guard and to no fault, after which its pointer is null. Other
+/// statements still leak.
+#[test]
+fn no_drop_faults() {
+    let mut d = Draw::new(13);
+    let (mut drops, mut fewer, mut leaks) = (0, 0, 0);
+    for _ in 0..1500 {
+        let source = Source::of_bytes("a", d.routine(9)).unwrap();
+        let Ok(automaton) = source.automaton(ALL_PLACES) else { continue };
+        let statements = source.routine().unwrap().statements;
+        leaks += automaton.locations.iter().filter(|l| l.fault == 3).count();
+        for (number, location) in automaton.locations.iter().enumerate() {
+            let statement = &statements[location.statement];
+            if statement.op != Op::Drop {
+                continue;
+            }
+            let leaving: Vec<_> = automaton.leaving(number).map(|(_, edge)| edge).collect();
+            let [edge] = leaving[..] else { panic!("{} edges leave location {number}", leaving.len()) };
+            let to = &automaton.locations[edge.to];
+            assert_eq!((location.fault, edge.branch, to.fault), (0, 0, 0));
+            assert!(edge.guards.is_empty(), "{edge:?}");
+            assert_eq!((to.statement, to.shape.pointers[statement.u as usize]), (statement.first as usize, NULL));
+            drops += 1;
+            fewer += usize::from(to.shape.count < location.shape.count);
+        }
+    }
+    assert!(drops > 1000 && fewer > 300 && leaks > 100, "{drops} drops, {fewer} with fewer nodes after, {leaks} leaks");
 }
 
 #[test]

@@ -82,6 +82,17 @@ impl Heap {
         self.cells.iter().zip(met).any(|(cell, met)| cell.is_some() && !met)
     }
 
+    /// Takes away every cell that is not reachable. What stays is reachable, and
+    /// so is what it holds: nothing in use holds a cell that goes.
+    pub fn collect(&mut self) {
+        let met = self.reachable();
+        for (cell, met) in self.cells.iter_mut().zip(met) {
+            if !met {
+                *cell = None;
+            }
+        }
+    }
+
     /// The lowest cell number that is not in use.
     pub fn lowest_unused(&self) -> usize {
         self.cells.iter().position(Option::is_none).unwrap_or(self.cells.len())
@@ -116,6 +127,20 @@ mod tests {
         assert_eq!(heap.next(0), Value::Undefined);
         assert_eq!(heap.next(3), Value::Undefined);
         assert!(heap.leaks());
+    }
+
+    #[test]
+    fn collect_takes_what_is_lost_and_nothing_else() {
+        let mut heap = ring_with_stem();
+        heap.collect();
+        assert_eq!(heap, ring_with_stem());
+        // The stem goes; the ring stays, as a pointer is left on it.
+        heap.pointers[2] = Value::Cell(3);
+        heap.collect();
+        assert_eq!(heap.cells, [None, Some(Value::Cell(3)), None, Some(Value::Cell(1))]);
+        heap.pointers[2] = Value::Undefined;
+        heap.collect();
+        assert_eq!(heap.cells, [None; 4]);
     }
 
     #[test]

@@ -81,7 +81,8 @@ Prints one of
 and then the heap afterwards:
   pointers VALUE...
   cells VALUE...
-or one line 'refused NUMBER PLACE'.
+or one line 'refused NUMBER PLACE'. The cells that a drop lets go are 'unused'
+afterwards.
 ";
 
 pub const RECORD: &str = "\
@@ -115,8 +116,10 @@ usage: reference selftest [--seed NUMBER] [--routines NUMBER]
 Tests random routines, heaps and runs, from a fixed seed unless another one is
 given. Prints what was counted. Fails, with exit status 1, if anything differs,
 if some refusal from 1 to 19 or fault from 1 to 3 was never met, or if tests of
-undefined pointers, relinks or damaged H records came too seldom: each kind that
-is printed, and each of the refusals 9, 18 and 19 at each node at which it can
-come, is to be met once and once more for every 100 routines. A few hundred
-routines are enough to meet them all. The default is 12,000 routines.
+undefined pointers, relinks, drops or damaged H records came too seldom: each
+kind that is printed, and each of the refusals 9, 18 and 19 at each node at
+which it can come, is to be met once and once more for every 100 routines.
+Beside them, five inputs whose listing has a location at a drop, and five heap
+images with a drop, are wanted for every three routines. A few hundred routines
+are enough to meet them all. The default is 12,000 routines.
 ";

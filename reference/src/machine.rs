@@ -74,6 +74,12 @@ fn effect(heap: &mut Heap, statement: &Statement, fresh: usize) -> Result<(), u8
             Value::Null => {}
             Value::Undefined => return Err(THROUGH_UNDEFINED),
         },
+        // "u becomes null and every cell that this leaves unreachable is gone."
+        // Every cell was reachable before, so none is lost by anything else.
+        Op::Drop => {
+            heap.pointers[u] = Value::Null;
+            heap.collect();
+        }
         // "From now on a test that looks at an undefined pointer, in op 8 or
         // 9, is fault 2, on branch 0, even if both are the same."
         Op::TestNull => look_at(heap, u)?,

@@ -2,11 +2,12 @@
 //!
 //! The shape is unfolded with small counters, the plain machine runs on that
 //! heap, and the result is folded. An edge is inferred from a first probe and
-//! one more probe for each counter, raised by one. A counter that a guard
-//! holds at 1 cannot be raised; its one cell is looked for in the segments
-//! after the step. Further probes have to agree with what was inferred: one
-//! with all counters changed and, where a statement looks at two counters,
-//! one for every two of them.
+//! one more probe for each counter, raised by one. A counter that then moves
+//! nothing is in no update: its node was let go by a drop. A counter that a
+//! guard holds at 1 cannot be raised; its one cell is looked for in the
+//! segments after the step. Further probes have to agree with what was
+//! inferred: one with all counters changed and, where a statement looks at two
+//! counters, one for every two of them.
 
 use crate::fold::{fold_heap, nodes_of_cells, Counters};
 use crate::machine::{run, Outcome};

@@ -75,7 +75,7 @@ pub fn random_heap(random: &mut Random, most: usize) -> Heap {
     for pointer in 0..POINTERS {
         heap.pointers[pointer] = random_value(random, cells, held);
     }
-    drop_lost_cells(&mut heap);
+    heap.collect();
     heap
 }
 
@@ -101,8 +101,15 @@ fn many_nodes(random: &mut Random, most: usize) -> Heap {
         heap.pointers[pointer] = Value::Cell(pointer);
     }
     random.shuffle(&mut heap.pointers);
-    drop_lost_cells(&mut heap);
+    heap.collect();
     let longer = random.between(0, most - 12);
+    lengthen(random, &mut heap, longer);
+    heap
+}
+
+/// Puts at most so many cells into a heap that has some, each between a cell
+/// and its next.
+pub fn lengthen(random: &mut Random, heap: &mut Heap, longer: usize) {
     for _ in 0..longer {
         let after = random.below(heap.cells.len());
         if let Some(next) = heap.cells[after] {
@@ -110,7 +117,6 @@ fn many_nodes(random: &mut Random, most: usize) -> Heap {
             heap.cells.push(Some(next));
         }
     }
-    heap
 }
 
 /// Pointer 0 leads into a ring, most often over one cell, and pointer 1 is at a
@@ -133,14 +139,57 @@ pub fn ring_and_list(random: &mut Random) -> Heap {
     heap
 }
 
-/// Takes the cells away that are not reachable.
-pub fn drop_lost_cells(heap: &mut Heap) {
-    let met = heap.reachable();
-    for (cell, met) in heap.cells.iter_mut().zip(met) {
-        if !met {
-            *cell = None;
+/// A heap put together pointer by pointer, in any order of them, with lists,
+/// rings and ways into what is there already. Each pointer brings at most
+/// twice `longest` cells.
+pub fn composed_heap(random: &mut Random, longest: usize) -> Heap {
+    let mut heap = Heap::empty();
+    let mut order: Vec<usize> = (0..POINTERS).collect();
+    random.shuffle(&mut order);
+    let held = [40, 70, 95][random.below(3)];
+    for pointer in order {
+        let value = if random.chance(held) { compose(random, &mut heap, longest) } else { random_value(random, 0, 0) };
+        heap.pointers[pointer] = value;
+    }
+    heap
+}
+
+/// What one more pointer of such a heap holds: a cell that is there, or the
+/// first of some new cells.
+fn compose(random: &mut Random, heap: &mut Heap, longest: usize) -> Value {
+    let first = heap.cells.len();
+    let stem = random.between(1, longest);
+    match random.below(10) {
+        0 | 1 if first > 0 => return Value::Cell(random.below(first)),
+        2..=5 if first > 0 => {
+            // Often where another cell leads already.
+            let there = random.below(first);
+            let end = match heap.next(there) {
+                next @ Value::Cell(_) if random.chance(60) => next,
+                _ => Value::Cell(there),
+            };
+            append(heap, stem, end);
+        }
+        6 => append(heap, stem, Value::Cell(first)),
+        7 => {
+            let ring = random.between(1, longest);
+            append(heap, stem + ring, Value::Cell(first + stem));
+        }
+        _ => {
+            let end = random_value(random, 0, 0);
+            append(heap, stem, end);
         }
     }
+    Value::Cell(first)
+}
+
+/// Puts in so many cells, each of which leads to the next one, and the last
+/// to this end.
+fn append(heap: &mut Heap, count: usize, end: Value) {
+    for _ in 1..count {
+        heap.cells.push(Some(Value::Cell(heap.cells.len() + 1)));
+    }
+    heap.cells.push(Some(end));
 }
 
 /// The same heap with its cells at other numbers below `room`, which is at

@@ -18,10 +18,11 @@ pub enum Op {
     Choose,
     Skip,
     Relink,
+    Drop,
 }
 
 /// The ops by their number.
-pub const OPS: [Op; 13] = [
+pub const OPS: [Op; 14] = [
     Op::Stop,
     Op::SetNull,
     Op::Copy,
@@ -35,6 +36,7 @@ pub const OPS: [Op; 13] = [
     Op::Choose,
     Op::Skip,
     Op::Relink,
+    Op::Drop,
 ];
 
 impl Op {
@@ -147,12 +149,18 @@ mod tests {
 
     #[test]
     fn the_lowest_number_comes_first() {
-        for op in 13..=255 {
+        for op in 14..=255 {
             assert_eq!(read_statement(&record([op, 9, 9, 9, 9]), 1), Err(5));
         }
         assert_eq!(read_statement(&record([12, 9, 9, 9, 9]), 1), Err(6));
         assert_eq!(read_statement(&record([12, 5, 5, 9, 0]), 1), Err(7));
         assert!(read_statement(&record([12, 5, 5, 0, 0]), 1).is_ok());
+        // A drop uses u and the first target alone.
+        assert_eq!(read_statement(&record([13, 6, 0, 9, 0]), 1), Err(6));
+        assert_eq!(read_statement(&record([13, 5, 1, 9, 0]), 1), Err(6));
+        assert_eq!(read_statement(&record([13, 5, 0, 9, 1]), 1), Err(6));
+        assert_eq!(read_statement(&record([13, 5, 0, 9, 0]), 1), Err(7));
+        assert!(read_statement(&record([13, 5, 0, 0, 0]), 1).is_ok());
         assert_eq!(read_statement(&record([2, 0, 6, 9, 0]), 1), Err(6));
         assert_eq!(read_statement(&record([2, 0, 0, 9, 1]), 1), Err(6));
         assert_eq!(read_statement(&record([2, 0, 0, 9, 0]), 1), Err(7));

@@ -181,6 +181,15 @@ fn step_in_text() {
         check(&["step"], &with(relink, ""), 0, &format!("fault {fault}\n{stays}"));
     }
     check(&["step"], &with(s(12, 0, 0, 7, 0), ""), 0, &format!("moved 0 7\n{stays}"));
+    let null = |pointers: &str, cells: &str| format!("moved 0 7\npointers {pointers}\ncells {cells}\n");
+    let dropped = [
+        (0, null("null null null null undef null", "unused unused unused")),
+        (1, null("0 null null null undef null", "1 null unused")),
+        (4, null("0 null null null null null", "1 null unused")),
+    ];
+    for (u, text) in dropped {
+        check(&["step"], &with(s(13, u, 0, 7, 0), "pick 9\ncell 9\n"), 0, &text);
+    }
     let test = with(s(9, 0, 1, 7, 9), "");
     check(&["step"], &test, 0, &format!("moved 1 9\n{stays}"));
 }
@@ -194,12 +203,14 @@ fn step_refuses() {
         let due = format!("refused {number} 0\n");
         check(&["step"], text.as_bytes(), 1, &due);
     };
-    refused("0 1", s(13, 9, 9, 99, 99), 13);
+    refused("0 1", s(14, 9, 9, 99, 99), 13);
     refused("0 2 null null null 1", [0; 32], 13);
     refused("0 null null null null null", [0; 32], 14);
     let sound = "null null null null 1 0";
     refused(sound, [0; 32], 4);
-    refused(sound, s(13, 9, 9, 99, 99), 5);
+    refused(sound, s(14, 9, 9, 99, 99), 5);
+    refused(sound, s(13, 0, 1, 99, 0), 6);
+    refused(sound, s(13, 5, 0, 64, 0), 7);
     refused(sound, s(12, 9, 9, 99, 99), 6);
     refused(sound, s(12, 5, 5, 99, 0), 7);
     refused(sound, s(10, 0, 1, 99, 99), 6);

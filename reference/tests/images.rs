@@ -183,6 +183,12 @@ fn steps_that_move() {
     let (stepped, pointers, cells) = step_on(&s(3, 1, 0, 63, 0), 0, 0);
     assert_eq!(stepped, moved);
     assert_eq!((pointers, cells), ([4, 2, UNDEF, 1, NULL, 4], CELLS));
+    // Only cell 1 is lost with pointer 3; pointers 0 and 5 keep all else.
+    for (u, pointers) in [(3, [4, NULL, UNDEF, NULL, NULL, 4]), (2, [4, NULL, NULL, 1, NULL, 4]), (1, POINTERS)] {
+        let cells = if u == 3 { [2, UNUSED, 0, UNUSED, 2] } else { CELLS };
+        assert_eq!(step_on(&s(13, u, 0, 63, 0), 77, 999), (moved, pointers, cells));
+    }
+    assert_eq!(step_on(&s(13, 5, 0, 63, 0), 0, 0), (moved, [4, NULL, UNDEF, 1, NULL, NULL], CELLS));
     let second = Stepped::Moved { branch: 1, next: 5 };
     assert_eq!(step_on(&s(10, 0, 0, 63, 5), 1, 0).0, second);
     assert_eq!(step_on(&s(8, 1, 0, 63, 5), 0, 0).0, moved);
@@ -222,9 +228,13 @@ fn refusals_of_a_step() {
     assert_eq!(refused(&[0x53; 31], 0, 0), 4);
     assert_eq!(refused(&[0x53; 33], 0, 0), 4);
     assert_eq!(refused(&h(NULLS, &[]), 0, 0), 4);
-    for op in 13..=255 {
+    for op in 14..=255 {
         assert_eq!(refused(&s(op, 9, 9, 99, 99), 9, 9), 5);
     }
+    assert_eq!(refused(&s(13, 6, 0, 99, 0), 9, 9), 6);
+    assert_eq!(refused(&s(13, 0, 1, 99, 0), 9, 9), 6);
+    assert_eq!(refused(&s(13, 0, 0, 99, 1), 9, 9), 6);
+    assert_eq!(refused(&s(13, 0, 0, 64, 0), 9, 9), 7);
     assert_eq!(refused(&s(12, 0, 6, 99, 0), 9, 9), 6);
     assert_eq!(refused(&s(12, 6, 0, 99, 0), 9, 9), 6);
     assert_eq!(refused(&s(12, 0, 0, 99, 1), 9, 9), 6);

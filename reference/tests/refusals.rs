@@ -61,13 +61,13 @@ fn the_count_2_comes_before_3() {
     check_refusal(&input(&vec![shape(); 17]), 2, 0);
     check_refusal(&input(&[skip()]), 3, 0);
     // Counts come before single records.
-    check_refusal(&input(&[s(13, 0, 0, 0, 0)]), 3, 0);
+    check_refusal(&input(&[s(14, 0, 0, 0, 0)]), 3, 0);
 }
 
 #[test]
 fn statements_5_6_7() {
     let at_1 = |record: Record| input(&[skip(), record, shape()]);
-    for op in 13..=255 {
+    for op in 14..=255 {
         check_refusal(&at_1(s(op, 0, 0, 0, 0)), 5, 1);
     }
     check_refusal(&at_1(s(1, 6, 0, 0, 0)), 6, 1);
@@ -77,11 +77,16 @@ fn statements_5_6_7() {
     check_refusal(&at_1(s(12, 6, 0, 0, 0)), 6, 1);
     check_refusal(&at_1(s(12, 0, 6, 0, 0)), 6, 1);
     check_refusal(&at_1(s(12, 0, 0, 0, 1)), 6, 1);
+    check_refusal(&at_1(s(13, 6, 0, 0, 0)), 6, 1);
+    check_refusal(&at_1(s(13, 0, 1, 0, 0)), 6, 1);
+    check_refusal(&at_1(s(13, 0, 0, 0, 1)), 6, 1);
     for at in 6..32 {
         check_refusal(&at_1(with_byte(skip(), at, 1)), 6, 1);
+        check_refusal(&at_1(with_byte(s(13, 5, 0, 1, 0), at, 1)), 6, 1);
     }
     check_refusal(&at_1(s(11, 0, 0, 2, 0)), 7, 1);
     check_refusal(&at_1(s(12, 5, 5, 2, 0)), 7, 1);
+    check_refusal(&at_1(s(13, 5, 0, 2, 0)), 7, 1);
     check_refusal(&at_1(s(10, 0, 0, 0, 2)), 7, 1);
     check_refusal(&at_1(s(10, 0, 0, 0, 255)), 7, 1);
 }
@@ -89,7 +94,10 @@ fn statements_5_6_7() {
 #[test]
 fn lowest_number_first_within_a_record() {
     let at_1 = |record: Record| input(&[skip(), record, shape()]);
-    check_refusal(&at_1(s(13, 9, 9, 9, 9)), 5, 1);
+    check_refusal(&at_1(s(14, 9, 9, 9, 9)), 5, 1);
+    check_refusal(&at_1(s(13, 9, 9, 9, 9)), 6, 1);
+    check_refusal(&at_1(s(13, 0, 1, 9, 0)), 6, 1);
+    check_refusal(&at_1(s(13, 0, 0, 9, 1)), 6, 1);
     check_refusal(&at_1(s(2, 9, 0, 9, 0)), 6, 1);
     check_refusal(&at_1(with_byte(s(11, 0, 0, 9, 0), 31, 1)), 6, 1);
     // A shape that breaks the layout and would not be one either.
@@ -100,7 +108,7 @@ fn lowest_number_first_within_a_record() {
 #[test]
 fn input_order_across_records() {
     let bad_target = s(11, 0, 0, 9, 0);
-    let bad_op = s(13, 0, 0, 0, 0);
+    let bad_op = s(14, 0, 0, 0, 0);
     check_refusal(&input(&[bad_target, bad_op, shape()]), 7, 0);
     check_refusal(&input(&[bad_op, bad_target, shape()]), 5, 0);
     let broken = with_byte(shape(), 1, 1);

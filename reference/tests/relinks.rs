@@ -278,5 +278,4 @@ fn the_program_prints_both_guards() {
         format!("4500000003000200{}\n", zeros(48)),
     ];
     check(&["translate"], &unlink, 0, &lines.concat());
-    check(&["translate"], &input(&[s(13, 0, 1, 1, 0), stop(), h(NULLS, &[])]), 1, "refused 5 0\n");
 }

@@ -18,6 +18,18 @@ fn the_fixed_seed_agrees_and_meets_everything() {
     for relinks in [counts.relinks_listed, counts.relinks_run, counts.relinks_stepped] {
         assert!(relinks.iter().all(|&count| count >= 400), "{relinks:?}");
     }
+    let drops = counts.drops;
+    assert!(drops.inputs >= 20_000 && drops.images >= 20_000, "{drops:?}");
+    assert!(drops.heaps >= drops.locations && drops.locations >= drops.inputs, "{drops:?}");
+    for ways in [drops.listed, drops.run, drops.stepped] {
+        assert!(ways.iter().all(|&count| count >= 400), "{ways:?}");
+        // Each drop is of one of the first six.
+        assert!(ways[..6].iter().sum::<u64>() >= 20_000);
+        // Several nodes vanish if they are a stem and its ring, and only then.
+        assert_eq!(ways[5], ways[7]);
+    }
+    assert_eq!(drops.cells_before, drops.cells_after + drops.cells_collected);
+    assert!(drops.full_images >= 500 && drops.cells_collected >= 100_000, "{drops:?}");
     for by_node in [counts.nodes_in_inputs, counts.nodes_in_unfolding] {
         let [lost, not_core, otherwise] = by_node;
         assert!(lost.iter().chain(&not_core).chain(&otherwise[..11]).all(|&count| count >= 300), "{by_node:?}");
@@ -34,6 +46,9 @@ fn kinds_that_are_too_few_are_told() {
     [counts.relinks_listed, counts.relinks_run, counts.relinks_stepped] = [[5; 10]; 3];
     [counts.nodes_in_inputs, counts.nodes_in_unfolding] = [[[5; 12]; 3]; 2];
     counts.orders = [5; 11];
+    [counts.drops.listed, counts.drops.run, counts.drops.stepped] = [[5; 20]; 3];
+    // Five for every three routines.
+    [counts.drops.inputs, counts.drops.images] = [666; 2];
     // 19 cannot come at node 11.
     counts.nodes_in_inputs[2][11] = 0;
     assert_eq!(counts.floor(), 5);
@@ -48,12 +63,20 @@ fn kinds_that_are_too_few_are_told() {
     counts.relinks_stepped[6] = 1;
     let relinks = "relink in listings, u >= 2 (3 of 5), relink in steps, u = 1 and w = 1, leak (1 of 5)";
     assert_eq!(counts.too_few(), Some(format!("{due}, {relinks}")));
+    counts.drops.listed[0] = 4;
+    counts.drops.run[8] = 0;
+    let drops = "drop in listings, u null (4 of 5), drop in runs, everything vanishes (0 of 5)";
+    assert_eq!(counts.too_few(), Some(format!("{due}, {relinks}, {drops}")));
     counts.orders[4] = 0;
     counts.nodes_in_inputs[0][11] = 4;
     counts.nodes_in_unfolding[2][10] = 0;
     let nodes = "refusal 9 in inputs at node 11 (4 of 5), refusal 19 in unfolding at node 10 (0 of 5)";
     let damages = format!("damage in unfolding, 13 before it (0 of 5), {nodes}");
-    assert_eq!(counts.too_few(), Some(format!("{due}, {relinks}, {damages}")));
+    let kinds = format!("{due}, {relinks}, {drops}, {damages}");
+    assert_eq!(counts.too_few().as_ref(), Some(&kinds));
+    [counts.drops.inputs, counts.drops.images] = [665, 0];
+    let drawn = "drop inputs with a location at a drop (665 of 666), drop images (0 of 666)";
+    assert_eq!(counts.too_few(), Some(format!("{kinds}, {drawn}")));
 }
 
 #[test]

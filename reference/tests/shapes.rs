@@ -3,19 +3,9 @@
 mod common;
 
 use common::shapes::Defects;
+use common::small::all_lists;
 use common::*;
 use reference::unfold;
-
-/// All lists of this length over the values of so many nodes.
-fn all_lists(length: usize, nodes: usize) -> Vec<Vec<u8>> {
-    let mut values: Vec<u8> = (0..nodes as u8).collect();
-    values.extend([NULL, UNDEF]);
-    let mut lists = vec![Vec::new()];
-    for _ in 0..length {
-        lists = lists.iter().flat_map(|list| values.iter().map(|&value| [&list[..], &[value]].concat())).collect();
-    }
-    lists
-}
 
 /// The answer that is due of an unfolding, if only the record matters.
 fn due(record: &Record) -> Result<(), reference::Refusal> {

@@ -54,6 +54,10 @@ fn due_refusal(held: &[u8; 6], cells: &Cells) -> u8 {
     u8::from((0..3).any(|cell| cells[cell] != UNUSED && !reached[cell])) * 14
 }
 
+fn in_use(cells: &Cells) -> usize {
+    cells.iter().filter(|&&byte| byte != UNUSED).count()
+}
+
 /// Walks both images from the pointers and pairs their cells off.
 fn same_heap(one: (&[u8; 6], &Cells), other: (&[u8; 6], &Cells)) -> bool {
     let mut pairs: Vec<(u8, u8)> = one.0.iter().copied().zip(other.0.iter().copied()).collect();
@@ -77,8 +81,7 @@ fn same_heap(one: (&[u8; 6], &Cells), other: (&[u8; 6], &Cells)) -> bool {
         let clash = |two: &&(u8, u8)| two.0 < 3 && (two.0 == pair.0) != (two.1 == pair.1);
         !pairs.iter().any(|two| clash(&two))
     };
-    let count = |cells: &Cells| cells.iter().filter(|&&byte| byte != UNUSED).count();
-    pairs.iter().all(alone) && count(one.1) == count(other.1)
+    pairs.iter().all(alone) && in_use(one.1) == in_use(other.1)
 }
 
 #[test]
@@ -134,6 +137,15 @@ fn effect(held: &mut [u8; 6], cells: &mut Cells, fields: [u8; 3], pick: u64, cel
             }
             cells[usize::from(gone)] = UNUSED;
         }
+        13 => {
+            held[u] = NULL;
+            let reached = reached(held, cells);
+            for (cell, byte) in cells.iter_mut().enumerate() {
+                if !reached[cell] {
+                    *byte = UNUSED;
+                }
+            }
+        }
         8 if held[u] == UNDEF => return Err(2),
         8 => return Ok(held[u] == NULL),
         9 if held[u] == UNDEF || held[w] == UNDEF => return Err(2),
@@ -169,7 +181,7 @@ fn due_step(held: &mut [u8; 6], cells: &mut Cells, fields: [u8; 3], pick: u64, c
 fn all_statements() -> Vec<Record> {
     let mut statements = vec![stop(), s(10, 0, 0, 41, 42), s(11, 0, 0, 41, 0)];
     for u in 0..3 {
-        statements.extend([1, 4, 6, 7].map(|op| s(op, u, 0, 41, 0)));
+        statements.extend([1, 4, 6, 7, 13].map(|op| s(op, u, 0, 41, 0)));
         statements.push(s(8, u, 0, 41, 42));
         for w in 0..3 {
             statements.extend([2, 3, 5, 12].map(|op| s(op, u, w, 41, 0)));
@@ -185,6 +197,7 @@ fn every_statement() {
     let mut faults = [0; 4];
     let mut tests = [0; 2];
     let mut relinks = [0; 4];
+    let mut collected = [0; 4];
     let sound = all_images().into_iter().filter(|(held, cells)| due_refusal(held, cells) == 0);
     for (number, (held, cells)) in sound.enumerate() {
         for statement in &statements {
@@ -201,6 +214,7 @@ fn every_statement() {
             match fields[0] {
                 op @ (8 | 9) if fault != 0 => tests[usize::from(op - 8)] += 1,
                 12 => relinks[usize::from(fault)] += 1,
+                13 => collected[in_use(&cells) - in_use(&to_cells)] += 1,
                 _ => {}
             }
         }
@@ -208,4 +222,5 @@ fn every_statement() {
     assert!(faults[1..].iter().all(|&count| count > 500), "{faults:?}");
     assert!(tests.iter().all(|&count| count > 500), "{tests:?}");
     assert!(relinks.iter().all(|&count| count > 100), "{relinks:?}");
+    assert!(collected.iter().all(|&count| count > 40), "{collected:?}");
 }

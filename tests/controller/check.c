@@ -16,10 +16,10 @@ static struct tally {
     const char *name;
     uint64_t looked, failed;
 } tallies[KINDS] = {
-    {"translations", 0, 0},           {"the rule for other tables", 0, 0}, {"records put together again", 0, 0},
-    {"records of a listing", 0, 0},   {"folds", 0, 0},                     {"unfoldings", 0, 0},
-    {"steps", 0, 0},                  {"records of any tables", 0, 0},     {"bytes beside what is lent", 0, 0},
-    {"what is only read", 0, 0},      {"shelf cases", 0, 0},
+    {"translations", 0, 0},   {"the rule for other tables", 0, 0}, {"records put together again", 0, 0},
+    {"edges of drops", 0, 0}, {"records of a listing", 0, 0},      {"folds", 0, 0},
+    {"unfoldings", 0, 0},     {"steps", 0, 0},                     {"records of any tables", 0, 0},
+    {"bytes beside what is lent", 0, 0}, {"what is only read", 0, 0}, {"shelf cases", 0, 0},
 };
 
 /* the trial at hand, with what it is given, for reports */

@@ -5,7 +5,9 @@
 #include "lent.h"
 
 /* Each kind of look is one test. */
-enum kind { TRANSLATIONS, RULE, READERS, PARTS, FOLDS, UNFOLDINGS, STEPS, RECORDS, GUARDS, ONLY_READ, SHELF, KINDS };
+enum kind {
+    TRANSLATIONS, RULE, READERS, DROP_EDGES, PARTS, FOLDS, UNFOLDINGS, STEPS, RECORDS, GUARDS, ONLY_READ, SHELF, KINDS
+};
 
 /* A trial or a case begins: what is given is forgotten, and buffers are arranged by its number. */
 void begin(const char *name, uint64_t number);
@@ -50,9 +52,9 @@ enum met {
     /* in other tables */
     JUST_FIT, RECORD_SHORT, BYTE_SHORT, NO_BYTES, ODD_LENGTH,
     /* in any */
-    PAST_FULL, RECORDS_READ, TWELVE_NODES,
+    PAST_FULL, RECORDS_READ, TWELVE_NODES, DROP_LISTINGS, DROP_LOCATIONS, NODES_VANISH, OP_14_LISTED,
     FOLD_TRIALS, TWELVE_FOLDED, UNFOLD_TRIALS,
-    STEP_TRIALS, FAULT_1, FAULT_2, FAULT_3, STOPS, SECOND_BRANCHES,
+    STEP_TRIALS, FAULT_1, FAULT_2, FAULT_3, STOPS, SECOND_BRANCHES, COLLECTING, NOT_COLLECTING, OP_14_STEPPED,
     RECORD_TRIALS,
     /* damaged H records, by call and in all */
     DAMAGED_TRANSLATED, DAMAGED_UNFOLDED, DAMAGED,
@@ -94,7 +96,7 @@ void try_step(enum kind kind, const struct heap *before, const uint8_t *statemen
               const struct heap *after, const struct told *told, const uint8_t answer[4]);
 
 /* Of an accepted translation whose tables stand there: every record is put together again from what the header's
- * functions read, and some records are asked for. */
+ * functions read, the edges of drops are looked at, and some records are asked for. */
 void read_listing(const struct translation *t);
 
 /* The shelf cases: how many passed; those that failed are added to `failed`. */

@@ -118,6 +118,22 @@ void unfold_trial(void)
     met_refusal(OF_UNFOLD, &told);
 }
 
+static size_t in_use(const struct heap *heap)
+{
+    size_t used = 0;
+    for (size_t cell = 0; cell < heap->cells_length; cell++) used += heap->cells[cell] != CURRANTPLANE_UNUSED;
+    return used;
+}
+
+/* Drops by whether they collect, and the first op that there is not. */
+static void count_op(uint8_t op, uint8_t refusal, size_t before, size_t after)
+{
+    int drops = op == CURRANTPLANE_DROP && refusal == CURRANTPLANE_ACCEPTED;
+    met(COLLECTING, drops && after < before);
+    met(NOT_COLLECTING, drops && after == before);
+    met(OP_14_STEPPED, op == CURRANTPLANE_DROP + 1 && refusal == CURRANTPLANE_BAD_OP);
+}
+
 void step_trial(void)
 {
     static struct heap before, after;
@@ -137,4 +153,5 @@ void step_trial(void)
     if (answer[CURRANTPLANE_FAULT]) met((enum met)(FAULT_1 + answer[CURRANTPLANE_FAULT] - 1), 1);
     met(STOPS, answer[CURRANTPLANE_STOPPED]);
     met(SECOND_BRANCHES, answer[CURRANTPLANE_BRANCH]);
+    if (statement_length == 32) count_op(statement[1], told.refusal, in_use(&before), in_use(&after));
 }

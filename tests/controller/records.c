@@ -56,6 +56,55 @@ static void read_records(const struct told *told)
     met(RECORDS_READ, told->locations + told->edges);
 }
 
+/* The old counters that an edge adds in some update; all of them where a constant is not 0 or one is added twice. */
+static unsigned carried(const uint8_t *edge, size_t nodes)
+{
+    unsigned all = 0;
+    for (size_t node = 0; node < nodes; node++) {
+        uint16_t update = currantplane_update(edge, node), added = currantplane_added(update);
+        if (currantplane_constant(update) != 0 || (all & added)) return ~0u;
+        all |= added;
+    }
+    return all;
+}
+
+/* The edge of a location at a drop: branch 0, no guard, no fault, u null. The counters that are not carried are those
+ * of nodes that are gone, so that nothing is gone where u holds no node. */
+static void look_at_drop(const uint8_t *edge, const uint8_t *from, const uint8_t *to, const uint8_t *statement)
+{
+    size_t u = statement[2], nodes = currantplane_nodes(from);
+    unsigned all = (1u << nodes) - 1, kept = carried(edge, currantplane_nodes(to));
+    int plain = currantplane_branch(edge) == 0 && currantplane_guard(edge, 0) == CURRANTPLANE_NO_GUARD &&
+                currantplane_guard(edge, 1) == CURRANTPLANE_NO_GUARD;
+    look(DROP_EDGES, plain, "branch and guards");
+    look(DROP_EDGES, currantplane_fault(to) == CURRANTPLANE_NO_FAULT && currantplane_statement(to) == statement[4],
+         "target");
+    look(DROP_EDGES, currantplane_pointer(to, u) == CURRANTPLANE_NULL, "u");
+    look(DROP_EDGES, (kept & ~all) == 0 && (kept == all || currantplane_pointer(from, u) < nodes), "counters");
+    met(NODES_VANISH, kept != all);
+}
+
+/* Each location at a drop has one edge. */
+static void look_at_drops(const struct translation *t)
+{
+    size_t locations = 0, edges = 0;
+    for (size_t number = 0; number < t->told.locations; number++) {
+        const uint8_t *location = currantplane_at(loans[LOCATIONS].at, number);
+        locations += currantplane_at(t->input, currantplane_statement(location))[1] == CURRANTPLANE_DROP;
+    }
+    for (size_t number = 0; number < t->told.edges; number++) {
+        const uint8_t *edge = currantplane_at(loans[EDGES].at, number);
+        const uint8_t *from = currantplane_at(loans[LOCATIONS].at, currantplane_from(edge));
+        const uint8_t *statement = currantplane_at(t->input, currantplane_statement(from));
+        if (statement[1] != CURRANTPLANE_DROP) continue;
+        look_at_drop(edge, from, currantplane_at(loans[LOCATIONS].at, currantplane_to(edge)), statement);
+        edges++;
+    }
+    look(DROP_EDGES, locations == edges, "one edge for each location");
+    met(DROP_LISTINGS, locations > 0);
+    met(DROP_LOCATIONS, locations);
+}
+
 /* What a call for a record tells: the place, where the record begins and its length. */
 static void lend_part(size_t place, size_t begins, size_t length)
 {
@@ -91,6 +140,7 @@ void read_listing(const struct translation *t)
 {
     size_t counts[2] = {t->told.locations, t->told.edges};
     read_records(&t->told);
+    look_at_drops(t);
     for (size_t table = 0; table < 2; table++) {
         if (counts[table]) {
             ask_for(t, table, drawn(counts[table]));

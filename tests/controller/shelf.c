@@ -146,7 +146,7 @@ static void each_op(void)
     static const struct heap small = {6, 4, {0, 2, N, U, 0, N}, {1, N, U, F}};
     static const struct {
         uint8_t op, u, w, second, pointer, pointer_after, cell, cell_after, answer[4];
-    } rows[13] = {
+    } rows[14] = {
         {CURRANTPLANE_STOP, 0, 0, 0, 0, 0, 0, 1, {0, 1, 0, 0}},
         {CURRANTPLANE_SET_NULL, 4, 0, 0, 4, N, 0, 1, {0, 0, 0, 7}},
         {CURRANTPLANE_COPY, 2, 1, 0, 2, 2, 0, 1, {0, 0, 0, 7}},
@@ -160,10 +160,11 @@ static void each_op(void)
         {CURRANTPLANE_CHOOSE, 0, 0, 9, 0, 0, 0, 1, {0, 0, 1, 9}},
         {CURRANTPLANE_SKIP, 0, 0, 0, 0, 0, 0, 1, {0, 0, 0, 7}},
         {CURRANTPLANE_RELINK, 1, 0, 0, 0, 0, 2, 1, {0, 0, 0, 7}},
+        {CURRANTPLANE_DROP, 1, 0, 0, 1, N, 2, F, {0, 0, 0, 7}},
     };
     given.pick = 1;
     given.cell = 3;
-    for (size_t i = 0; i < 13; i++) {
+    for (size_t i = 0; i < 14; i++) {
         uint8_t target = rows[i].op == CURRANTPLANE_STOP ? 0 : 7;
         uint8_t record[32] = {CURRANTPLANE_RECORD_S, rows[i].op, rows[i].u, rows[i].w, target, rows[i].second};
         struct heap after = small;
@@ -171,6 +172,76 @@ static void each_op(void)
         after.cells[rows[i].cell] = rows[i].cell_after;
         try_step(SHELF, &small, record, 32, &after, &accepted, rows[i].answer);
     }
+}
+
+/* Statement 0 drops pointer 0 and goes to 1, which stops. Pointers 0 and 1 hold lists that come together in node 1:
+ * node 0 vanishes, and node 1, which only node 2 then leads to, is merged into that. */
+static void try_drop(size_t locations_length, size_t edges_length, uint8_t refusal)
+{
+    static const uint8_t shape[13] = {CURRANTPLANE_RECORD_H, 0, 0, 3, 0, 2, N, N, N, N, 1, N, 1};
+    static const uint8_t start[13] = {CURRANTPLANE_RECORD_L, 0, 0, 3, 0, 2, N, N, N, N, 1, N, 1};
+    static const uint8_t left[11] = {CURRANTPLANE_RECORD_L, 1, 0, 1, N, 0, N, N, N, N, N};
+    static const uint8_t edge[10] = {CURRANTPLANE_RECORD_E, 0, 0, 0, 1, 0, CURRANTPLANE_NO_GUARD, 0, 0x06, 0x10};
+    uint8_t input[96], locations[64], edges[32];
+    put_statement(input, 0, CURRANTPLANE_DROP, 0, 1);
+    put_statement(input, 1, CURRANTPLANE_STOP, 0, 0);
+    put_record(input, 2, shape, sizeof shape);
+    put_record(locations, 0, start, sizeof start);
+    put_record(locations, 1, left, sizeof left);
+    put_record(edges, 0, edge, sizeof edge);
+    struct told told = {refusal, 0, refusal ? 0 : 2, refusal ? 0 : 1, 0};
+    struct translation t = {input, sizeof input, locations_length, edges_length, told, locations, edges};
+    try_translation(SHELF, &t);
+    if (refusal == 0) read_listing(&t);
+}
+
+static void drop_listed(void)
+{
+    try_drop(64, 32, 0);
+    try_drop(4096, 8192, 0);
+    try_drop(63, 32, CURRANTPLANE_NO_LOCATION);
+    try_drop(64, 31, CURRANTPLANE_NO_EDGE);
+}
+
+/* One pointer after the other is dropped: a list that another one leads into, a pointer beside another, a ring with its
+ * stem, and pointers that are null and undefined. In place of a drop that collects, u := null is a leak. */
+static void drops_in_turn(void)
+{
+    static const struct heap start = {6, 8, {0, 5, N, U, 5, 6}, {1, 2, N, 4, 3, 1, 3, F}};
+    static const struct {
+        uint8_t u, count, gone[3], fault;
+    } rows[7] = {{0, 1, {0}, CURRANTPLANE_LEAK}, {1, 0, {0}, 0}, {2, 0, {0}, 0}, {3, 0, {0}, 0},
+                 {5, 3, {3, 4, 6}, CURRANTPLANE_LEAK}, {4, 3, {1, 2, 5}, CURRANTPLANE_LEAK}, {0, 0, {0}, 0}};
+    struct heap before = start, after;
+    for (size_t i = 0; i < 7; i++) {
+        const uint8_t set_null[32] = {CURRANTPLANE_RECORD_S, CURRANTPLANE_SET_NULL, rows[i].u, 0, 63};
+        const uint8_t drop[32] = {CURRANTPLANE_RECORD_S, CURRANTPLANE_DROP, rows[i].u, 0, 63};
+        const uint8_t fault[4] = {rows[i].fault, 0, 0, rows[i].fault ? 0 : 63}, goes[4] = {0, 0, 0, 63};
+        after = before;
+        after.pointers[rows[i].u] = N;
+        for (size_t j = 0; j < rows[i].count; j++) after.cells[rows[i].gone[j]] = F;
+        try_step(SHELF, &before, set_null, 32, rows[i].fault ? &before : &after, &accepted, fault);
+        try_step(SHELF, &before, drop, 32, &after, &accepted, goes);
+        before = after;
+    }
+}
+
+/* The first op that there is not, in a routine and in a step. */
+static void op_14(void)
+{
+    static const uint8_t shape[10] = {CURRANTPLANE_RECORD_H, 0, 0, 0, N, N, N, N, N, N};
+    static const uint8_t statement[32] = {CURRANTPLANE_RECORD_S, CURRANTPLANE_DROP + 1};
+    static const struct heap empty = {6, 0, {N, N, N, N, N, N}, {0}};
+    static const uint8_t nothing[4];
+    struct told told = {CURRANTPLANE_BAD_OP, 1, 0, 0, 0};
+    uint8_t input[96];
+    put_statement(input, 0, CURRANTPLANE_STOP, 0, 0);
+    put_record(input, 1, statement, 32);
+    put_record(input, 2, shape, sizeof shape);
+    struct translation t = {input, sizeof input, 320, 320, told, NULL, NULL};
+    try_translation(SHELF, &t);
+    told.place = 0;
+    try_step(SHELF, &empty, statement, 32, &empty, &told, nothing);
 }
 
 /* A record as the third starting shape, and again as the fourth, in tables for ten locations and edges. */
@@ -249,7 +320,8 @@ unsigned shelf_cases(unsigned *failed)
         {"counters of 240 unfold", sum_240},          {"counters of 241: 15", sum_241},
         {"240 cells fold", cells_240},                {"241 cells: 13", cells_241},
         {"a step of each op", each_op},               {"9, 18 and 19 with their node", each_node},
-        {"what is read may overlap", overlaps},
+        {"a drop listed", drop_listed},               {"drops in turn, and leaks", drops_in_turn},
+        {"op 14: 5", op_14},                          {"what is read may overlap", overlaps},
     };
     unsigned passed = 0;
     for (size_t i = 0; i < sizeof cases / sizeof cases[0]; i++) {

@@ -186,4 +186,5 @@ void translation_trial(void)
     if (t.locations_length == BENCH_LOCATIONS && t.edges_length == BENCH_EDGES) count_bench(&t.told, &full);
     else count_other(&t, &full);
     met(PAST_FULL, no_place(full.refusal) != 0);
+    met(OP_14_LISTED, t.told.refusal == CURRANTPLANE_BAD_OP && input[32 * t.told.place + 1] == CURRANTPLANE_DROP + 1);
 }

@@ -2,8 +2,8 @@
 
 use super::Spot;
 
-const KEYWORDS: [&str; 12] =
-    ["choose", "else", "free", "goto", "new", "next", "null", "shape", "skip", "stop", "test", "undefined"];
+const KEYWORDS: [&str; 13] =
+    ["choose", "drop", "else", "free", "goto", "new", "next", "null", "shape", "skip", "stop", "test", "undefined"];
 
 #[derive(Clone, PartialEq, Eq, Debug)]
 pub enum Kind {

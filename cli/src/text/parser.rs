@@ -139,10 +139,8 @@ impl Parser {
             Kind::Keyword("stop") => self.single(Op::Stop, "the end of the line, since `stop` goes nowhere"),
             Kind::Keyword("skip") => self.single(Op::Skip, then),
             Kind::Keyword("choose") => self.single(Op::Choose, either),
-            Kind::Keyword("free") => {
-                self.take();
-                Ok((Op::Free, self.pointer("a pointer, p0 to p5")?, 0, then))
-            }
+            Kind::Keyword(word @ "free") => self.pointer_alone(Op::Free, word),
+            Kind::Keyword(word @ "drop") => self.pointer_alone(Op::Drop, word),
             Kind::Keyword("test") => {
                 self.take();
                 let u = self.pointer("a pointer, p0 to p5")?;
@@ -161,6 +159,16 @@ impl Parser {
     fn single(&mut self, op: Op, then: &'static str) -> Result<(Op, u8, u8, &'static str), Error> {
         self.take();
         Ok((op, 0, 0, then))
+    }
+
+    /// `free` or `drop` and its pointer: what a next leads to must be held by a pointer first.
+    fn pointer_alone(&mut self, op: Op, word: &str) -> Result<(Op, u8, u8, &'static str), Error> {
+        self.take();
+        let (u, then) = (self.pointer("a pointer, p0 to p5")?, "`goto` or the end of the line");
+        match self.peek().kind {
+            Kind::Sign(".") => self.wrong(format!("{then}, since `{word}` takes a pointer alone")),
+            _ => Ok((op, u, 0, then)),
+        }
     }
 
     fn assignment(&mut self, u: u8) -> Result<(Op, u8, u8, &'static str), Error> {

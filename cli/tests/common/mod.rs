@@ -6,8 +6,21 @@ use std::path::{Path, PathBuf};
 use std::process::{Command, Output, Stdio};
 use tool::record::{Shape, NODES, NULL, POINTERS, SIZE};
 
-pub const EXAMPLES: [&str; 11] =
-    ["reverse", "insert", "remove", "unlink", "clear", "ring", "two-lists", "leak", "unlink-leak", "freed", "compared"];
+pub const EXAMPLES: [&str; 13] = [
+    "reverse",
+    "insert",
+    "remove",
+    "unlink",
+    "clear",
+    "clear-drop",
+    "drop",
+    "ring",
+    "two-lists",
+    "leak",
+    "unlink-leak",
+    "freed",
+    "compared",
+];
 
 pub fn root() -> PathBuf {
     Path::new(env!("CARGO_MANIFEST_DIR")).parent().unwrap().to_path_buf()
@@ -132,14 +145,14 @@ impl Draw {
     }
 
     fn statement(&mut self, s: usize, n: usize, pointers: usize) -> [u8; 32] {
-        let op = [1, 2, 2, 3, 3, 3, 4, 5, 5, 6, 6, 7, 8, 9, 9, 10, 10, 11, 12, 12, 0][self.below(21)];
+        let op = [1, 2, 2, 3, 3, 3, 4, 5, 5, 6, 6, 7, 8, 9, 9, 10, 10, 11, 12, 12, 13, 13, 0][self.below(23)];
         // a long routine would seldom get far past many stops
         let op = if op == 0 && n > 20 && !self.one_in(4) { 10 } else { op };
         let target = |d: &mut Draw| if d.one_in(3) { d.below(n) as u8 } else { ((s + 1) % n) as u8 };
         let mut record = [0; 32];
         record[0] = b'S';
         record[1] = op;
-        if matches!(op, 1..=9 | 12) {
+        if matches!(op, 1..=9 | 12 | 13) {
             record[2] = self.below(pointers) as u8;
         }
         if matches!(op, 2 | 3 | 5 | 9 | 12) {

@@ -22,6 +22,7 @@ use Rattle.model.proofs.records.NodeChecks.{first-fails, none-fails}
 use Rattle.model.proofs.shapes.Canonical.{all-node, visit-count}
 use Rattle.model.proofs.visits.Order.{used-below}
 use Rattle.visit.specs.Visit.{Visited}
+use Rattle.visit.proofs.Whole.{kept-held}
 use Rattle.visit.proofs.Laws.{visited-length}
 use Rattle.canonical.proofs.Finding.{moved-first, place-same}
 
@@ -54,7 +55,7 @@ module _ {ps cs o s : List ℕ} {r : ℕ} (x : Visited ps cs o s r) where
     pub inner-first : placeOf (λ c. ltb (getD s c 0) 2) (numbers 0 (length cs))
         ≡ placeOf (λ v. not (core (heapOf ps cs) v)) (nodes (heapOf ps cs))
     inner-first = first-same (core (heapOf ps cs)) (λ c. ltb (getD s c 0) 2)
-        (λ c l. below-leb (getD s c 0) 2 ∙ ap not (x .held is-kept c l))
+        (λ c l. below-leb (getD s c 0) 2 ∙ ap not (kept-held x is-kept c l))
 
     pub moved-node : closed (heapOf ps cs) ≡ true → length cs ≤ length o
         → placeOf (λ c. not (eqb (getD o c 0) c)) (numbers 0 (length cs))

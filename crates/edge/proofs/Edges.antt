@@ -17,11 +17,11 @@ use Rattle.model.specs.Structs.{Coded, opIn, stmtIn}
 use Rattle.model.specs.declared.Decoded.{Decoded}
 use Rattle.model.specs.declared.EdgeMade.{EdgeMade}
 use Rattle.model.specs.declared.Guards.{Guards}
-use Rattle.model.proofs.expansion.Splits.{tail-used}
+use Rattle.model.proofs.expansion.Splits.{tail-used, view-acts}
 use Rattle.model.proofs.expansion.Step.{step-go}
 use Rattle.model.proofs.lists.Logic.{bool-case}
 use Rattle.model.proofs.ways.Picks.{accept-room, room-of}
-use Rattle.model.proofs.ways.Views.{view-acts, view-looks, view-split}
+use Rattle.model.proofs.ways.Views.{view-looks, view-split}
 use Rattle.effect.specs.Effect.{effectOf}
 use Rattle.machine.specs.Run.{Bytes}
 use Rattle.record.specs.Written.{faultBytes}

@@ -2,7 +2,7 @@
 -- the run would be done with the heap as it is, which is its own shape, and each counter is carried.
 use Prim.Native.Nat.{ℕ, _+_, _^_, _≤_, _<_}
 use mathlib.Core.Path.{_≡_, refl, subst, sym, ap, ap₂, _∙_}
-use mathlib.Core.Bool.{_&&_, true, false, cond}
+use mathlib.Core.Bool.{_&&_, true, false}
 use mathlib.Core.List.{List, [], _∷_, map, map-map}
 use native.Mathlib.Omega.{arith}
 use lib.Dec.{leb}
@@ -13,13 +13,14 @@ use Rattle.model.specs.Base.{numbers}
 use Rattle.model.specs.Edges.{Edge, at, stepBy, updateOf}
 use Rattle.model.specs.Heap.{Heap}
 use Rattle.model.specs.Image.{heapOf}
-use Rattle.model.specs.Machine.{action, answerOf, branch, carryOut, done, effect, fault, keep, kind, leak, target}
+use Rattle.model.specs.Machine.{action, answerOf, branch, carryOut, collects, done, effect, kind, settle, target}
 use Rattle.model.specs.Notions.{Canon, Views}
 use Rattle.model.specs.Records.{byte, locRecord, shapeOf, updateCode}
 use Rattle.model.specs.Shape.{Seg, segments}
 use Rattle.model.specs.Structs.{keepsAt, opIn, stmtIn}
 use Rattle.model.specs.declared.Decoded.{Decoded}
-use Rattle.model.proofs.expansion.Facts.{closed-test, kept-test}
+use Rattle.model.proofs.expansion.Collect.{settle-fault, settle-kept}
+use Rattle.model.proofs.expansion.Facts.{closed-test}
 use Rattle.model.proofs.lists.Lists.{in-single, map-same, mem-in}
 use Rattle.model.proofs.lists.Logic.{bool-case, clash}
 use Rattle.model.proofs.lists.Numbers.{in-numbers, length-numbers, read-all}
@@ -55,7 +56,7 @@ module _ {l : List ℕ} {d : Decoded} {s : ℕ} {h : Heap} {y : Way} (R : WayRea
 
 -- nothing of a shape is lost
 kept-run : (d : Decoded) (k : ℕ) (h : Heap) → Canon h → effect (opIn d) k h ≡ done h → carryOut (opIn d) k h ≡ done h
-kept-run d k h C e = ap keep e ∙ ap (λ b. cond b (done h) (fault leak)) (kept-test h (C .kept))
+kept-run d k h C e = ap (settle (collects (kind (opIn d)))) e ∙ settle-kept (collects (kind (opIn d))) h (C .kept)
 
 -- the fault that a test was answered is that of its run
 pub still-faults : {l : List ℕ} {d : Decoded} {y : Way} (f : ℕ) → keepsAt (d .op) ≡ true
@@ -63,8 +64,12 @@ pub still-faults : {l : List ℕ} {d : Decoded} {y : Way} (f : ℕ) → keepsAt 
 still-faults {l = l} {d = d} {y = y} f stays t bad s h R =
     let k = length (h .slots) in
     let x = answer-fault (action (opIn d)) k h (closed-test h (R .isShape .closed)) f h
-    (subst (λ (g : Heap). effectOf f g ≡ effect (opIn d) k g) (shape-is R) (t k (shapeOf l) refl)) bad in
-    (x .0, x .2, ap (carryOut (opIn d) k) (still-heap R stays) ∙ ap keep (x .1))
+    (subst (λ (g : Heap). effectOf f g ≡ effect (opIn d) k g) (shape-is R) (t k (shapeOf l) refl)) bad in (
+      x .0,
+      x .2,
+      ap (carryOut (opIn d) k) (still-heap R stays)
+          ∙ ap (settle (collects (kind (opIn d)))) (x .1) ∙ settle-fault (collects (kind (opIn d))) _,
+    )
 
 pub still-keeps : (l : List ℕ) (d : Decoded) (f : ℕ) → TestFault d (take 6 (drop 4 l)) f → f ≡ 0 → KeepsShape l d
 still-keeps l d f t z n = sym (sym (ap (λ i. effectOf i (shapeOf l)) z) ∙ t n (shapeOf l) refl)

@@ -1,5 +1,5 @@
 -- The ops that leave the heap, by their numbers; and what comparing bytes comes to.
-use Prim.Native.Nat.{ℕ, _<_}
+use Prim.Native.Nat.{ℕ, _<_, _≤_}
 use mathlib.Core.Path.{_∙_, _≡_, ap, refl, sym}
 use mathlib.Core.Bool.{Bool, _&&_, _||_, cond, false, true}
 use native.Mathlib.Omega.{arith}
@@ -16,14 +16,23 @@ use Rattle.model.proofs.ways.Tests.{look-past, look-undef}
 use Rattle.branch.proofs.Ops.{Missed, missed}
 use Rattle.effect.specs.Effect.{Compares, effectOf}
 
--- an op that is none of 1 to 7, and not 12, is a stop, or one of 8 to 11
-pub keeps-rest : (op : ℕ) → op < opCount → Missed 1 7 op → (op ≡ 12 → ⊥) → keepsAt op ≡ true
-keeps-rest op lt m n =
+below-twelve : (op : ℕ) → op < opCount → (op ≡ 12 → ⊥) → (op ≡ 13 → ⊥) → op ≤ 11
+below-twelve op lt n k = omega arith
+
+from-one : (op : ℕ) → (op ≡ 0 → ⊥) → 1 ≤ op
+from-one op z = omega arith
+
+from-eight : (op : ℕ) → (op < 8 → ⊥) → 8 ≤ op
+from-eight op f = omega arith
+
+-- an op that is none of 1 to 7, and not 12 or 13, is a stop, or one of 8 to 11
+pub keeps-rest : (op : ℕ) → op < opCount → Missed 1 7 op → (op ≡ 12 → ⊥) → (op ≡ 13 → ⊥) → keepsAt op ≡ true
+keeps-rest op lt m n k =
     bool-case (eqb op 0) (or-l (eqb op 0) (leb 8 op && leb op 11))
     (λ e. let z = eqb-false op 0 e in
-    let no : op < 8 → ⊥ = λ l. missed 1 7 op m (omega arith) l in
+    let no : op < 8 → ⊥ = λ l. missed 1 7 op m (from-one op z) l in
     or-r (eqb op 0) (leb 8 op && leb op 11)
-    (and-both (leb 8 op) (leb op 11) (le-leb 8 op (omega arith)) (le-leb op 11 (omega arith))))
+    (and-both (leb 8 op) (leb op 11) (le-leb 8 op (from-eight op no)) (le-leb op 11 (below-twelve op lt n k))))
 
 -- of these, all but the tests, 8 and 9, do nothing
 abbrev idleAt : ℕ → Bool

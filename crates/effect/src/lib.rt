@@ -1,5 +1,6 @@
 // The effect of a statement on a heap image that is lent.
-// An effect answers 0 where it is done, else the fault's number; a fault leaves the image. It does not look for leaks.
+// An effect answers 0 where it is done, else the fault's number; a fault leaves the image. Nothing is done about lost
+// cells.
 use model::Decoded;
 use model::Pointer;
 ghost use mathlib.Core.Path.{_≡_};
@@ -172,6 +173,7 @@ pub fn run_effect(d: Decoded, x: usize, pointers: &mut [u8], cells: &mut [u8]) -
         6 => new_cell(d.u, x, pointers, cells),
         7 => free_at(at, pointers, cells),
         12 => relink_through(at, v, cells),
+        13 => set_pointer(d.u, 0xfe, pointers),
         _ => test_fault(d, &pointers[..]),
     }
 }

@@ -5,7 +5,7 @@ use mathlib.Core.Bool.{Bool, true, false, not}
 use mathlib.Core.List.{List}
 use borrow.Author.Tests.{ltb-true}
 use Rattle.model.specs.Heap.{Heap}
-use Rattle.model.specs.Machine.{Kind, Stmt, acts, branch, branchBy, halts, tests, isStop, kind, picks, target}
+use Rattle.model.specs.Machine.{Kind, Stmt, acts, branch, branchBy, drops, halts, tests, isStop, kind, picks, target}
 use Rattle.model.specs.Records.{byte, opCount, opOf, stmtOf, targetBelow, usesFirst, usesSecond}
 use Rattle.model.specs.Structs.{decoded}
 use Rattle.model.proofs.lists.Logic.{and-l, and-r, bool-case, clash}
@@ -18,12 +18,14 @@ use Rattle.location_edges.specs.LocationEdges.{Among}
 abbrev turns : Kind → Bool
 turns halts = false
 turns (acts x) = false
+turns (drops u) = false
 turns (tests u s) = true
 turns picks = true
 
 branch-first : (k : Kind) (p : ℕ) (h : Heap) → turns k ≡ false → branchBy k p h ≡ 0
 branch-first halts p h e = refl
 branch-first (acts x) p h e = refl
+branch-first (drops u) p h e = refl
 branch-first (tests u s) p h e = clash refl e
 branch-first picks p h e = clash refl e
 

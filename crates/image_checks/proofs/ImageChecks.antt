@@ -12,6 +12,7 @@ use Rattle.model.specs.Heap.{closed, eachUsed, kept}
 use Rattle.model.specs.Image.{cellSlot, heapOf, lengths, refusalImage, checksImage}
 use Rattle.model.proofs.lists.Logic.{and-l, and-r}
 use Rattle.model.proofs.records.Checks.{given-failed, pass-none}
+use Rattle.visit.proofs.Whole.{kept-held}
 use Rattle.visit.proofs.Laws.{kept-marked}
 use Rattle.visit.specs.Visit.{VisitReady, Visited}
 use Rattle.image_checks.specs.Checked.{ImageChecked}
@@ -71,4 +72,4 @@ module _ {ps cs o m : List ℕ} where
       check-done f =
           let i : kept (heapOf ps cs) ≡ true = sym (kept-marked d) ∙ sym w ∙ f in
           let none = sym (pass-none (checksImage ps cs) (good, (i, tt))) in
-          record { refusal = none; visited = λ _. d .visited; few = λ _. d .few; held = λ _. d .held i }
+          record { refusal = none; visited = λ _. d .visited; few = λ _. d .few; held = λ _. kept-held d i }

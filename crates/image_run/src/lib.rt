@@ -20,11 +20,7 @@ fn run_on(d: Decoded, x: usize, pointers: &mut [u8], cells: &mut [u8]) -> u8
         return number;
     }
     let n = visit::visit(&pointers[..], &cells[..], &mut order, &mut seen);
-    if machine::keeps_all(&cells[..], &seen, n) {
-        0
-    } else {
-        3
-    }
+    machine::settle(d.op, cells, &seen, n)
 }
 
 // Puts the image ps, cs back where a run had a fault.

@@ -46,7 +46,7 @@ pub fn all_values(bytes: &[u8], k: u8) -> bool
 pub fn uses_u(op: u8) -> bool
     ensures { λ r. ⌜ r ≡ usesU op ⌝ }
 {
-    ((1 <= op) & (op <= 9)) | (op == 12)
+    ((1 <= op) & (op <= 9)) | (op == 12) | (op == 13)
 }
 
 pub fn uses_w(op: u8) -> bool

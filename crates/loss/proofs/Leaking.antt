@@ -6,7 +6,7 @@ use mathlib.Core.List.{List}
 use native.Mathlib.Omega.{arith}
 use lib.ListN.{drop, getD, length, length-drop, take}
 use lib.Seq.{getD-drop, getD-take, length-take-le}
-use borrow.Author.Tests.{eq-eqb}
+use borrow.Author.Tests.{eq-eqb, ne-eqb}
 use Rattle.model.specs.Heap.{Heap, Val, cell, holds, next, null, ptr, undef, unused}
 use Rattle.model.specs.Records.{byte, shapeOf, valByte, valOf}
 use Rattle.model.proofs.records.Bytes.{byte-back, val-cell}
@@ -23,11 +23,12 @@ use Rattle.way.proofs.Ready.{location-wide, node-below, node-used, nodes-few, n
 use Rattle.loss.specs.Loss.{AloneHolds, Leaks, Overwrites, cutsAt}
 use Rattle.loss.proofs.Ops.{Reads, copies, cuts, cuts-op, follows, neither, reads, reads-op, sets, sets-op}
 use mathlib.Core.Option.{some}
-use Rattle.model.specs.Machine.{Source, Action, action, point, keep, valueOf, perform, from, fault, leak, nil, follow, link, held, make, release, compare, splice, stay}
+use Rattle.model.specs.Machine.{Op, Source, Action, action, carryOut, collects, kind, settle, point, keep, valueOf, perform, from, fault, leak, nil, follow, link, held, make, release, compare, splice, stay}
 use Rattle.model.proofs.expansion.Unheld.{free-leaks, NoNext, split-used, split-none, set-leaks, write-leaks, held-other, new-leaks}
 use Rattle.model.specs.Edges.{splitHeap, twoNodes, view}
 use Rattle.model.specs.Structs.{keepsAt, opIn}
-use Rattle.model.proofs.expansion.Splits.{pair-is, pair-view, view-is}
+use Rattle.model.proofs.expansion.Splits.{pair-is, pair-view, view-collects, view-is}
+use Rattle.model.proofs.records.Ops.{op-collects}
 use Rattle.model.proofs.ways.Relinks.{split-leaks}
 
 null-cell : {c : ℕ} → _≡_ {A = Val} null (cell c) → ⊥
@@ -95,6 +96,11 @@ module _ {l : List ℕ} {d : Decoded} {s : ℕ} {h : Heap} {y : Way} (R : WayRea
   held-by i lt q = pointer-here i lt ∙ val-cell (byte l (i + 4)) (λ e. omega (arith, nodes-few R))
       (λ e. omega (arith, nodes-few R))
 
+-- a leak of an op that collects nothing
+leak-stands : (op : Op) (n : ℕ) (h : Heap) → collects (kind op) ≡ false → keep (perform (action op) n h) ≡ fault leak
+    → carryOut op n h ≡ fault leak
+leak-stands op n h c e = ap (λ b. settle b (perform (action op) n h)) c ∙ e
+
 -- the tail of the node that u holds goes with its head's next
 pub cut-leaks : (l : List ℕ) (d : Decoded) (y : Way) → cutsAt (d .op) ≡ true
     → (y .split ≡ true) × (y .node .0 ≡ byte l (d .u .0 + 4)) → Leaks l d y
@@ -102,8 +108,10 @@ cut-leaks l d y c e s h R =
     let u = d .u .0 in
     let lt : byte l (u + 4) < byte l 3 = omega (arith, e .1, node-below R (e .0)) in
     rw (e .0)
+    (leak-stands (opIn d) (length (h .slots)) (splitHeap (y .node .0) (length (h .slots)) h)
+    (view-collects (kind (opIn d)) h (y .node .0) (R .isNode (e .0)))
     (cut-run R (e .0) (action (opIn d)) u (cuts-op (d .op) u (d .w .0) (R .statement .known) c)
-    (held-by R u (R .statement .isU) lt ∙ ap cell (sym (e .1))) (R .isNode (e .0)))
+    (held-by R u (R .statement .isU) lt ∙ ap cell (sym (e .1))) (R .isNode (e .0))))
 
 -- ---- a node that one pointer alone holds
 
@@ -180,14 +188,18 @@ module _ {l : List ℕ} {d : Decoded} {s : ℕ} {h : Heap} {y : Way} (R : WayRea
 
 pub alone-leaks : (l : List ℕ) (d : Decoded) (y : Way) → keepsAt (d .op) ≡ false → cutsAt (d .op) ≡ false
     → Overwrites l (d .op) (d .u .0) (d .w .0) → AloneHolds l (d .u .0) → Leaks l d y
-alone-leaks l d y k c o A s h R =
+alone-leaks l d y q c o A s h R =
     let u = d .u .0 in
     let a = byte l (u + 4) in
     let below : a < length (h .slots) = omega (arith, A .0, nodes-is R) in
     let v = y .node .0 in
-    let st = sets-op (d .op) u (d .w .0) (R .statement .known) c k in
+    let st = sets-op (d .op) u (d .w .0) (R .statement .known) c q in
     let an = another R A o in
+    let n = op-collects (d .op) u (d .w .0) (R .statement .known) ∙ ne-eqb (d .op) 13 (o .2) in
+    let k = length (h .slots) in
     bool-case (y .split)
-    (λ e. rw e (over-run R A (splitHeap v (length (h .slots)) h) refl (split-used h v a (node-used R e) (in-use R A))
-    (split-none h v a below (none-next R A)) (action (opIn d)) st an))
-    (λ e. rw e (over-run R A h refl (in-use R A) (none-next R A) (action (opIn d)) st an))
+    (λ e. rw e (leak-stands (opIn d) k (splitHeap v k h) n
+    (over-run R A (splitHeap v k h) refl (split-used h v a (node-used R e) (in-use R A))
+    (split-none h v a below (none-next R A)) (action (opIn d)) st an)))
+    (λ e. rw e (leak-stands (opIn d) k h n
+    (over-run R A h refl (in-use R A) (none-next R A) (action (opIn d)) st an)))

@@ -23,9 +23,9 @@ cutsAt op = eqb op 4 || eqb op 5 || eqb op 7 || eqb op 12
 abbrev pub StandsOnce : List ℕ → ℕ → Type 0
 StandsOnce l a = (i : ℕ) → 4 ≤ i → i < byte l 3 + 10 → byte l i ≡ byte l a → i ≡ a
 
--- u := w has another w, and u := w.next a w that holds a node
+-- u := w has another w, u := w.next a w that holds a node, and drop collects what it loses
 abbrev pub Overwrites : List ℕ → ℕ → ℕ → ℕ → Type 0
-Overwrites l op u w = (op ≡ 2 → u ≡ w → ⊥) × (op ≡ 3 → byte l (w + 4) < byte l 3)
+Overwrites l op u w = (op ≡ 2 → u ≡ w → ⊥) × (op ≡ 3 → byte l (w + 4) < byte l 3) × (op ≡ 13 → ⊥)
 
 abbrev pub AloneHolds : List ℕ → ℕ → Type 0
 AloneHolds l u = (byte l (u + 4) < byte l 3) × StandsOnce l (u + 4)

@@ -47,8 +47,8 @@ fn stands_once(location: &[u8], u: Pointer) -> bool
     count == 1
 }
 
-// Whether the op puts another value into pointer u: not so where it copies u to itself, or reads through a pointer
-// that holds no node.
+// Whether the op puts another value into pointer u, and collects nothing: not so where it copies u to itself, or reads
+// through a pointer that holds no node, or is a drop.
 fn overwrites(location: &[u8], op: u8, u: Pointer, w: Pointer) -> bool
     requires { ⌜ (length (now location) ≡ recordSize) × (w .0 < pointerCount) ⌝ }
     ensures { λ r. ⌜ (r ≡ true → Overwrites (now (location .entry)) op (u .0) (w .0)) ⌝ }
@@ -59,7 +59,7 @@ fn overwrites(location: &[u8], op: u8, u: Pointer, w: Pointer) -> bool
         let at = w.0 as usize + 4;
         location[at] < location[3]
     } else {
-        true
+        op != 13
     }
 }
 

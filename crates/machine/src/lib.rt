@@ -2,14 +2,9 @@
 // `image_run`, by the same laws.
 use model::Decoded;
 ghost use mathlib.Core.Path.{_≡_};
-ghost use mathlib.Core.Bool.{not, _||_};
-ghost use mathlib.Core.List.{map};
 ghost use Prim.Native.Nat.{_≤_};
-ghost use lib.Dec.{eqb};
-ghost use lib.ListN.{length, getD};
-ghost use Rattle.model.specs.Heap.{eachUsed};
-ghost use Rattle.model.specs.Image.{cellSlot};
-ghost use Rattle.machine.specs.Run.{RunReady, IsRun, bytes};
+ghost use lib.ListN.{length};
+ghost use Rattle.machine.specs.Run.{IsRun, RunReady, Settled, bytes, keptBy};
 
 // What a run gives: the fault (0 for none) and, without one, how many cells were visited.
 pub struct Ran {
@@ -18,10 +13,9 @@ pub struct Ran {
 }
 
 // Whether no cell is lost, where n cells have marks: if that is all of them, there is nothing to look for.
-pub fn keeps_all(cells: &[u8], seen: &[u8], n: usize) -> bool
+fn keeps_all(cells: &[u8], seen: &[u8], n: usize) -> bool
     requires { ⌜ length (now cells) ≤ length (now seen) ⌝ }
-    ensures { λ r. ⌜ r ≡ eqb n (length (now (cells .entry)))
-        || eachUsed (λ c. not (eqb (getD (now (seen .entry)) c 0) 0)) 0 (map cellSlot (now (cells .entry))) ⌝ }
+    ensures { λ r. ⌜ r ≡ keptBy (now (cells .entry)) (now (seen .entry)) n ⌝ }
 {
     if n == cells.len() {
         return true;
@@ -29,7 +23,20 @@ pub fn keeps_all(cells: &[u8], seen: &[u8], n: usize) -> bool
     visit::nothing_lost(cells, seen)
 }
 
-// Runs a statement: faults 1 and 2 first, then the effect, then fault 3 if a cell is lost.
+// What becomes of lost cells, where n cells have marks: drop collects them, at any other statement they are fault 3.
+// Answers the fault, 0 for none.
+pub fn settle(op: u8, cells: &mut [u8], seen: &[u8], n: usize) -> u8
+    requires { ⌜ length (now cells) ≤ length (now seen) ⌝ }
+    ensures { λ r. ⌜ Settled op (now (cells .entry)) (now (seen .entry)) n r (now (cells .exit)) ⌝ }
+{
+    if op == 13 {
+        collection::collect(cells, seen);
+        return 0;
+    }
+    if keeps_all(&cells[..], seen, n) { 0 } else { 3 }
+}
+
+// Runs a statement: faults 1 and 2 first, then the effect, then what it lost.
 pub fn run(
     d: Decoded,
     x: usize,
@@ -50,15 +57,9 @@ pub fn run(
         };
     }
     let n = visit::visit(&pointers[..], &cells[..], order, seen);
-    if keeps_all(&cells[..], &seen[..], n) {
-        Ran {
-            fault: 0,
-            visited: n,
-        }
-    } else {
-        Ran {
-            fault: 3,
-            visited: 0,
-        }
+    let lost = settle(d.op, cells, &seen[..], n);
+    Ran {
+        fault: lost,
+        visited: n,
     }
 }

@@ -6,6 +6,8 @@ pub mod Cuts
 pub mod Start
 pub mod Writes
 pub mod Facts
+pub mod Reach
+pub mod Collect
 pub mod Changes
 pub mod Effects
 pub mod Kinds

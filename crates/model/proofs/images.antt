@@ -3,4 +3,5 @@ pub mod Images
 pub mod NodeAnswers
 pub mod RoundTrips
 pub mod Stepping
+pub mod DropBytes
 pub mod OneToOne

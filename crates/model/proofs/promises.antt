@@ -7,4 +7,5 @@ pub mod PromisesTables
 pub mod PromisesStatements
 pub mod PromisesBench
 pub mod PromisesNodes
+pub mod PromisesDrops
 pub mod Shelf

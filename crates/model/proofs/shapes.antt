@@ -6,7 +6,7 @@ pub mod Canonical
 pub mod Unfold
 pub mod Iso
 pub mod SameShape
-pub mod Reach
 pub mod Segments
 pub mod OneMerge
 pub mod Merge
+pub mod Count

@@ -5,6 +5,7 @@ pub mod Tests
 pub mod Picks
 pub mod Views
 pub mod Ways
+pub mod Drops
 pub mod Relinks
 pub mod Leave
 pub mod Lands

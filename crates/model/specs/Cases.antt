@@ -229,4 +229,58 @@ cases =
           ∷ line 0x4500000001000000 48
           ∷ [];
     }
+    -- D1: p0 at a list; drop p0: it goes, and its counter is in no update
+    ∷ record {
+      input = line 0x530d000001 54 ∷ line 0x53 62 ∷ line 0x4800000100fefefefefefe 42 ∷ [];
+      output =
+          line 0x4c00000100fefefefefefe 42
+          ∷ line 0x4c010000fefefefefefe 44
+          ∷ line 0x4500000001000000 48
+          ∷ [];
+    }
+    -- D2: p0 at 0, p1 at 2, 0 and 2 lead to 1; drop p0: 0 goes, and 1, of which one holder is left, merges into 2
+    ∷ record {
+      input = line 0x530d000001 54 ∷ line 0x53 62 ∷ line 0x480000030002fefefefe01fe01 38 ∷ [];
+      output =
+          line 0x4c0000030002fefefefe01fe01 38
+          ∷ line 0x4c010001fe00fefefefefe 42
+          ∷ line 0x45000000010000000610 44
+          ∷ [];
+    }
+    -- D3: p0 at 0, which leads to the ring of 1; drop p0: both go
+    ∷ record {
+      input = line 0x530d000001 54 ∷ line 0x53 62 ∷ line 0x4800000200fefefefefe0101 40 ∷ [];
+      output =
+          line 0x4c00000200fefefefefe0101 40
+          ∷ line 0x4c010000fefefefefefe 44
+          ∷ line 0x4500000001000000 48
+          ∷ [];
+    }
+    -- D4: p0 at 0, then 1, p1 at 1; drop p1: nothing goes, and 1 merges into 0
+    ∷ record {
+      input = line 0x530d010001 54 ∷ line 0x53 62 ∷ line 0x480000020001fefefefe01fe 40 ∷ [];
+      output =
+          line 0x4c0000020001fefefefe01fe 40
+          ∷ line 0x4c01000100fefefefefefe 42
+          ∷ line 0x45000000010000000310 44
+          ∷ [];
+    }
+    -- D5: the same heap; drop p0: 0 goes, and p1 keeps 1
+    ∷ record {
+      input = line 0x530d000001 54 ∷ line 0x53 62 ∷ line 0x480000020001fefefefe01fe 40 ∷ [];
+      output =
+          line 0x4c0000020001fefefefe01fe 40
+          ∷ line 0x4c010001fe00fefefefefe 42
+          ∷ line 0x45000000010000000210 44
+          ∷ [];
+    }
+    -- D6: p0 undefined, p1 at a node; drop p0 only sets null
+    ∷ record {
+      input = line 0x530d000001 54 ∷ line 0x53 62 ∷ line 0x48000001ff00fefefefefe 42 ∷ [];
+      output =
+          line 0x4c000001ff00fefefefefe 42
+          ∷ line 0x4c010001fe00fefefefefe 42
+          ∷ line 0x45000000010000000110 44
+          ∷ [];
+    }
     ∷ []

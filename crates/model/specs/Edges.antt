@@ -7,7 +7,7 @@ use lib.ListN.{length, getD}
 use Rattle.model.specs.Base.{any, count, numbers, joined}
 use Rattle.model.specs.Heap.{Val, cell, null, undef, holds, Heap, ptr, next, sameHeap}
 use Rattle.model.specs.Shape.{Seg, cells, segments, foldBy}
-use Rattle.model.specs.Machine.{Op, stop, Stmt, Action, stay, compare, point, follow, link, splice, make, release, action, Kind, halts, acts, tests, picks, kind, Fault, faultNumber, putSlot, entry, Answer, refused, stopped, faulted, went, step}
+use Rattle.model.specs.Machine.{Op, stop, Stmt, Action, stay, compare, point, follow, link, splice, make, release, action, Kind, halts, acts, drops, tests, picks, kind, Fault, faultNumber, putSlot, entry, Answer, refused, stopped, faulted, went, step}
 
 -- "A location is a statement with a shape, or a statement with a fault."
 pub data Loc : Type 0 where
@@ -135,13 +135,14 @@ view (release u) h = viewVal (ptr h u)
 abbrev pub picksOf : Kind → List ℕ
 picksOf halts = 0 ∷ []
 picksOf (acts a) = 0 ∷ []
+picksOf (drops u) = 0 ∷ []
 picksOf (tests u s) = 0 ∷ []
 picksOf picks = 0 ∷ 1 ∷ []
 
 -- "Ops 3, 4, 5 and 7 on a pointer to a node give two edges: counter = 1, with nothing split, then counter ≥ 2, with
 -- the head split off .. Every other statement gives one unguarded edge, except choose"; 02, job 3: "three edges: u's
 -- counter = 1 and w's = 1; u's = 1 and w's ≥ 2; u's ≥ 2, which leaks .. u's guard is the first and w's the second,
--- absent on the third edge"
+-- absent on the third edge"; job 6: "Its one edge has no guard"
 abbrev pub waysOf : Kind → View → Heap → List Way
 waysOf k noNode h = map (λ p. whole [] p h) (picksOf k)
 waysOf k (oneNode n) h = whole (oneAt n ∷ []) 0 h ∷ split (moreAt n ∷ []) n h ∷ []

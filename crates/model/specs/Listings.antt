@@ -10,7 +10,7 @@ use lib.ListN.{getD, length, replicate, take}
 use Rattle.model.specs.Base.{any, count, joined, numbers, placeOf, mostNodes, mostShapes, mostStatements, pointerCount, recordSize}
 use Rattle.model.specs.Edges.{Edge, Loc, at, edgesOf, failed, sameLoc}
 use Rattle.model.specs.Heap.{Heap, Slot, Val, cell, holds, null, order, undef, unused}
-use Rattle.model.specs.Machine.{Op, Stmt, choose, clear, copy, free, isNull, leak, load, new, same, setNull, relink, skip, stop, store}
+use Rattle.model.specs.Machine.{Op, Stmt, choose, clear, copy, free, isNull, leak, letGo, load, new, same, setNull, relink, skip, stop, store}
 use Rattle.model.specs.Records.{Refusal, Row, checksRecord, failedNode, firstFailed, isAccepted, isH, isS, locRecord, refusal, refusalAt, usesFirst, usesSecond}
 use Rattle.model.specs.Part.{meant, partBytes, recordPart}
 use Rattle.model.specs.Runs.{added}
@@ -251,6 +251,7 @@ opFields (same u w) = fieldsOf 9 u w
 opFields choose = fieldsOf 10 0 0
 opFields skip = fieldsOf 11 0 0
 opFields (relink u w) = fieldsOf 12 u w
+opFields (letGo u) = fieldsOf 13 u 0
 
 -- how a statement is written: "A field that the op doesn't use is zero."
 abbrev pub field : Bool → ℕ → ℕ

@@ -4,7 +4,8 @@ use mathlib.Core.Bool.{Bool, true, false, _&&_, cond, not}
 use mathlib.Core.List.{List, [], _∷_, map}
 use lib.Dec.{eqb, leb}
 use lib.ListN.{set}
-use Rattle.model.specs.Heap.{Val, cell, null, undef, Slot, unused, holds, Heap, ptr, next, inUse, sameVal, kept}
+use Rattle.model.specs.Base.{mem}
+use Rattle.model.specs.Heap.{Val, cell, null, undef, Slot, unused, holds, Heap, ptr, next, inUse, sameVal, order, kept}
 
 -- the ops of 01's table and of 02, with the pointers u and w
 pub data Op : Type 0 where
@@ -21,6 +22,7 @@ pub data Op : Type 0 where
   choose : Op  -- 10
   skip : Op  -- 11
   relink : ℕ → ℕ → Op  -- 12: u.next := w.next (02, job 3)
+  letGo : ℕ → Op  -- 13: drop u (02, job 6)
 
 pub record Stmt : Type 0 where
   pub op : Op
@@ -44,10 +46,11 @@ pub data Action : Type 0 where
   make : ℕ → Action  -- pointer u becomes a new cell
   release : ℕ → Action  -- the cell that u holds goes
 
--- An op halts, or acts and goes to the first target, or tests, or chooses.
+-- An op halts, or acts and goes to the first target, or drops a pointer and goes there, or tests, or chooses.
 pub data Kind : Type 0 where
   halts : Kind
   acts : Action → Kind
+  drops : ℕ → Kind  -- pointer u becomes null, and what this loses is collected
   tests : ℕ → Source → Kind  -- whether pointer u holds the value
   picks : Kind
 
@@ -65,10 +68,12 @@ kind (same u w) = tests u (from w)
 kind choose = picks
 kind skip = acts stay
 kind (relink u w) = acts (splice u w)
+kind (letGo u) = drops u
 
 abbrev pub actionOf : Kind → Action
 actionOf halts = stay
 actionOf (acts a) = a
+actionOf (drops u) = point u nil
 actionOf (tests u s) = compare u s
 actionOf picks = stay
 
@@ -167,8 +172,35 @@ abbrev pub keep : Effect → Effect
 keep (fault f) = fault f
 keep (done h) = cond (kept h) (done h) (fault leak)
 
+-- 02, job 6: "every cell that this leaves unreachable is gone". A slot keeps what it holds where its number, counted
+-- from i, passes the test; else it is not in use.
+abbrev pub keepSlots : (ℕ → Bool) → ℕ → List Slot → List Slot
+keepSlots p i [] = []
+keepSlots p i (s ∷ ss) = cond (p i) s unused ∷ keepSlots p (suc i) ss
+
+-- the heap with its visited cells alone, which hold no others
+abbrev pub collect : Heap → Heap
+collect h = let o = order h in record { ptrs = h .ptrs; slots = keepSlots (λ c. mem c o) 0 (h .slots) }
+
+abbrev pub collected : Effect → Effect
+collected (fault f) = fault f
+collected (done h) = done (collect h)
+
+-- whether an op collects what it loses: "Other statements still stop at a leak."
+abbrev pub collects : Kind → Bool
+collects halts = false
+collects (acts a) = false
+collects (drops u) = true
+collects (tests u s) = false
+collects picks = false
+
+-- lost cells go, or are a leak
+abbrev pub settle : Bool → Effect → Effect
+settle true e = collected e
+settle false e = keep e
+
 abbrev pub carryOut : Op → ℕ → Heap → Effect
-carryOut op n h = keep (effect op n h)
+carryOut op n h = settle (collects (kind op)) (effect op n h)
 
 -- ---- one step
 
@@ -181,6 +213,7 @@ test false = 1
 abbrev pub branchBy : Kind → ℕ → Heap → ℕ
 branchBy halts p h = 0
 branchBy (acts x) p h = 0
+branchBy (drops u) p h = 0
 branchBy (tests u s) p h = test (sameVal (ptr h u) (valueOf s h))
 branchBy picks p h = p
 
@@ -203,6 +236,7 @@ entry p c = record { pick = p; cellNo = c }
 abbrev pub acceptsPick : Kind → ℕ → Bool
 acceptsPick halts p = true
 acceptsPick (acts x) p = true
+acceptsPick (drops u) p = true
 acceptsPick (tests u s) p = true
 acceptsPick picks p = leb p 1
 
@@ -233,6 +267,7 @@ answerOf st b (done h) = went b (target st b) h
 abbrev pub isStop : Kind → Bool
 isStop halts = true
 isStop (acts x) = false
+isStop (drops u) = false
 isStop (tests u s) = false
 isStop picks = false
 

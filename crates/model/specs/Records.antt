@@ -8,7 +8,7 @@ use lib.ListN.{length, getD, take, drop, replicate}
 use Rattle.model.specs.Base.{all, any, mem, joined, placeOf, sameList, mostNodes, pointerCount, recordSize}
 use Rattle.model.specs.Heap.{Val, cell, null, undef, Slot, unused, holds, Heap}
 use Rattle.model.specs.Shape.{asVisited, core, nodes, reachable}
-use Rattle.model.specs.Machine.{Op, stop, setNull, copy, load, clear, store, new, free, isNull, same, choose, skip, relink, Stmt, faultNumber}
+use Rattle.model.specs.Machine.{Op, stop, setNull, copy, load, clear, store, new, free, isNull, same, choose, skip, relink, letGo, Stmt, faultNumber}
 use Rattle.model.specs.Edges.{Loc, at, failed, Test, isOne, isMore, Guard, Update, Edge}
 
 -- ---- writing
@@ -105,11 +105,11 @@ isH r = eqb (byte r 0) 0x48
 abbrev pub opsBy : ℕ → ℕ → List Op
 opsBy u w =
     stop ∷ setNull u ∷ copy u w ∷ load u w ∷ clear u ∷ store u w ∷ new u ∷ free u ∷ isNull u ∷ same u w ∷ choose
-    ∷ skip ∷ relink u w ∷ []
+    ∷ skip ∷ relink u w ∷ letGo u ∷ []
 
 -- how many ops there are
 abbrev pub opCount : ℕ
-opCount = 13
+opCount = 14
 
 abbrev pub opOf : ℕ → ℕ → ℕ → Op
 opOf op u w = getD (opsBy u w) op stop
@@ -173,7 +173,7 @@ failedNode (c ∷ cs) = elim (c .passes) [ true ↦ failedNode cs | false ↦ c 
 
 -- which fields an op uses
 abbrev pub usesU : ℕ → Bool
-usesU op = (leb 1 op && leb op 9) || eqb op 12
+usesU op = (leb 1 op && leb op 9) || eqb op 12 || eqb op 13
 
 abbrev pub usesW : ℕ → Bool
 usesW op = mem op (2 ∷ 3 ∷ 5 ∷ 9 ∷ 12 ∷ [])
@@ -208,7 +208,7 @@ targetsS n r =
     let op = byte r 1 in
     targetBelow n (usesFirst op) (byte r 4) && targetBelow n (usesSecond op) (byte r 5)
 
--- "5: op above 11", by 02, job 3, above 12; then 6 and 7; among n statements
+-- "5: op above 11", by 02, jobs 3 and 6, above 13; then 6 and 7; among n statements
 abbrev pub checksS : ℕ → List ℕ → List Row
 checksS n r = unless 5 (ltb (byte r 1) opCount) ∷ unless 6 (fieldsS r) ∷ unless 7 (targetsS n r) ∷ []
 

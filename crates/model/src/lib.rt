@@ -18,7 +18,7 @@ pub const MOST_EDGES: usize = 2048;
 
 pub const MOST_CELLS: usize = 240;
 
-pub const OPS: u8 = 13;
+pub const OPS: u8 = 14;
 
 // A pointer's number, 0 to 5.
 pub struct Pointer(pub u8);

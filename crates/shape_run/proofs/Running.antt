@@ -9,7 +9,7 @@ use lib.ListN.{drop, getD, length, replicate, take}
 use lib.Seq.{length-take-le, take-at}
 use Rattle.model.specs.Heap.{Heap, Val, closed, null, sameVal, undef}
 use Rattle.model.specs.Image.{heapOf}
-use Rattle.model.specs.Machine.{Kind, action, acts, branch, branchBy, carryOut, from, halts, kind, nil, picks, test, tests}
+use Rattle.model.specs.Machine.{Kind, action, acts, branch, branchBy, carryOut, drops, from, halts, kind, nil, picks, test, tests}
 use Rattle.model.specs.Notions.{Room}
 use Rattle.model.specs.Records.{byte, shapeOf, valOf}
 use Rattle.model.specs.Structs.{opIn}
@@ -28,6 +28,7 @@ use Rattle.shape_run.specs.WayRun.{WayRan}
 pub branch-pointers : (k : Kind) (p : ℕ) (g h : Heap) → g .ptrs ≡ h .ptrs → branchBy k p g ≡ branchBy k p h
 branch-pointers halts p g h e = refl
 branch-pointers (acts a) p g h e = refl
+branch-pointers (drops u) p g h e = refl
 branch-pointers (tests u nil) p g h e = ap (λ (l : List Val). test (sameVal (getD l u undef) null)) e
 branch-pointers (tests u (from w)) p g h e =
     ap (λ (l : List Val). test (sameVal (getD l u undef) (getD l w undef))) e

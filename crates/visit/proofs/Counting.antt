@@ -12,13 +12,15 @@ use lib.ListN.{length, getD, set, drop, drop-of-length-le, length-map}
 use lib.Seq.{getD-set-same, getD-set-other}
 use borrow.Author.Tests.{eqb-false, le-leb, leb-true, ne-eqb}
 use Rattle.model.specs.Base.{any, mem, sum}
-use Rattle.model.specs.Heap.{cell, holds, unused}
-use Rattle.model.specs.Image.{cellSlot, heapOf}
+use Rattle.model.specs.Heap.{Slot, Val, cell, holds, order, unused}
+use Rattle.model.specs.Image.{heapOf}
+use Rattle.model.specs.Machine.{collect}
 use Rattle.model.specs.Records.{valOf}
 use Rattle.model.specs.Shape.{core, isCell}
+use Rattle.model.proofs.expansion.Collect.{collect-back, visited-stays}
 use Rattle.model.proofs.expansion.Cores.{of-two, two-of}
-use Rattle.model.proofs.lists.Lists.{getD-map, in-getD, mem-in}
-use Rattle.model.specs.Notions.{NoDup, Used}
+use Rattle.model.proofs.lists.Lists.{getD-map, in-getD, mem-at, mem-in}
+use Rattle.model.specs.Notions.{NoDup}
 use Rattle.model.proofs.lists.Logic.{bool-case, bool-ext, eq-case, eqb-same}
 use Rattle.model.proofs.visits.Order.{used-below}
 use Rattle.model.proofs.lists.Slices.{drop-step}
@@ -90,47 +92,54 @@ pointing-two c n (p ∷ ps) h =
     (λ f. rw f (let e : (0 + pointing c ps) + n ≡ pointing c ps + n = omega arith in
     ap (leb 2) e ∙ pointing-two c n ps h)))
 
--- ---- the cells in use, each once
+-- ---- the visited cells, each once, and the slots that are left of them
 
-module _ (cs l : List ℕ) (nd : NoDup l) (has : (d : ℕ) → Used (slotAt cs) d → mem d l ≡ true) where
+module _ (cs l : List ℕ) (nd : NoDup l) (left : List Slot)
+    (stays : (d : ℕ) → mem d l ≡ true → getD left d unused ≡ slotAt cs d)
+    (back : (d : ℕ) (v : Val) → getD left d unused ≡ holds v → (mem d l ≡ true) × (slotAt cs d ≡ holds v)) where
   -- two of them hold c exactly where two slots do
-  both-two : (c : ℕ) → leb 2 (heldBy cs c l) ≡ leb 2 (holders c (map cellSlot cs))
+  both-two : (c : ℕ) → leb 2 (heldBy cs c l) ≡ leb 2 (holders c left)
   both-two c =
-      bool-ext (leb 2 (heldBy cs c l)) (leb 2 (holders c (map cellSlot cs)))
+      bool-ext (leb 2 (heldBy cs c l)) (leb 2 (holders c left))
       (λ e. let t = two-of c (map (slotAt cs) l) (leb-true 2 _ e) in
       let i = at (t .0) (t .3) in
       let j = at (t .1) (t .4) in
-      le-leb 2 _ (of-two c (map cellSlot cs) (getD l (t .0) 0) (getD l (t .1) 0)
+      le-leb 2 _ (of-two c left (getD l (t .0) 0) (getD l (t .1) 0)
       (λ q. t .2 (nodup-at l (t .0) (t .1) nd (i .0) (j .0) q)) (i .1) (j .1)))
-      (λ e. let t = two-of c (map cellSlot cs) (leb-true 2 _ e) in
+      (λ e. let t = two-of c left (leb-true 2 _ e) in
       let i = place (t .0) (t .3) in
       let j = place (t .1) (t .4) in
       le-leb 2 _ (of-two c (map (slotAt cs) l) (i .0) (j .0) (λ q. t .2 (sym (i .1) ∙ ap (λ n. getD l n 0) q ∙ j .1))
       (i .2) (j .2)))
     where
       at : (i : ℕ) → getD (map (slotAt cs) l) i unused ≡ holds (cell c) → (i < length l)
-          × (slotAt cs (getD l i 0) ≡ holds (cell c))
+          × (getD left (getD l i 0) unused ≡ holds (cell c))
       at i e =
           let h : i < length l = omega (
             arith,
             length-map l (slotAt cs),
             used-below (map (slotAt cs) l) i
                 (cell c, e),
-          ) in
-          (h, sym (getD-map (slotAt cs) l i 0 unused h) ∙ e)
+          ) in (
+            h,
+            stays (getD l i 0) (mem-at l i h) ∙ sym (getD-map (slotAt cs) l i 0 unused h) ∙ e,
+          )
 
-      place : (d : ℕ) → slotAt cs d ≡ holds (cell c) → (i : ℕ) × (getD l i 0 ≡ d)
+      place : (d : ℕ) → getD left d unused ≡ holds (cell c) → (i : ℕ) × (getD l i 0 ≡ d)
           × (getD (map (slotAt cs) l) i unused ≡ holds (cell c))
       place d e =
-          let r = in-getD l 0 d (mem-in d l (has d (cell c, e))) in
-          (r .0, r .2, getD-map (slotAt cs) l (r .0) 0 unused (r .1) ∙ ap (slotAt cs) (r .2) ∙ e)
+          let b = back d (cell c) e in
+          let r = in-getD l 0 d (mem-in d l (b .0)) in
+          (r .0, r .2, getD-map (slotAt cs) l (r .0) 0 unused (r .1) ∙ ap (slotAt cs) (r .2) ∙ b .1)
 
 alike-two : {a b : ℕ} → Alike a b → leb 2 a ≡ leb 2 b
 alike-two (inl e) = ap (leb 2) e
 alike-two (inr h) = le-leb 2 _ (h .0) ∙ sym (le-leb 2 _ (h .1))
 
-pub held-core : (ps cs l : List ℕ) (m c : ℕ) → c < 0xfe → NoDup l → ((d : ℕ) → Used (slotAt cs) d → mem d l ≡ true)
-    → Alike m (pointing c ps + heldBy cs c l) → leb 2 m ≡ core (heapOf ps cs) c
-held-core ps cs l m c f nd has y =
+pub held-core : (ps cs l : List ℕ) (m c : ℕ) → c < 0xfe → NoDup l → l ≡ order (heapOf ps cs)
+    → Alike m (pointing c ps + heldBy cs c l) → leb 2 m ≡ core (collect (heapOf ps cs)) c
+held-core ps cs l m c f nd e y =
+    let h = heapOf ps cs in
     alike-two y ∙ pointing-two c (heldBy cs c l) ps f ∙ ap (λ b. any (isCell c) (map valOf ps) || b)
-    (both-two cs l nd has c)
+    (both-two cs l nd (collect h .slots) (λ d i. visited-stays h d (rw e at i)) (λ d v q. rw e (collect-back h d v q))
+    c)

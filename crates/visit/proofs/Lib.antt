@@ -4,3 +4,4 @@ pub mod Laws
 pub mod Counting
 pub mod Walking
 pub mod Losing
+pub mod Whole

@@ -14,7 +14,7 @@ use Rattle.model.specs.Heap.{Val, cell, null, undef, Slot, holds, closed, order
 use Rattle.model.specs.Image.{heapOf}
 use Rattle.model.specs.Records.{valOf}
 use Rattle.model.proofs.records.Bytes.{val-cell}
-use Rattle.model.proofs.expansion.Facts.{test-closed, test-kept}
+use Rattle.model.proofs.expansion.Facts.{test-closed}
 use Rattle.model.proofs.lists.Logic.{bool-case, clash, eq-case, mem-append, mem-append-r, mem-here, not-true}
 use Rattle.model.proofs.visits.Order.{nodup-snoc, pigeon, tours-same, toured, used-snoc}
 use Rattle.model.proofs.lists.Slices.{map-end, map-step}
@@ -166,7 +166,5 @@ visited-of ps cs o s n cl x t y =
       visited = e;
       few = x .counted;
       marked = λ c h. x .marked c h ∙ ap (λ l. not (mem c l)) e;
-      held = λ k c h. let f = x .few in
-          held-core ps cs (take n o) (getD s c 0) c (omega arith) (x .nodup)
-          (λ d u. rw e (test-kept (heapOf ps cs) k d u)) (y c h);
+      held = λ c h. let f = x .few in held-core ps cs (take n o) (getD s c 0) c (omega arith) (x .nodup) e (y c h);
     }

@@ -40,8 +40,8 @@ fn walk_from(cells: &[u8], order: &mut [u8], seen: &mut [u8], count: usize, star
     n
 }
 
-// The cells in order of first visit, one walk for each pointer in turn; `seen` then marks exactly these. Where no cell
-// is lost, the mark is 2 for a core cell and less for any other.
+// The cells in order of first visit, one walk for each pointer in turn; `seen` then marks exactly these. The mark is 2
+// for a core cell and less for any other, where a lost cell is no holder.
 pub fn visit(pointers: &[u8], cells: &[u8], order: &mut [u8], seen: &mut [u8]) -> usize
     requires { ⌜ VisitReady (now pointers) (now cells) (now order) (now seen) ⌝ }
     ensures { λ r. ⌜ Visited (now (pointers .entry)) (now (cells .entry)) (now (order .exit)) (now (seen .exit)) r ⌝ }

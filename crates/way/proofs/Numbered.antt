@@ -9,7 +9,7 @@ use native.Mathlib.Omega.{arith}
 use lib.ListN.{getElem?, length}
 use Rattle.model.specs.Edges.{oneNode, picksOf, split, twoNodes, viewVal, waysOf, whole}
 use Rattle.model.specs.Heap.{Heap}
-use Rattle.model.specs.Machine.{Kind, acts, halts, tests, picks}
+use Rattle.model.specs.Machine.{Kind, acts, drops, halts, tests, picks}
 use Rattle.model.specs.Records.{GuardCode, guardCode, valOf}
 use Rattle.model.proofs.lists.Logic.{clash}
 use Rattle.model.specs.declared.Guards.{Guards}
@@ -65,6 +65,8 @@ pick-at halts h zero lt = (refl, omega arith)
 pick-at halts h (suc j) lt = absurd (omega arith)
 pick-at (acts a) h zero lt = (refl, omega arith)
 pick-at (acts a) h (suc j) lt = absurd (omega arith)
+pick-at (drops u) h zero lt = (refl, omega arith)
+pick-at (drops u) h (suc j) lt = absurd (omega arith)
 pick-at (tests u s) h zero lt = (refl, omega arith)
 pick-at (tests u s) h (suc j) lt = absurd (omega arith)
 pick-at picks h zero lt = (refl, omega arith)

@@ -11,7 +11,7 @@ use borrow.Author.Tests.{eqb-true, ltb-true, ne-eqb}
 use Rattle.model.specs.Base.{all}
 use Rattle.model.specs.Heap.{Heap, Slot, unused, holds, cell, undef}
 use Rattle.model.specs.Image.{cellSlot, heapOf}
-use Rattle.model.specs.Machine.{done, setPtr, carryOut, keep, put, Op, action, Action, perform, point, follow, link, make, release, compare, splice, stay}
+use Rattle.model.specs.Machine.{collects, done, kind, setPtr, settle, carryOut, put, Op, action, Action, perform, point, follow, link, make, release, compare, splice, stay}
 use Rattle.model.specs.Records.{byte, shapeOf, valOf, valueByte}
 use Rattle.model.proofs.lists.Lists.{getD-map, map-set}
 use Rattle.model.proofs.lists.Logic.{and-l, and-r, bool-case, or-cases, clash}
@@ -154,7 +154,7 @@ module _ (r p c : List ℕ) (op n : ℕ) (sp : Bool) (R : OpenReady r p c n sp) 
 
 pub run-makes : (op : Op) (h : Heap) → makes (action op) ≡ true
     → carryOut op (length (h .slots)) (withUnused h) ≡ carryOut op (length (h .slots)) h
-run-makes op h e = ap keep (by-action (action op) e)
+run-makes op h e = ap (settle (collects (kind op))) (by-action (action op) e)
   where
     by-action : (a : Action) → makes a ≡ true → perform a (length (h .slots)) (withUnused h)
         ≡ perform a (length (h .slots)) h

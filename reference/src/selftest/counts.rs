@@ -2,6 +2,7 @@
 
 use std::fmt;
 
+use super::drop_counts::{wanted, DropCounts};
 use super::{damages, relinks, undefined};
 use crate::damage::DAMAGES;
 use crate::records::NODES;
@@ -43,6 +44,8 @@ pub struct Counts {
     pub relinks_listed: [u64; relinks::WAYS.len()],
     pub relinks_run: [u64; relinks::WAYS.len()],
     pub relinks_stepped: [u64; relinks::WAYS.len()],
+    /// Drops, in routines and on images of their own and elsewhere.
+    pub drops: DropCounts,
     /// Damaged H records by refusal and node, and what else was wrong there.
     pub nodes_in_inputs: ByNode,
     pub nodes_in_unfolding: ByNode,
@@ -122,20 +125,21 @@ impl Counts {
 
     /// What is to be met more than once, by name, but for the single nodes.
     fn kinds(&self) -> Vec<(String, u64)> {
-        [self.undefined_tests(), self.relinks(), self.orders()].concat()
+        [self.undefined_tests(), self.relinks(), self.drops.ways(), self.orders()].concat()
     }
 
-    /// How many tests of undefined pointers, how many relinks and how many
-    /// damaged H records are wanted at each place in each way.
+    /// How many tests of undefined pointers, relinks, drops and damaged H
+    /// records are wanted at each place in each way.
     pub fn floor(&self) -> u64 {
         1 + self.routines / EACH
     }
 
     /// The kinds that came too seldom, if there are any.
     pub fn too_few(&self) -> Option<String> {
-        let floor = self.floor();
-        let few = self.kinds().into_iter().chain(self.single_nodes()).filter(|&(_, count)| count < floor);
-        let all: Vec<String> = few.map(|(name, count)| format!("{name} ({count} of {floor})")).collect();
+        let each = self.kinds().into_iter().chain(self.single_nodes()).map(|kind| (kind, self.floor()));
+        let drawn = self.drops.drawn().map(|(name, count)| ((name.to_string(), count), wanted(self.routines)));
+        let few = each.chain(drawn).filter(|&((_, count), floor)| count < floor);
+        let all: Vec<String> = few.map(|((name, count), floor)| format!("{name} ({count} of {floor})")).collect();
         (!all.is_empty()).then(|| all.join(", "))
     }
 }
@@ -157,7 +161,7 @@ impl fmt::Display for Counts {
             ("heaps folded", self.heaps),
             ("most nodes of a heap", self.nodes),
         ];
-        for (name, count) in lines {
+        for (name, count) in lines.into_iter().chain(self.drops.drawn()).chain(self.drops.totals()) {
             writeln!(out, "{name}: {count}")?;
         }
         for (name, count) in self.kinds() {

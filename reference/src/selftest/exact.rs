@@ -2,7 +2,8 @@
 //! of each in their place and order.
 
 use super::counts::Counts;
-use super::{relinks, undefined};
+use super::drop_counts::count_ways;
+use super::{drops, relinks, undefined};
 use crate::automaton::{Automaton, Edge};
 use crate::input::Routine;
 use crate::records::{fault_location, location, pointer_byte, shape_of, Guard, Record};
@@ -81,6 +82,9 @@ fn edges_of(counts: &mut Counts, automaton: &Automaton, routine: &Routine, numbe
     let statement = &routine.statements[usize::from(record[1])];
     if guards != expected_guards(record, statement) {
         return Err(format!("location {number} has the guards {guards:?}"));
+    }
+    if statement.op == Op::Drop {
+        count_ways(&mut counts.drops.listed, &drops::check_location(automaton, statement, number)?);
     }
     let branches: Vec<u8> = edges.iter().map(|edge| edge.branch).collect();
     let fits = match statement.op {

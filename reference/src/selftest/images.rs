@@ -2,13 +2,14 @@
 
 use super::counts::Counts;
 use super::describes::describes;
+use super::drop_counts::count_ways;
 use super::refusals::{any_bytes, lost_cell, named_wrongly, wrong_unfolding};
-use super::{relinks, undefined};
+use super::{drops, relinks, undefined};
 use crate::calls::{fold, step, unfold, Folded, Stepped};
 use crate::heap::{Heap, Value};
 use crate::image::{write_image, IMAGE_CELLS};
 use crate::machine::{run, Outcome};
-use crate::random::{drop_lost_cells, random_heap, rename, Random};
+use crate::random::{random_heap, rename, Random};
 use crate::records::{Record, STATEMENTS, UNDEFINED, UNUSED};
 use crate::refusal::Refusal;
 use crate::routines::{any_relink, random_statement};
@@ -92,14 +93,14 @@ fn round_trip(random: &mut Random, counts: &mut Counts, heap: &Heap, length: usi
 /// A test, and the heap with one or both of its pointers made undefined. Op 8
 /// does not look at the second, which is pointer 0 there.
 fn undefined_comparison(random: &mut Random, heap: &Heap) -> (Heap, Record) {
-    let record = random_statement(random, 0, STATEMENTS, 6, &[0, 0, 0, 0, 0, 0, 0, 0, 1, 2, 0, 0, 0]);
+    let record = random_statement(random, 0, STATEMENTS, 6, &[0, 0, 0, 0, 0, 0, 0, 0, 1, 2, 0, 0, 0, 0]);
     let both = [usize::from(record[2]), usize::from(record[3])];
     let made_undefined = [&both[..1], &both[1..], &both[..]][random.below(3)];
     let mut changed = heap.clone();
     for &pointer in made_undefined {
         changed.pointers[pointer] = Value::Undefined;
     }
-    drop_lost_cells(&mut changed);
+    changed.collect();
     (changed, record)
 }
 
@@ -140,5 +141,7 @@ fn single_step(random: &mut Random, counts: &mut Counts, heap: &Heap, length: us
     if let Some(way) = relinks::check_step(&statement, heap, &after, fault)? {
         counts.relinks_stepped[way] += 1;
     }
+    let ways = drops::check_step(&statement, heap, &after, fault)?;
+    count_ways(&mut counts.drops.stepped, &ways);
     undefined::check(&statement, way, fault)
 }

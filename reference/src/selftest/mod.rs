@@ -5,9 +5,14 @@ mod counts;
 mod damages;
 mod describes;
 mod draws;
+mod drop_counts;
+mod drop_images;
+mod drop_listings;
+mod drops;
 mod exact;
 mod images;
 mod mutate;
+mod nodes;
 mod parts;
 mod refusals;
 mod relinks;
@@ -21,9 +26,10 @@ use crate::input::read_routine;
 use crate::random::Random;
 use crate::records::{hex, Record};
 use crate::refusal::Refusal;
-use crate::routines::random_routine;
+use crate::routines::{drop_often, random_routine};
 
 pub use counts::Counts;
+pub use drop_counts::DropCounts;
 
 /// The seed and the number of routines if none are given.
 pub const SEED: u64 = 1;
@@ -31,12 +37,14 @@ pub const ROUTINES: u64 = 12_000;
 
 /// Tests so many routines. Answers what was counted, or what differs, or
 /// which refusal or fault was never met, or which tests of undefined pointers,
-/// relinks or damaged H records were too few.
+/// relinks, drops or damaged H records were too few.
 pub fn run(seed: u64, routines: u64) -> Result<Counts, String> {
     let mut random = Random::new(seed);
-    // What a seed draws elsewhere does not hang on the parts and the damages.
+    // What a seed draws elsewhere does not hang on the parts, the damages and
+    // the drops.
     let mut part_random = Random::new(!seed);
     let mut damage_random = Random::new(seed.rotate_left(32));
+    let mut drop_random = Random::new(seed.rotate_left(16));
     let mut counts = Counts::default();
     for number in 0..routines {
         let drawn = random_routine(&mut random);
@@ -50,6 +58,8 @@ pub fn run(seed: u64, routines: u64) -> Result<Counts, String> {
         damages::test(&mut damage_random, &mut counts, &drawn, number).map_err(told)?;
         images::test(&mut random, &mut counts, number)
             .map_err(|difference| format!("seed {seed}, heap {number}: {difference}"))?;
+        let told = |difference: String| format!("seed {seed}, drops {number}: {difference}");
+        test_drops(&mut drop_random, &mut counts).map_err(told)?;
     }
     match (counts.never_met(), counts.too_few()) {
         (None, None) => Ok(counts),
@@ -58,10 +68,30 @@ pub fn run(seed: u64, routines: u64) -> Result<Counts, String> {
     }
 }
 
+/// Inputs and images that are drawn for their drops.
+fn test_drops(random: &mut Random, counts: &mut Counts) -> Result<(), String> {
+    for _ in 0..drop_counts::INPUTS {
+        let input = drop_often(random).input();
+        let told = |difference: String| format!("{difference}\nits records: {}", hex(&input));
+        drop_listings::test(random, counts, &input).map_err(told)?;
+    }
+    for _ in 0..drop_counts::IMAGES {
+        drop_images::test(random, counts)?;
+    }
+    Ok(())
+}
+
 /// Inputs that pass all checks, without end. A seed gives the same ones again.
 pub fn sound_inputs(seed: u64) -> impl Iterator<Item = Vec<u8>> {
     let mut random = Random::new(seed);
     std::iter::repeat_with(move || random_routine(&mut random).input())
+}
+
+/// Inputs that pass all checks and have lists to let go, without end. In most
+/// of them, more than nine of ten, the listing has a location at a drop.
+pub fn drop_inputs(seed: u64) -> impl Iterator<Item = Vec<u8>> {
+    let mut random = Random::new(seed);
+    std::iter::repeat_with(move || drop_often(&mut random).input())
 }
 
 /// Inputs that fail a check, without end, each with its refusal. The refusals

@@ -93,7 +93,7 @@ fn statement(random: &mut Random, drawn: &Drawn, refusal: u8) -> Due {
     let record = &mut statements[place];
     let op = OPS[usize::from(record[1])];
     match refusal {
-        5 => record[1] = random.between(13, 255) as u8,
+        5 => record[1] = random.between(14, 255) as u8,
         6 if op.uses_u() && random.chance(50) => {
             let field = if op.uses_w() { 2 + random.below(2) } else { 2 };
             record[field] = random.between(6, 255) as u8;

@@ -3,7 +3,8 @@
 use super::counts::Counts;
 use super::describes::describes;
 use super::draws::{any_unused_cell, random_edge_number};
-use super::{relinks, undefined};
+use super::drop_counts::count_ways;
+use super::{drops, relinks, undefined};
 use crate::automaton::{Automaton, Configuration};
 use crate::fold::{fold_heap, Counters};
 use crate::heap::{Heap, Value, POINTERS};
@@ -76,7 +77,7 @@ impl Running {
                     *freed |= self.heap.pointers[pointer] != held[pointer];
                 }
             }
-            Op::SetNull | Op::Copy | Op::LoadNext | Op::New => self.freed[statement.u] = false,
+            Op::SetNull | Op::Copy | Op::LoadNext | Op::New | Op::Drop => self.freed[statement.u] = false,
             _ => {}
         }
     }
@@ -196,8 +197,8 @@ pub fn follow_the_edges(
 }
 
 /// Counts a step. A fault leaves heap and statement as they stood, a test
-/// faults exactly when it looks at an undefined pointer, and a relink does
-/// what it should.
+/// faults exactly when it looks at an undefined pointer, and a relink and a
+/// drop do what they should.
 fn check_step(counts: &mut Counts, routine: &Routine, before: &Running, after: &Running) -> Result<(), String> {
     counts.steps += 1;
     if after.fault != 0 {
@@ -222,6 +223,8 @@ fn check_step(counts: &mut Counts, routine: &Routine, before: &Running, after: &
     if let Some(way) = relinks::check_step(statement, &before.heap, &after.heap, after.fault)? {
         counts.relinks_run[way] += 1;
     }
+    let ways = drops::check_step(statement, &before.heap, &after.heap, after.fault)?;
+    count_ways(&mut counts.drops.run, &ways);
     undefined::check(statement, way, after.fault)
 }
 

@@ -5,6 +5,7 @@
 pub mod program;
 pub mod random;
 pub mod shapes;
+pub mod small;
 
 use reference::{translate, Node, Refusal, Translated};
 

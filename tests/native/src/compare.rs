@@ -1,6 +1,8 @@
 //! What more than one test compares.
 
+use crate::draw::Image;
 use crate::{Node, Refusal};
+use reference::Stepped;
 
 /// A refusal of the second translator as the library tells it: all numbers are 0 for none, and the node is 0 but for 9, 18 and 19.
 pub fn told(refusal: Option<reference::Refusal>) -> Refusal {
@@ -39,4 +41,19 @@ pub fn unfolding(record: &[u8], counters: &[u32], lengths: [usize; 2], fill: u8)
     let theirs = reference::unfold(record, counters, &mut q, &mut d);
     assert_eq!((ours, &p, &c), (told(theirs.err()), &q, &d), "unfold of {record:x?} {counters:?}");
     ours
+}
+
+/// A step by both: answers and every byte of the heap agree. Gives the answer and the heap afterwards.
+pub fn stepping(pointers: &[u8], cells: &[u8], record: &[u8], pick: u8, cell: usize) -> ((Refusal, [u8; 4]), Image) {
+    let (mut p, mut c) = (pointers.to_vec(), cells.to_vec());
+    let (mut q, mut d) = (p.clone(), c.clone());
+    let ours = crate::step(&mut p, &mut c, record, pick, cell);
+    let theirs = match reference::step(&mut q, &mut d, record, pick as u64, cell as u64) {
+        Stepped::Refused(r) => (told(Some(r)), [0; 4]),
+        Stepped::Stop => (told(None), [0, 1, 0, 0]),
+        Stepped::Fault(f) => (told(None), [f, 0, 0, 0]),
+        Stepped::Moved { branch, next } => (told(None), [0, 0, branch, next]),
+    };
+    assert_eq!((ours, &p, &c), (theirs, &q, &d), "step {record:x?} on {pointers:x?} {cells:x?}");
+    (ours, (p, c))
 }

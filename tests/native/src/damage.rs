@@ -1,6 +1,6 @@
 //! Routines and shapes of every kind, whole and damaged: what a caller may send, whatever it is.
 
-use crate::draw::{image, relinking_routine, routine, testing_routine, Draw};
+use crate::draw::{dropping_routine, image, relinking_routine, routine, testing_routine, Draw};
 
 type Record = [u8; 32];
 
@@ -23,11 +23,11 @@ pub fn many_nodes(d: &mut Draw) -> Record {
     reference::fold(&[0, 1, 2, 3, 4, 5], &cells).record
 }
 
-/// Small and large routines of three kinds, one of three damaged.
+/// Small and large routines of four kinds, one of three damaged.
 pub fn drawn_routine(d: &mut Draw, i: usize) -> Vec<u8> {
     // more large ones than the routines' own numbering gives
     let size = [0, 1, 2, 5, 5][i % 5];
-    let mut input = [routine, relinking_routine, testing_routine][i % 3](d, size);
+    let mut input = [routine, relinking_routine, testing_routine, dropping_routine][i % 4](d, size);
     if d.one_in(6) {
         let shape = many_nodes(d);
         let last = input.len() - 32;
@@ -69,7 +69,8 @@ fn damage_towards(d: &mut Draw, input: &mut Vec<u8>, refusal: usize) {
         3 => (shapes..17).for_each(|_| input.extend_from_within(h..h + 32)),
         4 if d.one_in(2) => input.extend_from_within(s..s + 32),
         4 => input[32 * d.below(statements + shapes)] = any,
-        5 => input[s + 1] = any.max(13),
+        // often the first op that there is not
+        5 => input[s + 1] = if d.one_in(3) { 14 } else { any.max(14) },
         6 if d.one_in(2) => input[s + 2 + d.below(2)] = any.max(6),
         6 => input[s + 6 + d.below(26)] = any.max(1),
         7 => input[s + 4 + d.below(2)] = any.max(statements as u8),

@@ -1,8 +1,12 @@
 //! The proved library's calls, and what its tests draw at random and compare.
 
 pub mod compare;
+pub mod counts;
 pub mod damage;
 pub mod draw;
+pub mod dropped;
+pub mod edges;
+pub mod joined;
 pub mod rings;
 pub mod stream;
 

@@ -48,7 +48,7 @@ pub fn ring(d: &mut Draw, size: usize) -> Ring {
         match d.below(12) {
             _ if d.below(8) < relinks => s_record(12, pair, 1 - pair, next, 0),
             0 => s_record(11, 0, 0, next, 0),
-            1 => s_record(1, mark, 0, next, 0),
+            1 => s_record([1, 13][d.below(2)], mark, 0, next, 0),
             2 => s_record(8, mark, 0, next, other),
             3 => s_record(4, 0, 0, next, 0),
             _ => s_record(10, 0, 0, next, other),

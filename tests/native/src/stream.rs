@@ -10,7 +10,8 @@
 //!   R  lengths of both tables, both counts, which table, number; where the record begins, its length
 //!   Z  the end: how many trials there were
 
-use reference::{Refusal, Translated};
+use crate::draw::Image;
+use reference::{Refusal, Stepped, Translated};
 
 #[derive(Default)]
 pub struct Stream {
@@ -78,6 +79,25 @@ impl Stream {
         self.block(&pointers);
         self.block(&cells);
         refusal
+    }
+
+    /// One statement on a heap.
+    pub fn stepping(&mut self, (mut pointers, mut cells): Image, record: &[u8], pick: u8, cell: usize) {
+        self.begin(b'S');
+        self.block(&pointers);
+        self.block(&cells);
+        self.block(record);
+        self.numbers(&[pick.into(), cell]);
+        let (refusal, answer) = match reference::step(&mut pointers, &mut cells, record, pick.into(), cell as u64) {
+            Stepped::Refused(refusal) => (Some(refusal), [0; 4]),
+            Stepped::Stop => (None, [0, 1, 0, 0]),
+            Stepped::Fault(fault) => (None, [fault, 0, 0, 0]),
+            Stepped::Moved { branch, next } => (None, [0, 0, branch, next]),
+        };
+        self.refusal(refusal);
+        self.block(&answer);
+        self.block(&pointers);
+        self.block(&cells);
     }
 }
 

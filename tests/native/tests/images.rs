@@ -1,11 +1,10 @@
 //! Fold, unfold and step of the proved library against the second translator's, on valid and damaged images, records and statements.
 //! Every refusal and every fault must have been met: the tests count them.
 
-use native::compare::{told, unfolding};
+use native::compare::{stepping, told, unfolding};
 use native::damage::spoil_shape;
 use native::draw::{damage_record, damaged_image, image, statement, Draw};
 use native::{Node, Refusal};
-use reference::Stepped;
 
 const ROUNDS: usize = 50_000;
 
@@ -32,17 +31,8 @@ fn compare_unfold(record: &[u8], counters: &[u32], np: usize, nc: usize) -> u8 {
 }
 
 fn compare_step(pointers: &[u8], cells: &[u8], record: &[u8], pick: u8, cell: usize) -> (u8, [u8; 4]) {
-    let (mut p, mut c) = (pointers.to_vec(), cells.to_vec());
-    let (mut q, mut d) = (p.clone(), c.clone());
-    let ours = native::step(&mut p, &mut c, record, pick, cell);
-    let theirs = match reference::step(&mut q, &mut d, record, pick as u64, cell as u64) {
-        Stepped::Refused(r) => (told(Some(r)), [0; 4]),
-        Stepped::Stop => (told(None), [0, 1, 0, 0]),
-        Stepped::Fault(f) => (told(None), [f, 0, 0, 0]),
-        Stepped::Moved { branch, next } => (told(None), [0, 0, branch, next]),
-    };
-    assert_eq!((ours, &p, &c), (theirs, &q, &d), "step {record:x?} on {pointers:x?} {cells:x?}");
-    (ours.0.number, ours.1)
+    let ((refusal, answer), _) = stepping(pointers, cells, record, pick, cell);
+    (refusal.number, answer)
 }
 
 #[test]
@@ -97,7 +87,7 @@ fn unfolds_agree_and_fold_back() {
 #[test]
 fn steps_agree() {
     let (mut d, mut met, mut faults) = (Draw::new(3), [0u64; 20], [0u64; 4]);
-    let (mut stops, mut second) = (0, 0);
+    let (mut stops, mut second, mut op_14) = (0, 0, 0);
     for i in 0..ROUNDS {
         let (p, c) = if d.one_in(6) { damaged_image(&mut d, sizes(i)) } else { image(&mut d, sizes(i)) };
         let r = statement(&mut d);
@@ -105,6 +95,7 @@ fn steps_agree() {
         let cell = if d.one_in(20) { usize::MAX - d.below(2) } else { d.below(c.len() + 2) };
         let (refusal, answer) = compare_step(&p, &c, &r, pick, cell);
         met[refusal as usize] += 1;
+        op_14 += u64::from(refusal == 5 && r[1] == 14);
         faults[answer[0] as usize] += 1;
         stops += answer[1] as u64;
         second += answer[2] as u64;
@@ -112,6 +103,7 @@ fn steps_agree() {
     all_met("step refusal", &met, &[0, 4, 5, 6, 7, 13, 14, 16]);
     all_met("fault", &faults, &[0, 1, 2, 3]);
     assert!(stops > 0 && second > 0);
+    assert!(op_14 > 100, "the first op that there is not was refused {op_14} times");
 }
 
 fn record_of(k: u8, pointers: [u8; 6], successors: &[u8]) -> Vec<u8> {

@@ -2,7 +2,9 @@
 //! the sentences themselves. What came is counted, and too few fail.
 
 use native::compare::listing;
-use native::draw::{image, relinking_routine, Draw};
+use native::counts::Counts;
+use native::draw::{image, reached, relinking_routine, Draw};
+use native::edges::{described, enabled, leaving, target, updated, updates};
 use reference::Stepped;
 
 const UNDEFINED: u8 = 0xff;
@@ -26,24 +28,6 @@ fn meets(statement: &[u8], pointers: &[u8]) -> Meets {
         (_, UNDEFINED) => Meets::Fault(2),
         _ if u == w => Meets::One,
         _ => Meets::Two { u, w },
-    }
-}
-
-/// The counts of this test, by name.
-#[derive(Default)]
-struct Counts(std::collections::BTreeMap<&'static str, usize>);
-
-impl Counts {
-    fn add(&mut self, name: &'static str) {
-        *self.0.entry(name).or_default() += 1;
-    }
-
-    fn at_least(&self, least: usize, names: &[&'static str]) {
-        println!("{:?}", self.0);
-        for name in names {
-            let came = self.0.get(name).copied().unwrap_or(0);
-            assert!(came >= least, "'{name}' came {came} times only");
-        }
     }
 }
 
@@ -73,7 +57,7 @@ fn judge(location: &[u8], statement: &[u8], leaving: &[&[u8]], locations: &[u8],
     let meets = meets(statement, &location[4..10]);
     let found: Vec<[u8; 3]> = leaving.iter().map(|e| [e[1], e[6], e[7]]).collect();
     assert_eq!(found, guards(meets), "edges of {statement:x?} at {location:x?}");
-    let target = |e: &[u8]| &locations[32 * u16::from_le_bytes([e[4], e[5]]) as usize..][..32];
+    let target = |e: &[u8]| target(e, locations);
     match meets {
         Meets::Fault(fault) => {
             assert_eq!(target(leaving[0])[..3], [0x4c, location[1], fault], "{statement:x?} at {location:x?}");
@@ -104,41 +88,13 @@ fn judge(location: &[u8], statement: &[u8], leaving: &[&[u8]], locations: &[u8],
     }
 }
 
-fn holds(test: u8, counter: u32) -> bool {
-    match test {
-        0 => true,
-        1 => counter == 1,
-        _ => counter >= 2,
-    }
-}
-
-/// Whether both guards of an edge hold.
-fn enabled(edge: &[u8], counters: &[u32; 12]) -> bool {
-    holds(edge[6], counters[edge[7] as usize]) && holds(edge[1] >> 1 & 3, counters[(edge[1] >> 3 & 15) as usize])
-}
-
-fn updated(edge: &[u8], counters: &[u32; 12], k: usize) -> [u32; 12] {
-    let mut new = [0; 12];
-    for (n, value) in new.iter_mut().enumerate().take(k) {
-        let code = u16::from_le_bytes([edge[8 + 2 * n], edge[9 + 2 * n]]);
-        let sum: u32 = (0..12).filter(|i| code >> i & 1 == 1).map(|i| counters[i]).sum();
-        *value = sum + u32::from(code >> 12 & 3) - 1;
-    }
-    new
-}
-
 /// One heap that the location describes: its step is what the one enabled edge says.
 fn on_a_heap(d: &mut Draw, location: &[u8], statement: &[u8], leaving: &[&[u8]], locations: &[u8], counts: &mut Counts) {
-    let mut counters = [0; 12];
-    counters[..location[3] as usize].iter_mut().for_each(|c| *c = 1 + d.below(3) as u32);
-    let mut shape = location.to_vec();
-    shape[..2].copy_from_slice(&[0x48, 0]);
-    let (mut pointers, mut cells) = (vec![0; 6], vec![0; counters.iter().sum::<u32>() as usize]);
-    assert_eq!(native::unfold(&shape, &counters, &mut pointers, &mut cells).number, 0, "{shape:x?}");
+    let (counters, mut pointers, mut cells) = described(d, location);
     let on: Vec<usize> = (0..leaving.len()).filter(|&i| enabled(leaving[i], &counters)).collect();
     assert_eq!(on.len(), 1, "enabled edges of {statement:x?} at {location:x?} with {counters:?}");
     let edge = leaving[on[0]];
-    let target = &locations[32 * u16::from_le_bytes([edge[4], edge[5]]) as usize..][..32];
+    let target = target(edge, locations);
     let (refusal, answer) = native::step(&mut pointers, &mut cells, statement, 0, 0);
     assert_eq!((refusal.number, answer[0]), (0, target[2]), "{statement:x?} at {location:x?} with {counters:?}");
     if leaving.len() == 3 {
@@ -148,7 +104,8 @@ fn on_a_heap(d: &mut Draw, location: &[u8], statement: &[u8], leaving: &[&[u8]],
     if target[2] == 0 {
         let (_, record, sizes) = native::fold(&pointers, &cells);
         assert_eq!(record[3..], target[3..], "{statement:x?} at {location:x?} with {counters:?}");
-        assert_eq!(sizes, updated(edge, &counters, target[3] as usize), "{statement:x?} at {location:x?} with {counters:?}");
+        let due = updated(&updates(edge), &counters, target[3] as usize);
+        assert_eq!(sizes, due, "{statement:x?} at {location:x?} with {counters:?}");
         if leaving.len() == 3 && target[3] < location[3] {
             counts.add("nodes merge");
         }
@@ -190,7 +147,7 @@ fn listings_agree_where_a_routine_relinks() {
                 continue;
             }
             met = true;
-            let leaving: Vec<&[u8]> = e.chunks(32).filter(|e| e[2..4] == (number as u16).to_le_bytes()).collect();
+            let leaving = leaving(&e, number);
             judge(location, statement, &leaving, &l, &mut counts);
             on_a_heap(&mut d, location, statement, &leaving, &l, &mut counts);
         }
@@ -209,15 +166,8 @@ fn relinked(meets: Meets, pointers: &[u8], cells: &[u8]) -> Option<Vec<u8>> {
         Meets::One => {}
         Meets::Two { u, w } => after[u as usize] = cells[w as usize],
     }
-    let mut seen = vec![false; cells.len()];
-    for &p in pointers {
-        let mut b = p as usize;
-        while b < cells.len() && !seen[b] {
-            seen[b] = true;
-            b = after[b] as usize;
-        }
-    }
-    (0..cells.len()).all(|c| seen[c] || after[c] == 0xfd).then_some(after)
+    let reached = reached(pointers, &after);
+    (0..cells.len()).all(|c| reached[c] || after[c] == 0xfd).then_some(after)
 }
 
 #[test]

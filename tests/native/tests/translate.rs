@@ -5,7 +5,7 @@ use native::compare::translation;
 use native::damage::spoil_shape;
 use native::draw::{routine, Draw};
 
-const ROUNDS: usize = 60_000;
+const ROUNDS: usize = 70_000;
 
 /// The refusal and the number of locations.
 fn compare(input: &[u8], locations: usize, edges: usize, fill: u8) -> (u8, usize) {

@@ -3,6 +3,7 @@
 
 use native::compare::listing;
 use native::draw::{image, testing_routine, Draw};
+use native::edges::leaving;
 use reference::Stepped;
 
 const UNDEFINED: u8 = 0xff;
@@ -59,13 +60,12 @@ fn judge(input: &[u8], locations: &[u8], edges: &[u8], met: &mut [bool; 5]) -> u
             continue;
         }
         tests += 1;
-        let leaving: Vec<&[u8]> = edges.chunks(32).filter(|e| e[2..4] == (number as u16).to_le_bytes()).collect();
+        let leaving = leaving(edges, number);
         let (mut edge, target) = expected(input, location);
         assert_eq!(leaving.len(), 1, "edges of location {number} of {input:x?}");
         edge[2..6].copy_from_slice(&leaving[0][2..6]);
         assert_eq!(leaving[0], edge, "edge of location {number} of {input:x?}");
-        let to = u16::from_le_bytes([edge[4], edge[5]]) as usize;
-        assert_eq!(locations[32 * to..][..32], target, "target of location {number} of {input:x?}");
+        assert_eq!(native::edges::target(&edge, locations), target, "target of location {number} of {input:x?}");
         if let Some(way) = way(statement, &location[4..10]) {
             met[way] = true;
         }

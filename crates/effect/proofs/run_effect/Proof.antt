@@ -37,7 +37,8 @@ test-fault-requires c κs =
     let p = start (c .before .before) .pre in
     record {
       fields = record { known = p .known; isU = p .isU; isW = p .isW };
-      stays = keeps-rest _ (p .known) (c .before .match .rest .0) (c .before .match .rest .1);
+      stays = keeps-rest _ (p .known) (c .before .match .rest .0 .0) (c .before .match .rest .0 .1)
+          (c .before .match .rest .1);
       six = p .six;
     }
 
@@ -93,6 +94,12 @@ returns-8 c =
 
 returns-9 : tie.Need-returns-9
 returns-9 c =
+    let s = start (c .before .before .before .before .before) in
+    let e : s .args .d .op ≡ 13 = search needs in
+    as-effect (c .before .before .set-pointer3 .ensures (s .args .cells .now)) (rw e)
+
+returns-10 : tie.Need-returns-10
+returns-10 c =
     let s = start (c .before .before .before) in
     record {
       outcome = c .test-fault .ensures (s .args .x) (heapOf (s .args .pointers .now) (s .args .cells .now)) refl;
@@ -104,8 +111,8 @@ run-effect-spec =
     tie.close
     (tie.spec (λ c. search needs) (λ c. search needs) (λ c. search needs) (λ c. search needs) (λ c κs. search needs)
     (λ c κs. search needs) load-through-requires store-through-requires store-through-requires-2 new-cell-requires
-    free-at-requires relink-through-requires test-fault-requires (λ c. search needs) returns (λ c. search needs)
-    returns-2
+    free-at-requires relink-through-requires (λ c κs. search needs) test-fault-requires (λ c. search needs) returns
+    (λ c. search needs) returns-2
     (λ c. search needs) (λ c. search needs) returns-3 (λ c. search needs) returns-4 (λ c. search needs) returns-5
     (λ c. search needs) (λ c. search needs) returns-6 (λ c. search needs) (λ c. search needs) returns-7
-    (λ c. search needs) returns-8 (λ c. search needs) returns-9)
+    (λ c. search needs) returns-8 (λ c. search needs) returns-9 (λ c. search needs) returns-10)

@@ -1,7 +1,7 @@
 -- `run_on` meets its contract: the work lists are clear, and the laws of a run say what its steps give.
 use borrow.Author.Needs.{needs}
 use mathlib.Core.List.{[]}
-use Rattle.machine.proofs.RunLaws.{run-done, run-faults, run-leaks, visit-ready}
+use Rattle.machine.proofs.RunLaws.{run-faults, run-settled, visit-ready}
 use Rattle.machine.specs.Run.{bytes}
 use Rattle.image_run.proofs.RunLaws.{ran-on, run-ready}
 use Rattle.image_run.proofs.run_on.Statement.{statement}
@@ -22,27 +22,16 @@ visit-requires c κs =
 
 returns-2 : tie.Need-returns-2
 returns-2 c =
-    let e = c .before .before .before .before .before .before .before .before .before .before .before .before .before
-    .before .before .before .run-effect in
-    let v = c .before .before .before .before .before .before .visit in
-    ran-on (run-done (run-ready (c .before .before .before .before .before .before .before .before .before .before
-    .before .before .before .before .before .before .before .before .before .before .before .pre))
-    (bytes (e .last .1 .1 .0) (e .last .1 .1 .1 .0)) (e .ensures) (search needs)
-    (v .ensures) (v .kept .1 .1 .0) (c .before .keeps-all .ensures) (c .if2 .taken))
-
-returns-3 : tie.Need-returns-3
-returns-3 c =
-    let e = c .before .before .before .before .before .before .before .before .before .before .before .before .before
-    .before .before .before .run-effect in
-    let v = c .before .before .before .before .before .before .visit in
-    ran-on (run-leaks (run-ready (c .before .before .before .before .before .before .before .before .before .before
-    .before .before .before .before .before .before .before .before .before .before .before .pre))
-    (bytes (e .last .1 .1 .0) (e .last .1 .1 .1 .0)) (e .ensures) (search needs)
-    (v .ensures) (v .kept .1 .1 .0) (c .before .keeps-all .ensures) (c .if2 .left))
+    let v = c .before .before .before .before .before .before .before in
+    let e = v .before .before .before .before .before .before .before .before .before .before in
+    let s = e .before .before .before .before .before in
+    let r = e .run-effect in
+    ran-on (run-settled (run-ready (s .pre)) (bytes (r .last .1 .1 .0) (r .last .1 .1 .1 .0)) (r .ensures)
+    (search needs) (v .visit .ensures) (v .visit .kept .1 .1 .0) (c .before .before .settle .ensures))
 
 pub run-on-spec : {M : Type 1} → statement M
 run-on-spec =
     tie.close
     (tie.spec (λ c κs. search needs) (λ c. search needs) (λ c. search needs) returns (λ c. search needs)
     (λ c. search needs) visit-requires (λ c. search needs) (λ c κs. search needs) (λ c. search needs)
-    (λ c. search needs) returns-2 (λ c. search needs) (λ c. search needs) returns-3)
+    (λ c. search needs) returns-2)

@@ -1,6 +1,6 @@
--- `machine::run` meets its contract: a fault of the effect, a run that keeps its cells, and one that loses a cell.
+-- `machine::run` meets its contract: a fault of the effect, and what becomes of lost cells.
 use borrow.Author.Needs.{needs}
-use Rattle.machine.proofs.RunLaws.{run-faults, run-done, run-leaks, visit-ready}
+use Rattle.machine.proofs.RunLaws.{run-faults, run-settled, visit-ready}
 use Rattle.machine.specs.Run.{Bytes, bytes}
 use Rattle.machine.proofs.run.Statement.{statement}
 use Rattle.machine.proofs.run.Tie as tie
@@ -23,23 +23,14 @@ visit-requires c κs =
 
 returns-2 : tie.Need-returns-2
 returns-2 c =
-    let v = c .before .before .before .before .before .before .before .before in
+    let v = c .before .before .before .before .before .before .before .before .before in
     let e = v .before .before .before .before .before .before .before .before .before .before in
     let s = e .before .before .before .before .before .before .before in
-    run-done (s .pre) (after e) (e .run-effect .ensures) (search needs) (v .visit .ensures) (v .visit .kept .1 .1 .0)
-    (c .before .keeps-all .ensures) (c .if2 .taken)
-
-returns-3 : tie.Need-returns-3
-returns-3 c =
-    let v = c .before .before .before .before .before .before .before .before in
-    let e = v .before .before .before .before .before .before .before .before .before .before in
-    let s = e .before .before .before .before .before .before .before in
-    run-leaks (s .pre) (after e) (e .run-effect .ensures) (search needs) (v .visit .ensures) (v .visit .kept .1 .1 .0)
-    (c .before .keeps-all .ensures) (c .if2 .left)
+    run-settled (s .pre) (after e) (e .run-effect .ensures) (search needs) (v .visit .ensures) (v .visit .kept .1 .1 .0)
+    (c .before .before .settle .ensures)
 
 pub run-spec : {M : Type 1} → statement M
 run-spec =
     tie.close
     (tie.spec (λ c κs. search needs) (λ c. search needs) (λ c. search needs) returns visit-requires
-    (λ c κs. search needs) (λ c. search needs) (λ c. search needs) (λ c. search needs) (λ c. search needs) returns-2
-    (λ c. search needs) (λ c. search needs) (λ c. search needs) (λ c. search needs) returns-3)
+    (λ c κs. search needs) (λ c. search needs) (λ c. search needs) (λ c. search needs) (λ c. search needs) returns-2)

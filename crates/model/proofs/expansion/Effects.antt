@@ -15,7 +15,7 @@ use Rattle.model.proofs.expansion.Cores.{chain-last}
 use Rattle.model.proofs.expansion.Folds.{chain-used}
 use Rattle.model.proofs.lists.Lists.{map-set}
 use Rattle.model.proofs.lists.Logic.{bool-case, eqb-same, mem-here}
-use Rattle.model.specs.Notions.{Alike, Expands, Expansion, Room, both-bad, both-ok, img, sg-after, upd, AllClosed, Closed, Used, seg, Alone}
+use Rattle.model.specs.Notions.{Alike, Expands, Expansion, Room, both-bad, both-ok, img, sg-after, upd, AllClosed, ClosedHeap, Closed, Used, seg, Alone}
 use Rattle.model.proofs.visits.Order.{used-below}
 use Rattle.model.proofs.visits.Walks.{closed-map, closed-up, map-closed}
 use Rattle.model.proofs.expansion.Writes.{expands-new, expands-write, n-closed, n-img, upd-at, w-closed}
@@ -61,6 +61,9 @@ closed-set : (nx : ℕ → Slot) (vs : List Val) (u : ℕ) (v : Val) → AllClos
 closed-set nx [] u v k q = tt
 closed-set nx (x ∷ vs) zero v k q = (q, k .1)
 closed-set nx (x ∷ vs) (suc u) v k q = (k .0, closed-set nx vs u v (k .1) q)
+
+pub set-closed : (h : Heap) (u : ℕ) (v : Val) → ClosedHeap h → Closed (next h) v → ClosedHeap (setPtr u v h)
+set-closed h u v cl q = (closed-set (next h) (h .ptrs) u v (cl .0) q, cl .1)
 
 module _ (W : Heap) (sg : ℕ → Seg) (H : Heap) (X : Expansion W sg H) where
   pub ptr-img : (u : ℕ) → ptr H u ≡ img sg (ptr W u)

@@ -8,11 +8,10 @@ use native.Mathlib.Omega.{arith}
 use lib.ListN.{getD}
 use Rattle.model.specs.Base.{all, mem}
 use Rattle.model.specs.Heap.{Heap, IsHeap, Slot, Val, cell, closed, eachUsed, holds, inUse, kept, named, next, null, order, slotNamed, undef, unused}
-use Rattle.model.specs.Machine.{Effect, Fault, done, fault, keep, leak}
 use Rattle.model.specs.Shape.{Seg}
 use Rattle.model.specs.Notions.{Kept, Expansion, AllClosed, Closed, ClosedHeap, Used}
 use Rattle.model.proofs.expansion.Folds.{kept-down, kept-up}
-use Rattle.model.proofs.lists.Logic.{and-both, and-l, and-r, bool-case, bool-ext, clash}
+use Rattle.model.proofs.lists.Logic.{and-both, and-l, and-r, bool-ext, clash}
 use Rattle.model.proofs.expansion.Writes.{slot-clash}
 
 pub used-of : (s : Slot) → inUse s ≡ true → (v : Val) × (s ≡ holds v)
@@ -115,8 +114,3 @@ heap-kept h x = test-kept h (x .isKept)
 pub kept-same : (W : Heap) (sg : ℕ → Seg) (H : Heap) → Expansion W sg H → kept H ≡ kept W
 kept-same W sg H X = bool-ext (kept H) (kept W)
     (λ e. kept-test W (kept-down W sg H X (test-kept H e))) (λ e. kept-test H (kept-up W sg H X (test-kept W e)))
-
--- what holds of an effect and of each fault holds after the test for lost cells
-pub keep-any : (P : Effect → Type 0) → ((f : Fault) → P (fault f)) → (x : Effect) → P x → P (keep x)
-keep-any P bad (fault f) p = p
-keep-any P bad (done h) p = bool-case (kept h) (λ e. rw e p) (λ e. rw e (bad leak))

@@ -7,7 +7,7 @@ use native.Mathlib.Omega.{arith}
 use lib.Dec.{eqb}
 use borrow.Author.Tests.{eqb-false, ne-eqb}
 use Rattle.model.specs.Heap.{Heap, Slot, Val, cell, holds, kept, next, null, ptr, undef}
-use Rattle.model.specs.Machine.{Action, Effect, carryOut, done, fault, keep, putSlot, wipe, perform, Op, point, action, follow, link, valueOf, make, release, compare, held, splice, stay}
+use Rattle.model.specs.Machine.{Action, Effect, Kind, actionOf, acts, carryOut, collects, drops, halts, kind, picks, tests, done, fault, keep, putSlot, wipe, perform, Op, point, action, follow, link, valueOf, make, release, compare, held, splice, stay}
 use Rattle.model.specs.Edges.{noNode, splitHeap, twoNodes, view, viewPair, viewVal}
 use Rattle.model.specs.Notions.{AllClosed, Closed, ClosedHeap, Used, Views, upd}
 use Rattle.model.proofs.expansion.Effects.{next-free, next-put}
@@ -135,11 +135,23 @@ keep-used : (k : ℕ) (e : Effect) → InUse k e → InUse k (keep e)
 keep-used k (fault f) u = tt
 keep-used k (done g) u = bool-case (kept g) (λ q. rw q u) (λ q. rw q tt)
 
+-- a statement that looks at a node acts, and has no other say
+pub view-acts : (k : Kind) (h : Heap) (n : ℕ) → Views (view (actionOf k) h) n → (a : Action) × (k ≡ acts a)
+view-acts halts h n e = absurd e
+view-acts (acts a) h n e = (a, refl)
+view-acts (drops u) h n e = absurd e
+view-acts (tests u s) h n e = absurd e
+view-acts picks h n e = absurd e
+
+-- so it collects nothing
+pub view-collects : (k : Kind) (h : Heap) (n : ℕ) → Views (view (actionOf k) h) n → collects k ≡ false
+view-collects k h n e = ap collects (view-acts k h n e .1)
+
 pub tail-used : (op : Op) (x n k : ℕ) (h g : Heap) → Views (view (action op) (splitHeap n k h)) n → eqb k n ≡ false
     → Used (next h) n
     → carryOut op x (splitHeap n k h) ≡ done g → Used (next g) k
 tail-used op x n k h g a d u e =
     subst (InUse k) e
-    (keep-used k (perform (action op) x (splitHeap n k h))
+    (rw (view-collects (kind op) (splitHeap n k h) n a) (keep-used k (perform (action op) x (splitHeap n k h))
     (effect-used (action op) x n k (splitHeap n k h) a d (subst (λ nx. Used nx k) (sym (next-split n k h))
-    (tail-in (next h) n k u))))
+    (tail-in (next h) n k u)))))

@@ -2,27 +2,32 @@
 -- one expands the other.
 use Prim.Native.Nat.{ℕ}
 use mathlib.Core.Path.{_∙_, _≡_, ap, refl}
-use mathlib.Core.Bool.{_&&_, cond, false, true}
+use mathlib.Core.Bool.{Bool, _&&_, cond, false, true}
 use lib.Dec.{eqb}
 use borrow.Author.Tests.{eq-eqb, eqb-true}
 use Rattle.model.specs.Heap.{Heap, Slot, Val, cell, kept, next, null, ptr, sameVal, undef}
-use Rattle.model.specs.Machine.{isStop, Effect, Kind, Answer, Stmt, Fault, keep, branchBy, answerOf, Entry, fault, faulted, kind, done, went, accepts, step, branch, tests, carryOut, action, test, perform, valueOf, acts, halts, picks, acceptsCell, acceptsPick, actionOf, refused, stopped}
+use Rattle.model.specs.Machine.{isStop, Effect, Kind, Answer, Stmt, Fault, branchBy, answerOf, Entry, fault, faulted, kind, done, went, accepts, step, branch, tests, carryOut, action, test, perform, valueOf, acts, collects, drops, halts, picks, settle, acceptsCell, acceptsPick, actionOf, refused, stopped}
 use Rattle.model.specs.Shape.{Seg}
+use Rattle.model.proofs.expansion.Collect.{collect-expands, collect-kept}
 use Rattle.model.proofs.expansion.Cores.{first-inj}
 use Rattle.model.proofs.expansion.Effects.{effect-alike, ptr-closed, ptr-img, value-closed, value-img}
 use Rattle.model.proofs.expansion.Facts.{kept-same, test-kept}
+use Rattle.model.proofs.expansion.Folds.{large-closed}
 use Rattle.model.specs.Notions.{Kept, Alike, Expands, Expansion, Room, both-bad, both-ok, img, sg-after, Closed, Alone}
 use Rattle.model.proofs.lists.Logic.{bool-case, bool-ext}
 use Rattle.model.specs.Edges.{view}
 
--- what is left after the test for lost cells
+-- what is left after lost cells were settled: none, in any case
 pub data After (sg : ℕ → Seg) : Effect → Effect → Type 0 where
   fault-both : {f : Fault} → After sg (fault f) (fault f)
   done-both : {W H : Heap} → Expansion W sg H → Kept H → After sg (done W) (done H)
 
-keep-alike : (sg : ℕ → Seg) (a b : Effect) → Alike sg a b → After sg (keep a) (keep b)
-keep-alike sg a b both-bad = fault-both
-keep-alike sg a b (both-ok {W} {H} X) =
+settle-alike : (c : Bool) (sg : ℕ → Seg) (a b : Effect) → Alike sg a b → After sg (settle c a) (settle c b)
+settle-alike true sg a b both-bad = fault-both
+settle-alike true sg a b (both-ok {W} {H} X) =
+    done-both (collect-expands W sg H X) (collect-kept H (large-closed W sg H X))
+settle-alike false sg a b both-bad = fault-both
+settle-alike false sg a b (both-ok {W} {H} X) =
     bool-case (kept W)
     (λ e. let k = kept-same W sg H X ∙ e in rw (e, k) (done-both X (test-kept H k)))
     (λ e. rw (e, kept-same W sg H X ∙ e) fault-both)
@@ -51,6 +56,7 @@ module _ (W : Heap) (sg : ℕ → Seg) (H : Heap) (X : Expansion W sg H) where
   pub branch-same : (c : Kind) (p : ℕ) → branchBy c p H ≡ branchBy c p W
   branch-same halts p = refl
   branch-same (acts x) p = refl
+  branch-same (drops u) p = refl
   branch-same (tests u s) p =
       ap test (test-same (ptr W u) (valueOf s W) (ptr H u) (valueOf s H) (ptr-img W sg H X u) (value-img W sg H X s)
       (ptr-closed W sg H X u) (value-closed W sg H X s))
@@ -70,7 +76,8 @@ answer-agree sg st b x y (done-both X k) = went-alike X k
 abbrev pub stepAs : Kind → Stmt → Entry → Heap → Answer
 stepAs c st e h =
     cond (acceptsPick c (e .pick) && acceptsCell (actionOf c) (next h (e .cellNo)))
-    (cond (isStop c) stopped (answerOf st (branchBy c (e .pick) h) (keep (perform (actionOf c) (e .cellNo) h)))) refused
+    (cond (isStop c) stopped (answerOf st (branchBy c (e .pick) h)
+    (settle (collects c) (perform (actionOf c) (e .cellNo) h)))) refused
 
 pub step-as : (st : Stmt) (e : Entry) (h : Heap) (c : Kind) → kind (st .op) ≡ c → step st e h ≡ stepAs c st e h
 step-as st e h c k = ap (λ x. stepAs x st e h) k
@@ -93,5 +100,5 @@ step-agree st d e W sg H X g aw ah o rw′ rh b =
     rw (step-go st d W g aw, step-go st e H g ah, b)
     (answer-agree sg′ st (branch (st .op) (d .pick) W) (carryOut (st .op) (d .cellNo) W)
     (carryOut (st .op) (e .cellNo) H)
-    (keep-alike sg′ (perform a (d .cellNo) W) (perform a (e .cellNo) H)
+    (settle-alike (collects (kind (st .op))) sg′ (perform a (d .cellNo) W) (perform a (e .cellNo) H)
     (effect-alike W sg H X a (d .cellNo) (e .cellNo) o rw′ rh)))

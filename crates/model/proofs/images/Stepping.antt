@@ -9,11 +9,13 @@ use native.Mathlib.Omega.{arith}
 use lib.Dec.{eqb}
 use lib.ListN.{length, length-map}
 use borrow.Author.Tests.{not-true}
+use Rattle.model.specs.Heap.{IsHeap}
 use Rattle.model.specs.Image.{Stepping, answered, cellSlot, checksImage, checksStatement, checksStep, entryFits, heapOf, noStep, pastEnd, refusalImage, stays, stepImage, stepVerdict, verdictBy, StepAnswer, toFault, toNext, toStop}
-use Rattle.model.specs.Machine.{Answer, Effect, Entry, Stmt, accepts, answerOf, branch, done, fault, faulted, keep, refused, carryOut, step, stopped, went, entry, Fault, faultNumber, atNull, atUndef, leak, kind, action, isStop, perform}
+use Rattle.model.specs.Machine.{Answer, Effect, Entry, Stmt, accepts, answerOf, branch, done, fault, faulted, refused, carryOut, step, stopped, went, entry, Fault, faultNumber, atNull, atUndef, leak, kind, action, isStop, perform, collects, settle}
 use Rattle.model.specs.Records.{checksS, firstFailed, isAccepted, isS, refusal, slotByte, stmtOf, unless, valByte, valOf}
 use Rattle.model.proofs.records.Checks.{accepted-by, checked-nodeless, none-failed, not-both, pass-after, pass-before, pass-none}
-use Rattle.model.proofs.expansion.Facts.{heap-closed, keep-any}
+use Rattle.model.proofs.expansion.Collect.{collect-slots, settle-any}
+use Rattle.model.proofs.expansion.Facts.{heap-closed}
 use Rattle.model.proofs.images.Images.{image-accepted, number-case}
 use Rattle.model.proofs.lists.Logic.{and-l, and-r, bool-case}
 use Rattle.model.specs.Notions.{CheckedBy, Halted, ClosedHeap}
@@ -91,6 +93,16 @@ step-answers r p c ps cs z = by-case (step-cases r p c ps cs)
     by-case (inl (n, e, q)) = not-both (stepVerdict (stepImage r p c ps cs .answer)) (refusal (suc n) 0) z
         (ap (λ (s : Stepping). stepVerdict (s .answer)) q)
     by-case (inr (e, q)) = q
+
+-- and its image is a heap
+pub step-heap : (r : List ℕ) (p c : ℕ) (ps cs : List ℕ) → stepVerdict (stepImage r p c ps cs .answer) ≡ isAccepted
+    → IsHeap (heapOf ps cs)
+step-heap r p c ps cs z = by-case (step-cases r p c ps cs)
+  where
+    by-case : StepCases r p c ps cs → IsHeap (heapOf ps cs)
+    by-case (inl (n, e, q)) = not-both (stepVerdict (stepImage r p c ps cs .answer)) (refusal (suc n) 0) z
+        (ap (λ (s : Stepping). stepVerdict (s .answer)) q)
+    by-case (inr (e, q)) = image-accepted ps cs .0 (step-fits r (entry p c) ps cs e .0) .2
 
 abbrev KnownFault : StepAnswer → Type 0
 KnownFault (toNext b n) = Unit {0}
@@ -172,9 +184,11 @@ answer-lengths st e ps cs cl q =
         let n = e .cellNo in
         let x = perform a n h in
         let L = effect-leaves a n h cl in
-        by-effect (branch (st .op) (e .pick) h) (keep x) (keep-any (PtrsAre (length (h .ptrs))) (λ f. tt) x
-        (leaves-ptrs a n h x L))
-        (keep-any (SlotsAre (length (h .slots))) (λ f. tt) x (leaves-slots a n h q x L))
+        let b = collects (kind (st .op)) in
+        by-effect (branch (st .op) (e .pick) h) (settle b x)
+        (settle-any b (PtrsAre (length (h .ptrs))) (λ f. tt) (λ g k. k) x (leaves-ptrs a n h x L))
+        (settle-any b (SlotsAre (length (h .slots))) (λ f. tt) (λ g k. collect-slots g ∙ k) x
+        (leaves-slots a n h q x L))
 
 pub step-lengths : (r : List ℕ) (p c : ℕ) (ps cs : List ℕ) → SameLengths ps cs (stepImage r p c ps cs)
 step-lengths r p c ps cs = by-case (step-cases r p c ps cs)

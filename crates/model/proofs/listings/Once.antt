@@ -2,23 +2,22 @@
 use Prim.Native.Nat.{ℕ}
 use mathlib.Core.Path.{_≡_, refl, subst, sym}
 use mathlib.Core.Logic.{inl, inr}
-use mathlib.Core.Bool.{false, true}
+use mathlib.Core.Bool.{true}
 use mathlib.Core.List.{List, [], _∷_, map}
-use native.Mathlib.Nat.{zero-add}
 use native.Mathlib.Omega.{arith}
-use lib.ListN.{getD, length}
-use Rattle.model.specs.Base.{any, mem}
+use lib.ListN.{length}
+use Rattle.model.specs.Base.{mem}
 use Rattle.model.specs.Edges.{Edge, Guard, Loc, Way, Weight, addsCounter, at, edgeBy, edgesAt, edgesOf, failed, picksOf, stepBy, stmtAt, updateOf, ways, whole, split, View, view, waysOf, oneNode, twoNodes, noNode, oneAt, moreAt}
 use Rattle.model.specs.Heap.{Heap, next, order}
 use Rattle.model.specs.Machine.{Answer, Stmt, faulted, refused, stopped, went, Kind, kind, action}
 use Rattle.model.specs.Shape.{Seg, cells, core, segments}
 use Rattle.model.proofs.expansion.Cuts.{flat-cut, mem-flat-in, nodup-apart, nodup-r}
 use Rattle.model.specs.Notions.{In, Pairs, NoDup, AddApart, flat, ClosedHeap, Used, Views}
-use Rattle.model.proofs.lists.Lists.{any-find, in-joined, in-map, in-mem, in-single, pairs-map, pairs-mono}
-use Rattle.model.proofs.lists.Numbers.{flag-at}
+use Rattle.model.proofs.lists.Lists.{in-joined, in-map, in-single, pairs-map, pairs-mono}
 use Rattle.model.proofs.visits.Order.{order-once, used-below}
 use Rattle.model.specs.Listings.{GoodLoc}
 use Rattle.model.proofs.ways.Ways.{split-fair, whole-fair}
+use Rattle.model.proofs.ways.Weights.{update-adds}
 use Rattle.model.proofs.ways.Views.{view-used}
 
 -- the cells of different segments differ
@@ -29,14 +28,6 @@ segments-apart (s ∷ ss) nd = (
   (λ t i c p q. nodup-apart (cells s) (flat ss) c nd p (mem-flat-in ss t c i q)),
   segments-apart ss (nodup-r (cells s) (flat ss) nd),
 )
-
--- a counter that an update adds is the counter of one of its segment's cells
-update-adds : (k : ℕ) (w : ℕ → Weight) (s : Seg) (i : ℕ) → getD (updateOf k w s .adds) i false ≡ true
-    → (c : ℕ) × (mem c (cells s) ≡ true) × (addsCounter i (w c) ≡ true)
-update-adds k w s i h =
-    let f = flag-at (λ j. any (λ c. addsCounter j (w c)) (cells s)) 0 k i h in
-    let r = any-find (λ c. addsCounter i (w c)) (cells s) (rw zero-add at f) in
-    (r .0, in-mem (r .0) (cells s) (r .1), r .2)
 
 -- a counter belongs to one cell
 abbrev Owned : (ℕ → Weight) → Type 0

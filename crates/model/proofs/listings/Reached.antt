@@ -15,14 +15,15 @@ use Rattle.model.specs.Base.{numbers}
 use Rattle.model.specs.Edges.{Edge, Guard, Loc, Way, at, edgeBy, edgesAt, edgesOf, failed, picksOf, split, stepBy, stmtAt, ways, whole, oneAt, moreAt, View, waysOf, view, oneNode, twoNodes, noNode}
 use Rattle.model.specs.Heap.{Heap, inUse, kept, unused}
 use Rattle.model.specs.Image.{spread, unfoldHeap}
-use Rattle.model.specs.Machine.{Action, Effect, Entry, Stmt, answerOf, branch, done, fault, step, Kind, action, kind, perform, keep}
+use Rattle.model.specs.Machine.{Action, Effect, Entry, Stmt, answerOf, branch, done, fault, step, Kind, action, kind, perform, collects, settle}
 use Rattle.model.specs.Runs.{State, Status, Advance, made, past, running}
 use Rattle.model.specs.Shape.{counters, nodeVal, segments}
 use Rattle.model.specs.Translate.{Routine}
 use Rattle.model.specs.Notions.{Canon, In, Pairs, Exclude, Positive, SmallEdge, nodesOf, worth, ClosedHeap, Views, guardOn, guardsOn}
 use Rattle.model.proofs.shapes.Canon.{fold-canon}
 use Rattle.model.proofs.records.Checked.{GoodStarts}
-use Rattle.model.proofs.expansion.Facts.{heap-closed, heap-kept, keep-any, kept-test}
+use Rattle.model.proofs.expansion.Collect.{settle-any}
+use Rattle.model.proofs.expansion.Facts.{heap-closed, heap-kept, kept-test}
 use Rattle.model.proofs.ways.Guards.{edges-cover, edges-exclude}
 use Rattle.model.proofs.ways.Leave.{Fit, MatchIn, begin}
 use Rattle.model.specs.Listings.{Reached, by-edge, from-start, GoodLoc}
@@ -44,7 +45,8 @@ made-ptrs s st e h cl x m =
     let g = made-goes (begin s h) st e h x m in
     let a = action (st .op) in
     let y = perform a (e .cellNo) h in
-    by-run (keep y) (keep-any (PtrsAre (length (h .ptrs))) (λ f. tt) y
+    let b = collects (kind (st .op)) in
+    by-run (settle b y) (settle-any b (PtrsAre (length (h .ptrs))) (λ f. tt) (λ g k. k) y
     (leaves-ptrs a (e .cellNo) h y (effect-leaves a (e .cellNo) h cl)))
     (rw (step-go st e h (g .0) (g .1)) at m)
   where

@@ -19,7 +19,7 @@ use Rattle.model.proofs.shapes.Iso.{renamed-same}
 use Rattle.model.specs.Notions.{In, NoDup, EveryCore, IsSegment, Merges, MergesTo, Positive, Reaches, Renames, Two, counted, flat, heads, segAt}
 use Rattle.model.proofs.shapes.Merge.{merge-ends, merge-exists, merge-heap, merge-keeps, merged-is-fold, merged-nodes}
 use Rattle.model.proofs.visits.Order.{order-once}
-use Rattle.model.proofs.shapes.Reach.{cell-lost, kept-reaches, lost-cell, order-reaches, reaches-order}
+use Rattle.model.proofs.expansion.Reach.{cell-lost, kept-reaches, lost-cell, order-reaches, reaches-order}
 use Rattle.model.proofs.images.RoundTrips.{fold-room, fold-unfold-bytes, unfold-fold-bytes}
 use Rattle.model.proofs.shapes.SameShape.{fold-unfold, same-renamed}
 use Rattle.model.proofs.shapes.Segments.{each-cell-once, itself-again, segment-listed, segment-unique, segments-are, twelve}

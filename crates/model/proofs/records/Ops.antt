@@ -6,9 +6,10 @@ use mathlib.Core.List.{map}
 use native.Mathlib.Nat.{zero-add}
 use native.Mathlib.Omega.{arith}
 use lib.ListN.{List·getD-map, getD}
+use lib.Dec.{eqb}
 use borrow.Author.Tests.{ne-eqb}
 use Rattle.model.specs.Base.{numbers}
-use Rattle.model.specs.Machine.{Op, isStop, kind, stop}
+use Rattle.model.specs.Machine.{Op, collects, isStop, kind, stop}
 use Rattle.model.specs.Records.{isZero, opCount, opOf, opsBy}
 use Rattle.model.proofs.lists.Lists.{getD-map}
 use Rattle.model.proofs.lists.Numbers.{at-number, length-numbers}
@@ -27,3 +28,7 @@ op-stops op u w = each-op (λ o. isStop (kind o)) isZero u w refl op
 
 pub op-goes : (op u w : ℕ) → op < opCount → (op ≡ 0 → ⊥) → isStop (kind (opOf op u w)) ≡ false
 op-goes op u w h z = op-stops op u w h ∙ ne-eqb op 0 z
+
+-- op 13 alone collects what it loses
+pub op-collects : (op u w : ℕ) → op < opCount → collects (kind (opOf op u w)) ≡ eqb op 13
+op-collects op u w = each-op (λ o. collects (kind o)) (λ n. eqb n 13) u w refl op

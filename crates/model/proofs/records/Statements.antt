@@ -10,7 +10,7 @@ use native.Mathlib.Omega.{arith}
 use lib.ListN.{drop, length, replicate}
 use borrow.Author.Tests.{eqb-true, ltb-true}
 use Rattle.model.specs.Base.{all}
-use Rattle.model.specs.Machine.{Op, Stmt, choose, clear, copy, free, isNull, load, new, relink, same, setNull, skip, stop, store}
+use Rattle.model.specs.Machine.{Op, Stmt, choose, clear, copy, free, isNull, letGo, load, new, relink, same, setNull, skip, stop, store}
 use Rattle.model.specs.Records.{byte, fieldsS, isS, isZero, opOf, pointerField, refusalS, stmtOf, targetField, usesFirst, usesSecond, usesU, usesW, checksS, opCount}
 use Rattle.model.proofs.records.Bytes.{all-zero}
 use Rattle.model.specs.Listings.{UnusedZero, field, stmtRecord, opFields, fieldsOf, OpFields}
@@ -31,6 +31,7 @@ op-back (same u w) = refl
 op-back choose = refl
 op-back skip = refl
 op-back (relink u w) = refl
+op-back (letGo u) = refl
 
 field-same : (used : Bool) (b : ℕ) → (used ≡ false → b ≡ 0) → field used b ≡ b
 field-same true b h = refl

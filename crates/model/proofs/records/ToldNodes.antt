@@ -19,7 +19,7 @@ use Rattle.model.proofs.lists.Numbers.{at-number, length-numbers}
 use Rattle.model.proofs.records.Checks.{failed-after, failed-before, failed-number, given-failed, node-after, node-before, none-failed, pass-none}
 use Rattle.model.proofs.records.NodeChecks.{first-test, nodes-pass}
 use Rattle.model.proofs.shapes.Canonical.{all-node, canon-canonical, canonical-canon, node-all, visit-count}
-use Rattle.model.proofs.shapes.Reach.{order-reaches, reaches-order}
+use Rattle.model.proofs.expansion.Reach.{order-reaches, reaches-order}
 use Rattle.model.proofs.shapes.Same.{place-found, place-passes}
 
 -- ---- the first node

@@ -18,7 +18,7 @@ use Rattle.model.proofs.expansion.Folds.{chain-used}
 use Rattle.model.proofs.lists.Lists.{map-same}
 use Rattle.model.proofs.lists.Logic.{clash, mem-cases, mem-here, mem-there}
 use Rattle.model.proofs.visits.Order.{toured}
-use Rattle.model.proofs.shapes.Reach.{kept-reaches}
+use Rattle.model.proofs.expansion.Reach.{kept-reaches}
 use Rattle.model.proofs.expansion.Start.{flat-is, seg-apart, where-is}
 use Rattle.model.proofs.expansion.Writes.{holds-inj}
 

@@ -7,48 +7,17 @@ use native.Mathlib.Omega.{arith}
 use lib.Dec.{eqb}
 use lib.ListN.{getD, length, length-append}
 use borrow.Author.Tests.{eqb-true}
-use Rattle.model.specs.Base.{mem}
+use Rattle.model.specs.Base.{mem, numbers}
 use Rattle.model.specs.Heap.{Heap, Slot, Val, cell, holds, next, null, order, tour, undef, unused, walk}
 use Rattle.model.specs.Notions.{NoDup, AllClosed, AllUsed, Closed, ClosedHeap, Tours, Used, Walks, at-null, at-seen, at-undef, go, tour-done, tour-more}
-use Rattle.model.proofs.lists.Logic.{bool-case, clash, eqb-same, eqb-sym, mem-append, mem-append-cases, mem-cases, mem-here, mem-one, mem-there, not-true, or-false-l, or-false-r}
+use Rattle.model.proofs.lists.Logic.{bool-case, clash, eqb-same, eqb-sym, mem-append, mem-append-cases, mem-cases, mem-here, mem-one, mem-there, or-false-l, or-false-r}
+use Rattle.model.proofs.lists.Numbers.{length-numbers, mem-numbers, numbers-mem, numbers-nodup}
 
--- a list of different numbers below b has at most b of them
+-- a list without the first x
 del : ℕ → List ℕ → List ℕ
 del x [] = []
 del x (y ∷ l) = cond (eqb x y) l (y ∷ del x l)
 
-length-del : (x : ℕ) (l : List ℕ) → length l ≤ suc (length (del x l))
-unfolding del
-length-del x [] = omega arith
-length-del x (y ∷ l) = bool-case (eqb x y) (λ e. rw e (omega arith)) (λ e. let r = length-del x l in rw e (omega arith))
-
-mem-del : (x n : ℕ) (l : List ℕ) → mem n (del x l) ≡ true → mem n l ≡ true
-unfolding del
-mem-del x n [] h = h
-mem-del x n (y ∷ l) h = bool-case (eqb x y) (λ e. mem-there n y l (rw e at h))
-    (λ e. mem-cases n y (del x l) (rw e at h) (λ q. rw (q, eqb-same y)) (λ k. mem-there n y l (mem-del x n l k)))
-
-nodup-del : (x : ℕ) (l : List ℕ) → NoDup l → NoDup (del x l)
-unfolding del
-nodup-del x [] nd = nd
-nodup-del x (y ∷ l) nd = bool-case (eqb x y) (λ e. rw e (nd .1))
-    (λ e. rw e (not-true _ (λ h. clash (mem-del x y l h) (nd .0)), nodup-del x l (nd .1)))
-
-gone-del : (x : ℕ) (l : List ℕ) → NoDup l → mem x (del x l) ≡ false
-unfolding del
-gone-del x [] nd = refl
-gone-del x (y ∷ l) nd = bool-case (eqb x y) (λ e. rw e (rw (eqb-true x y e) (nd .0)))
-    (λ e. rw e (rw e (gone-del x l (nd .1))))
-
-pub pigeon : (b : ℕ) (l : List ℕ) → NoDup l → ((n : ℕ) → mem n l ≡ true → n < b) → length l ≤ b
-pigeon zero [] nd h = omega arith
-pigeon zero (x ∷ l) nd h = omega (arith, h x (mem-here x l))
-pigeon (suc b) l nd h =
-    let r = pigeon b (del b l) (nodup-del b l nd) (λ n k. let q = h n (mem-del b n l k) in
-    let ne : (n ≡ b → ⊥) = λ e. clash (subst (λ x. mem x (del b l) ≡ true) e k) (gone-del b l nd) in omega arith) in
-    omega (arith, length-del b l)
-
--- and a list that holds all numbers below b has at least b
 keep-del : (x n : ℕ) (l : List ℕ) → (n ≡ x → ⊥) → mem n l ≡ true → mem n (del x l) ≡ true
 unfolding del
 keep-del x n [] ne h = h
@@ -62,12 +31,30 @@ shorter-del x [] h = clash h refl
 shorter-del x (y ∷ l) h = bool-case (eqb x y) (λ e. rw e (omega arith))
     (λ e. let r = shorter-del x l (rw e at h) in rw e (omega arith))
 
+-- different numbers that all stand in another list are not more than it has
+pub within : (l m : List ℕ) → NoDup l → ((n : ℕ) → mem n l ≡ true → mem n m ≡ true) → length l ≤ length m
+within [] m nd h = omega arith
+within (x ∷ l) m nd h =
+    let r = within l (del x m) (nd .1) (λ n k. keep-del x n m (λ e. clash (subst (λ y. mem y l ≡ true) e k) (nd .0))
+    (h n (mem-there n x l k))) in
+    omega (arith, shorter-del x m (h x (mem-here x l)))
+
+-- so different numbers below b are at most b, and a list that holds all numbers below b has at least b
+pub pigeon : (b : ℕ) (l : List ℕ) → NoDup l → ((n : ℕ) → mem n l ≡ true → n < b) → length l ≤ b
+pigeon b l nd h =
+    omega (
+      arith,
+      length-numbers 0 b,
+      within l (numbers 0 b) nd (λ n k. mem-numbers 0 b n (omega arith) (omega (arith, h n k))),
+    )
+
 pub crowd : (b : ℕ) (l : List ℕ) → ((n : ℕ) → n < b → mem n l ≡ true) → b ≤ length l
-crowd zero l h = omega arith
-crowd (suc b) l h =
-    let r = crowd b (del b l) (λ n k. let ne : (n ≡ b → ⊥) = λ e. omega arith in keep-del b n l ne
-    (h n (omega arith))) in
-    omega (arith, shorter-del b l (h b (omega arith)))
+crowd b l h =
+    omega (
+      arith,
+      length-numbers 0 b,
+      within (numbers 0 b) l (numbers-nodup 0 b) (λ n k. h n (omega (arith, numbers-mem 0 b n k .1))),
+    )
 
 pub nodup-snoc : (s : List ℕ) (c : ℕ) → NoDup s → mem c s ≡ false → NoDup (s ++ c ∷ [])
 nodup-snoc [] c nd h = (refl, tt)

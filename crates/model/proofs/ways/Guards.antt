@@ -9,13 +9,14 @@ use lib.ListN.{getD, length}
 use Rattle.model.specs.Base.{joined}
 use Rattle.model.specs.Edges.{Edge, Guard, Way, edgeBy, edgesAt, picksOf, split, stepBy, whole, View, view, oneAt, waysOf, oneNode, twoNodes, moreAt, noNode}
 use Rattle.model.specs.Heap.{Heap, kept, Slot, next}
-use Rattle.model.specs.Machine.{Answer, Effect, Stmt, accepts, answerOf, branch, done, fault, faulted, picks, refused, carryOut, stopped, went, isStop, Kind, kind, Action, acts, action, tests, acceptsCell, entry, halts, actionOf, branchBy}
+use Rattle.model.specs.Machine.{Answer, Effect, Stmt, accepts, answerOf, branch, done, fault, faulted, picks, refused, carryOut, stopped, went, isStop, Kind, kind, Action, acts, action, drops, tests, acceptsCell, entry, halts, actionOf, branchBy}
 use Rattle.model.specs.Notions.{In, Pairs, Exclude, Views, guardsOn}
 use Rattle.model.proofs.lists.Lists.{in-joined, in-map, pairs-append, pairs-few, few-same, joined-in, map-in}
 use Rattle.model.proofs.ways.Location.{choose-edge, way-guards}
 use Rattle.model.proofs.ways.Lands.{more-on, one-on, one-or-more, rest-on}
 use Rattle.model.proofs.expansion.Step.{step-go}
-use Rattle.model.proofs.ways.Views.{view-acts, view-looks}
+use Rattle.model.proofs.expansion.Splits.{view-acts}
+use Rattle.model.proofs.ways.Views.{view-looks}
 
 edge-few : (s k : ℕ) (y : Way) (a : Answer) → length (edgeBy s k y a) ≤ 1
 edge-few s k y refused = omega arith
@@ -91,6 +92,7 @@ module _ (s : ℕ) (st : Stmt) (h : Heap) (kp : kept h ≡ true) where
       → Pairs Exclude (joined (map edges-by (map (λ p. whole [] p h) (picksOf k))))
   plain-exclude halts q = one-way (whole [] 0 h)
   plain-exclude (acts a) q = one-way (whole [] 0 h)
+  plain-exclude (drops u) q = one-way (whole [] 0 h)
   plain-exclude (tests u s) q = one-way (whole [] 0 h)
   plain-exclude picks q = two-ways (whole [] 0 h) (whole [] 1 h) (λ x y i j e cs g k. absurd (differ x y i j e))
     where

@@ -10,7 +10,7 @@ use lib.ListN.{getD, length}
 use borrow.Author.Tests.{eq-eqb, eqb-false, eqb-true, le-leb, leb-true}
 use Rattle.model.specs.Edges.{Guard, Way, picksOf, split, splitHeap, whole, view, View, oneNode, noNode, twoNodes, waysOf, oneAt, moreAt}
 use Rattle.model.specs.Heap.{Heap}
-use Rattle.model.specs.Machine.{Entry, Op, Stmt, accepts, branch, picks, isStop, kind, entry, Action, action, answerOf, branchBy, leak}
+use Rattle.model.specs.Machine.{Entry, Op, Stmt, accepts, branch, picks, isStop, kind, entry, Action, action, answerOf, branchBy, leak, perform, settle}
 use Rattle.model.specs.Shape.{counters, segments, shape}
 use Rattle.model.specs.Notions.{Kept, In, SmallGuards, Views, segAt, ClosedHeap, guardOn, guardsOn}
 use Rattle.model.proofs.ways.Leave.{Lands, fault-lands, fits-lands}
@@ -22,7 +22,8 @@ use Rattle.model.proofs.expansion.Start.{start}
 use Rattle.model.proofs.expansion.Step.{branch-same, step-go}
 use Rattle.model.proofs.ways.Relinks.{heap-leaks, split-leaks}
 use Rattle.model.proofs.ways.Ways.{count-length, size-at, whole-fits, view-node, split-fits, one-alone}
-use Rattle.model.proofs.ways.Views.{view-acts, view-looks, acts-no-pick, ways-guards}
+use Rattle.model.proofs.expansion.Splits.{view-acts, view-collects}
+use Rattle.model.proofs.ways.Views.{view-looks, acts-no-pick, ways-guards}
 
 -- ---- guards on counters
 
@@ -115,11 +116,14 @@ module _ (s : ℕ) (st : Stmt) (H : Heap) (cl : ClosedHeap H) (kp : Kept H) wher
       let X = start H cl kp in
       let aw : accepts op-of d (y .heap) ≡ true =
       accept-room op-of d (y .heap) (view-looks does (shape H) n q .roomy (y .heap) nodes) (λ z. omega arith) in
+      let k = view-collects (kind op-of) (shape H) n q in
       fault-lands s st H cl kp y e leak gd
       (step-go st d (y .heap) g aw
+      ∙ ap (λ c. answerOf st (branch op-of 0 (y .heap)) (settle c (perform does nodes (y .heap)))) k
       ∙ ap (answerOf st (branch op-of 0 (y .heap)))
       (split-leaks does nodes n m (shape H) (X .closed, X .body .closed) v))
       (step-go st e H g ac
+      ∙ ap (λ c. answerOf st (branch op-of (e .pick) H) (settle c (perform does (e .cellNo) H))) k
       ∙ ap (answerOf st (branch op-of (e .pick) H)) (heap-leaks H cl kp does (e .cellNo) n m v (omega arith)))
 
   -- the nodes of a view

@@ -8,7 +8,7 @@ use native.Mathlib.Omega.{arith}
 use borrow.Author.Tests.{le-leb, leb-true}
 use Rattle.model.specs.Edges.{picksOf}
 use Rattle.model.specs.Heap.{Heap, inUse, next, ptr, sameVal, unused}
-use Rattle.model.specs.Machine.{Action, Entry, Kind, Op, Stmt, accepts, acceptsCell, acceptsPick, action, acts, branchBy, follow, halts, tests, isStop, kind, link, make, picks, point, release, compare, splice, stay, step, test, valueOf}
+use Rattle.model.specs.Machine.{Action, Entry, Kind, Op, Stmt, accepts, acceptsCell, acceptsPick, action, acts, branchBy, drops, follow, halts, tests, isStop, kind, link, make, picks, point, release, compare, splice, stay, step, test, valueOf}
 use Rattle.model.specs.Notions.{In, Room}
 use Rattle.model.specs.Runs.{Advance, State, made}
 use Rattle.model.proofs.expansion.Facts.{unused-of}
@@ -20,6 +20,7 @@ use Rattle.model.proofs.lists.Logic.{and-both, and-l, and-r, bool-case,
 pub kind-case {ℓ} : {C : Type ℓ} (k : Kind) → (k ≡ picks → C) → ((k ≡ picks → ⊥) → C) → C
 kind-case halts f g = g (λ e. let z : _≡_ {A = ℕ} 0 1 = cc in omega arith)
 kind-case (acts a) f g = g (λ e. let z : _≡_ {A = ℕ} 0 1 = cc in omega arith)
+kind-case (drops u) f g = g (λ e. let z : _≡_ {A = ℕ} 0 1 = cc in omega arith)
 kind-case (tests u s) f g = g (λ e. let z : _≡_ {A = ℕ} 0 1 = cc in omega arith)
 kind-case picks f g = f refl
 
@@ -27,6 +28,7 @@ kind-case picks f g = f refl
 pub branch-pick : (k : Kind) (p q : ℕ) (h : Heap) → (k ≡ picks → ⊥) → branchBy k p h ≡ branchBy k q h
 branch-pick halts p q h n = refl
 branch-pick (acts a) p q h n = refl
+branch-pick (drops u) p q h n = refl
 branch-pick (tests u s) p q h n = refl
 branch-pick picks p q h n = absurd (n refl)
 
@@ -38,6 +40,7 @@ test-low false = omega arith
 pub branch-low : (k : Kind) (p : ℕ) (h : Heap) → p ≤ 1 → branchBy k p h ≤ 1
 branch-low halts p h l = omega arith
 branch-low (acts a) p h l = omega arith
+branch-low (drops u) p h l = omega arith
 branch-low (tests u s) p h l = test-low (sameVal (ptr h u) (valueOf s h))
 branch-low picks p h l = l
 
@@ -46,6 +49,8 @@ pick-low halts p (inl e) = omega arith
 pick-low halts p (inr x) = absurd x
 pick-low (acts a) p (inl e) = omega arith
 pick-low (acts a) p (inr x) = absurd x
+pick-low (drops u) p (inl e) = omega arith
+pick-low (drops u) p (inr x) = absurd x
 pick-low (tests u s) p (inl e) = omega arith
 pick-low (tests u s) p (inr x) = absurd x
 pick-low picks p (inl e) = omega arith
@@ -59,6 +64,7 @@ Stands k n = (p : ℕ) × In p (picksOf k) × (k ≡ picks → n ≡ p)
 first-pick : (k : Kind) → In 0 (picksOf k)
 first-pick halts = inl refl
 first-pick (acts x) = inl refl
+first-pick (drops u) = inl refl
 first-pick (tests u s) = inl refl
 first-pick picks = inl refl
 
@@ -75,6 +81,7 @@ pick-in k n a =
 low-pick : (k : Kind) (p : ℕ) → (k ≡ picks → p ≤ 1) → acceptsPick k p ≡ true
 low-pick halts p l = refl
 low-pick (acts a) p l = refl
+low-pick (drops u) p l = refl
 low-pick (tests u s) p l = refl
 low-pick picks p l = le-leb p 1 (l refl)
 

@@ -8,10 +8,10 @@ use lib.ListN.{length}
 use Rattle.model.specs.Base.{mem}
 use Rattle.model.specs.Edges.{splitHeap}
 use Rattle.model.specs.Heap.{Heap, cell, holds, next, order}
-use Rattle.model.specs.Machine.{Op, effect, put, carryOut, action}
+use Rattle.model.specs.Machine.{Op, effect, put, carryOut, action, collects, kind}
 use Rattle.model.specs.Shape.{Seg, cells, core, segments}
 use Rattle.model.proofs.expansion.Cuts.{flat-cut, nodup-l, nodup-r}
-use Rattle.model.proofs.expansion.Facts.{keep-any}
+use Rattle.model.proofs.expansion.Collect.{collect-slots, settle-any}
 use Rattle.model.proofs.expansion.Folds.{Alls}
 use Rattle.model.specs.Notions.{NoDup, flat, ClosedHeap}
 use Rattle.model.proofs.lists.Logic.{mem-append-l, mem-append-r}
@@ -29,7 +29,8 @@ split-short n h q =
 pub run-short : (op : Op) (n b : ℕ) (h : Heap) → ClosedHeap h → length (h .slots) ≤ b → n < b
     → Short b (carryOut op n h)
 run-short op n b h cl l q =
-    keep-any (Short b) (λ f. tt) (effect op n h) (leaves-short (action op) n b h l q (effect op n h)
+    settle-any (collects (kind op)) (Short b) (λ f. tt) (λ g k. omega (arith, collect-slots g)) (effect op n h)
+    (leaves-short (action op) n b h l q (effect op n h)
     (effect-leaves (action op) n h cl))
 
 -- the cells of a segment are different, and below the number of slots

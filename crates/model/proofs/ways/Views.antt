@@ -9,19 +9,12 @@ use native.Mathlib.Omega.{arith}
 use lib.ListN.{length}
 use Rattle.model.specs.Edges.{Guard, Way, splitHeap, whole, View, noNode, oneNode, twoNodes, view, waysOf, picksOf, Test, isOne, isMore, oneAt, moreAt}
 use Rattle.model.specs.Heap.{Heap, cell, next, Slot, ptr}
-use Rattle.model.specs.Machine.{picks, Kind, Action, actionOf, acceptsCell, point, acts, follow, tests, link, make, release, halts, compare, splice, stay}
+use Rattle.model.specs.Machine.{picks, Kind, Action, acceptsCell, point, acts, follow, link, make, release, compare, splice, stay}
 use Rattle.model.specs.Shape.{Seg}
 use Rattle.model.proofs.expansion.Effects.{closed-ptr}
 use Rattle.model.proofs.expansion.Splits.{pair-is, view-is}
 use Rattle.model.specs.Notions.{Room, sg-after, AllClosed, Closed, In, Used, Views}
 use Rattle.model.proofs.lists.Lists.{in-map}
-
--- a statement that looks at a node acts, and has no other say
-pub view-acts : (k : Kind) (h : Heap) (n : ℕ) → Views (view (actionOf k) h) n → (a : Action) × (k ≡ acts a)
-view-acts halts h n e = absurd e
-view-acts (acts a) h n e = (a, refl)
-view-acts (tests u s) h n e = absurd e
-view-acts picks h n e = absurd e
 
 pub acts-no-pick : (a : Action) → acts a ≡ picks → ⊥
 acts-no-pick a e = let z : _≡_ {A = ℕ} 0 1 = cc in omega arith

@@ -60,13 +60,13 @@ module _ (k : ℕ) (cs : List ℕ) where
   abbrev whole-weight : ℕ → Weight
   whole-weight c = cond (eqb c k) one (counter c)
 
-  whole-adds : (i c : ℕ) → addsCounter i (whole-weight c) ≡ true → (c ≡ i) × (eqb c k ≡ false)
+  pub whole-adds : (i c : ℕ) → addsCounter i (whole-weight c) ≡ true → (c ≡ i) × (eqb c k ≡ false)
   whole-adds i c h = bool-case (eqb c k) (λ e. clash (rw e at h) refl) (λ e. (sym (eqb-true i c (rw e at h)), e))
 
-  whole-rest : (c : ℕ) → isLess (whole-weight c) ≡ true → ⊥
+  pub whole-rest : (c : ℕ) → isLess (whole-weight c) ≡ true → ⊥
   whole-rest c h = bool-case (eqb c k) (λ e. clash (rw e at h) refl) (λ e. clash (rw e at h) refl)
 
-  whole-one : (c : ℕ) → isOneCell (whole-weight c) ≡ true → c ≡ k
+  pub whole-one : (c : ℕ) → isOneCell (whole-weight c) ≡ true → c ≡ k
   whole-one c h = bool-case (eqb c k) (λ e. eqb-true c k e) (λ e. clash (rw e at h) refl)
 
   pub whole-fair : Fair k cs whole-weight

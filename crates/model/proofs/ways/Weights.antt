@@ -12,16 +12,21 @@ use Rattle.model.specs.Base.{any, count, mem, numbers, sum}
 use Rattle.model.specs.Edges.{Weight, addsCounter, counter, isOneCell, isLess, one, less, updateOf}
 use Rattle.model.specs.Shape.{Seg, cells}
 use Rattle.model.proofs.shapes.Canon.{single}
-use Rattle.model.proofs.lists.Lists.{any-find, in-mem}
+use Rattle.model.proofs.lists.Lists.{any-find, any-in, getD-map, in-mem, mem-in}
 use Rattle.model.specs.Notions.{NoDup, flagged}
 use Rattle.model.proofs.lists.Logic.{bool-case, clash, eqb-same, mem-here, mem-there, not-true}
-use Rattle.model.proofs.lists.Numbers.{length-numbers}
+use Rattle.model.proofs.lists.Numbers.{at-number, flag-at, length-numbers}
 
 -- how many cells a cell of the shape stands for, with these counters
 abbrev pub weigh : List ℕ → Weight → ℕ
 weigh cs (counter n) = getD cs n 1
 weigh cs one = 1
 weigh cs (less n) = getD cs n 1 - 1
+
+pub count-none : (p : ℕ → Bool) (l : List ℕ) → ((d : ℕ) → mem d l ≡ true → p d ≡ true → ⊥) → count p l ≡ 0
+count-none p [] z = refl
+count-none p (d ∷ l) z = rw (not-true (p d) (z d (mem-here d l)))
+    (omega (arith, count-none p l (λ x q. z x (mem-there x d l q))))
 
 -- sums of flagged counters, the flags given by a test of the numbers from j on
 flags-none : (f : ℕ → Bool) (j : ℕ) (cs : List ℕ) → ((i : ℕ) → f i ≡ false) → flagged (map f (numbers j (length cs)))
@@ -54,6 +59,25 @@ flags-or f g j (c ∷ cs) h =
     (λ p. bool-case (g j) (λ q. absurd (h j p q)) (λ q. rw (p, q) (omega arith)))
     (λ p. bool-case (g j) (λ q. rw (p, q) (omega arith)) (λ q. rw (p, q) (omega arith)))
 
+-- the cell of a list that a counter belongs to
+any-owner : (w : ℕ → Weight) (i : ℕ) (l : List ℕ) → any (λ c. addsCounter i (w c)) l ≡ true → (d : ℕ) × (mem d l ≡ true)
+    × (addsCounter i (w d) ≡ true)
+any-owner w i l h = let r = any-find (λ c. addsCounter i (w c)) l h in (r .0, in-mem (r .0) l (r .1), r .2)
+
+-- a counter that an update adds is the counter of one of its segment's cells, and the counter of such a cell is added
+pub update-adds : (k : ℕ) (w : ℕ → Weight) (s : Seg) (i : ℕ) → getD (updateOf k w s .adds) i false ≡ true
+    → (c : ℕ) × (mem c (cells s) ≡ true) × (addsCounter i (w c) ≡ true)
+update-adds k w s i h =
+    any-owner w i (cells s) (rw zero-add at (flag-at (λ j. any (λ c. addsCounter j (w c)) (cells s)) 0 k i h))
+
+pub adds-update : (k : ℕ) (w : ℕ → Weight) (s : Seg) (i c : ℕ) → i < k → mem c (cells s) ≡ true
+    → addsCounter i (w c) ≡ true → getD (updateOf k w s .adds) i false ≡ true
+adds-update k w s i c lt m a =
+    let f : ℕ → Bool = λ j. any (λ d. addsCounter j (w d)) (cells s) in
+    getD-map f (numbers 0 k) i 0 false (omega (arith, length-numbers 0 k))
+    ∙ ap f (at-number 0 k i 0 lt ∙ zero-add i)
+    ∙ any-in (λ d. addsCounter i (w d)) (cells s) c (mem-in c (cells s) m) a
+
 -- What is needed of the cells' weights: a counter belongs to one cell, and one cell at most is a rest, and one stands
 -- for one; counters are there, and a rest's is not 0.
 pub record Fair (k : ℕ) (cs : List ℕ) (w : ℕ → Weight) : Type 0 where
@@ -82,10 +106,6 @@ module _ (k : ℕ) (cs : List ℕ) (len : length cs ≡ k) (w : ℕ → Weight) 
       let s = ap (λ m. flagged (map (λ i. eqb i m) (numbers 0 (length cs))) cs) (zero-add n) in
       let p = F .positive c n e in omega arith
 
-  any-owner : (i : ℕ) (l : List ℕ) → any (λ c. addsCounter i (w c)) l ≡ true → (d : ℕ) × (mem d l ≡ true)
-      × (addsCounter i (w d) ≡ true)
-  any-owner i l h = let r = any-find (λ c. addsCounter i (w c)) l h in (r .0, in-mem (r .0) l (r .1), r .2)
-
   -- the weights of a list of different cells
   balance : (l : List ℕ) → NoDup l → ((c : ℕ) → mem c l ≡ true → c < suc k)
       → sum (λ c. weigh cs (w c)) l + count (λ c. isLess (w c)) l ≡ adds-of l + count (λ c. isOneCell (w c)) l
@@ -95,7 +115,7 @@ module _ (k : ℕ) (cs : List ℕ) (len : length cs ≡ k) (w : ℕ → Weight) 
       let r = balance l (nd .1) (λ d q. h d (mem-there d c l q)) in
       let o = one-cell c (w c) refl (h c (mem-here c l)) in
       let s = flags-or (λ i. addsCounter i (w c)) (λ i. any (λ d. addsCounter i (w d)) l) 0 cs
-      (λ i p q. let z = any-owner i l q in clash (subst (λ x. mem x l ≡ true) (sym (F .owned i c (z .0) p (z .2)))
+      (λ i p q. let z = any-owner w i l q in clash (subst (λ x. mem x l ≡ true) (sym (F .owned i c (z .0) p (z .2)))
       (z .1)) (nd .0)) in
       omega arith
 
@@ -104,15 +124,10 @@ module _ (k : ℕ) (cs : List ℕ) (len : length cs ≡ k) (w : ℕ → Weight) 
   few-of p one-only (c ∷ l) nd =
       bool-case (p c) (λ e. rw e (omega (
         arith,
-        none-of l
+        count-none p l
             (λ d q z. clash (subst (λ x. mem x l ≡ true) (one-only d c z e) q) (nd .0)),
       )))
       (λ e. rw e (omega (arith, few-of p one-only l (nd .1))))
-    where
-      none-of : (m : List ℕ) → ((d : ℕ) → mem d m ≡ true → p d ≡ true → ⊥) → count p m ≡ 0
-      none-of [] z = refl
-      none-of (d ∷ m) z = rw (not-true (p d) (z d (mem-here d m)))
-          (omega (arith, none-of m (λ x q. z x (mem-there x d m q))))
 
   -- the constant of an update is -1, 0 or 1, and it has a flag for each old node
   pub update-small : (s : Seg) → NoDup (cells s) → (updateOf k w s .plus ≤ 2) × (length (updateOf k w s .adds) ≡ k)

@@ -37,16 +37,23 @@ fn images() {
         let theirs = best(2000, || reference::fold(black_box(&pointers), black_box(cells)));
         row(what, ours, theirs);
     }
-    for (what, op, u, w) in [("step, p1 := p0.next on 240 cells", 3, 1, 0), ("step, test p0 = p1 on 240 cells", 9, 0, 1)] {
+    let steps = [
+        ("step, p1 := p0.next on 240 cells", 3, 1, 0),
+        ("step, test p0 = p1 on 240 cells", 9, 0, 1),
+        ("step, drop p0 of 240 cells", 13, 0, 0),
+    ];
+    for (what, op, u, w) in steps {
         let mut record = [0u8; 32];
         (record[0], record[1], record[2], record[3]) = (0x53, op, u, w);
         let (mut p, mut c) = (one, list.clone());
         let ours = best(2000, || {
             p = one;
+            c.copy_from_slice(&list);
             native::step(black_box(&mut p), black_box(&mut c), &record, 0, 0)
         });
         let theirs = best(2000, || {
             p = one;
+            c.copy_from_slice(&list);
             reference::step(black_box(&mut p), black_box(&mut c), &record, 0, 0)
         });
         row(what, ours, theirs);
@@ -142,10 +149,11 @@ fn translations() {
             ours / c
         );
     }
-    growth(&std::fs::read(&names[3]).unwrap());
+    names.retain(|path| path.to_string_lossy().contains("-big-"));
+    growth(&std::fs::read(&names[0]).unwrap());
     println!("\nwithout the checks of the input, and ours without the search for known locations, ns an edge:");
     println!("{:<16} {:>10} {:>10} {:>9} {:>24}", "", "proved", "C", "proved/C", "one record looked at");
-    for path in &names[3..] {
+    for path in &names {
         let [edge, look, c] = parts(&std::fs::read(path).unwrap());
         let name = path.file_stem().unwrap().to_string_lossy();
         println!("{name:<16} {edge:>10.1} {c:>10.1} {:>9.1} {look:>21.2} ns", edge / c);

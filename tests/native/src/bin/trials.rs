@@ -4,10 +4,11 @@
 
 use native::damage::{among_shapes, any_values, counters_of, drawn_routine, many_nodes, spoil_shape, spoiled};
 use native::draw::{damage_record, damaged_image, image, statement, Draw};
+use native::joined::{any_image, drop_of};
 use native::rings::{exact, fork, full, plain_ring, ring, ring_at_border, FULL};
 use native::stream::Stream;
 use reference::selftest::damaged_shapes;
-use reference::{Refusal, Stepped, Translated};
+use reference::{Refusal, Translated};
 use std::collections::HashSet;
 use std::io::Write;
 
@@ -121,25 +122,20 @@ fn folds(out: &mut Stream, d: &mut Draw) {
 
 fn steps(out: &mut Stream, d: &mut Draw) {
     for i in 0..HEAPS {
-        let (mut pointers, mut cells) = if d.one_in(6) { damaged_image(d, cells(i)) } else { heap(d, i) };
+        let (pointers, cells) = if d.one_in(6) { damaged_image(d, cells(i)) } else { heap(d, i) };
         let record = if d.one_in(200) { Vec::new() } else { statement(d) };
         let pick = if d.one_in(5) { d.number() as u8 } else { d.below(2) as u8 };
         let cell = if d.one_in(20) { usize::MAX - d.below(2) } else { d.below(cells.len() + 2) };
-        out.begin(b'S');
-        out.block(&pointers);
-        out.block(&cells);
-        out.block(&record);
-        out.numbers(&[pick.into(), cell]);
-        let (refusal, answer) = match reference::step(&mut pointers, &mut cells, &record, pick.into(), cell as u64) {
-            Stepped::Refused(refusal) => (Some(refusal), [0; 4]),
-            Stepped::Stop => (None, [0, 1, 0, 0]),
-            Stepped::Fault(fault) => (None, [fault, 0, 0, 0]),
-            Stepped::Moved { branch, next } => (None, [0, 0, branch, next]),
-        };
-        out.refusal(refusal);
-        out.block(&answer);
-        out.block(&pointers);
-        out.block(&cells);
+        out.stepping((pointers, cells), &record, pick, cell);
+    }
+}
+
+/// Drops of lists and rings that meet; pick and cell are not read.
+fn drops(out: &mut Stream, d: &mut Draw) {
+    for i in 0..FEW {
+        let heap = any_image(d, i);
+        let record = drop_of(d, &heap.0);
+        out.stepping(heap, &record, d.number() as u8, d.number() as usize);
     }
 }
 
@@ -236,7 +232,7 @@ fn records(out: &mut Stream, d: &mut Draw) {
 
 fn batch(seed: u64) -> Stream {
     let (mut out, mut d) = (Stream::default(), Draw::new(seed));
-    for kind in [translations, folds, steps, unfoldings, records, damaged] {
+    for kind in [translations, folds, steps, drops, unfoldings, records, damaged] {
         kind(&mut out, &mut d);
     }
     out

@@ -7,13 +7,13 @@ use mathlib.Core.Bool.{Bool, false, true}
 use mathlib.Core.List.{List, [], _++_, _∷_}
 use native.Mathlib.Nat.{zero-add}
 use native.Mathlib.Omega.{arith}
-use lib.ListN.{getD}
+use lib.ListN.{getD, length}
 use Rattle.model.specs.Base.{mem}
-use Rattle.model.specs.Heap.{Heap, Slot, Val, cell, eachUsed, holds, kept, next, null, order, undef, unused}
+use Rattle.model.specs.Heap.{Heap, Slot, Val, cell, eachUsed, holds, kept, next, null, order, tour, undef, unused}
 use Rattle.model.proofs.expansion.Facts.{kept-test, test-kept}
 use Rattle.model.specs.Notions.{In, Reaches, along, from-pointer, ClosedHeap, Tours, Used, Walks, at-null, at-seen, at-undef, go, tour-done, tour-more}
 use Rattle.model.proofs.lists.Logic.{bool-case, clash, mem-append-cases, mem-append-l, mem-append-r, mem-here, mem-one, not-true}
-use Rattle.model.proofs.visits.Order.{toured}
+use Rattle.model.proofs.visits.Order.{pigeon, tour-of, toured, used-below}
 use Rattle.model.proofs.expansion.Writes.{cell-inj, holds-inj}
 
 val-clash {ℓ} : {C : Type ℓ} {v : Val} {c : ℕ} → cell c ≡ v → v ≡ null ⊎ v ≡ undef → C
@@ -38,6 +38,20 @@ module _ (nx : ℕ → Slot) where
         → (c : ℕ) → mem c t ≡ true → P c
     tour-only tour-done f g = f
     tour-only (tour-more w ws) f g = tour-only ws (walk-only w f (λ c e. g c (inl e))) (λ c i. g c (inr i))
+
+    -- nexts that are the same there have the same visit
+    module _ (ny : ℕ → Slot) (same : (c : ℕ) → P c → ny c ≡ nx c) where
+      walk-same : {s t : List ℕ} {v : Val} → Walks nx s v t → ((c : ℕ) → cell c ≡ v → P c) → Walks ny s v t
+      walk-same at-null g = at-null
+      walk-same at-undef g = at-undef
+      walk-same (at-seen h) g = at-seen h
+      walk-same (go {c = c} h e w) g =
+          go h (same c (g c refl) ∙ e) (walk-same w (λ x q. go-on c x (g c refl) (e ∙ ap holds (sym q))))
+
+      tour-same : {s t : List ℕ} {vs : List Val} → Tours nx s vs t → ((c : ℕ) → In (cell c) vs → P c) → Tours ny s vs t
+      tour-same tour-done g = tour-done
+      tour-same (tour-more w ws) g =
+          tour-more (walk-same w (λ c e. g c (inl e))) (tour-same ws (λ c i. g c (inr i)))
 
   walk-keeps : {s t : List ℕ} {v : Val} → Walks nx s v t → (c : ℕ) → mem c s ≡ true → mem c t ≡ true
   walk-keeps at-null c k = k
@@ -96,6 +110,16 @@ pub reaches-order : (h : Heap) → ClosedHeap h → (c : ℕ) → Reaches h c �
 reaches-order h cl c (from-pointer i) = tour-hits (next h) (toured h cl .tours) c i
 reaches-order h cl c (along {c = b} r e) = tour-whole (next h) (toured h cl .tours) (λ a d k q. clash k refl) b c
     (reaches-order h cl b r) e
+
+-- a heap with the same pointers and as many slots, in which every reachable cell holds the same, is visited alike
+pub order-same : (h g : Heap) → ClosedHeap h → g .ptrs ≡ h .ptrs → length (g .slots) ≡ length (h .slots)
+    → ((c : ℕ) → Reaches h c → next g c ≡ next h c) → order g ≡ order h
+order-same h g cl p l e =
+    let T = toured h cl in
+    let few = pigeon (length (h .slots)) (order h) (T .nodup) (λ n q. used-below (h .slots) n (T .used n q)) in
+    ap (tour (next g) (length (g .slots)) []) p
+    ∙ tour-of (next g) (tour-same (next h) (Reaches h) (λ c d r q. along r q) (next g) e (T .tours)
+    (λ c i. from-pointer i)) (length (g .slots)) (omega arith)
 
 -- the test says that every cell in use is reachable
 pub kept-reaches : (h : Heap) → ClosedHeap h → (kept h ≡ true) ↔ ((c : ℕ) → Used (next h) c → Reaches h c)
