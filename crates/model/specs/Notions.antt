@@ -1,5 +1,5 @@
--- What the promises about heaps, shapes and edges speak of, beside specs/: reachable cells, segments, merging,
--- renaming, one heap as the expansion of another, guards and updates on counters.
+-- What the promises about heaps, shapes and edges speak of, beside the definitions by section of 01: reachable cells,
+-- segments, merging, renaming, one heap as the expansion of another, guards and updates on counters.
 use Prim.Native.Nat.{_+_, _-_, _<_, _≤_, ℕ}
 use Rattle.model.specs.Image.{StepAnswer, noStep, toFault, toNext, toStop}
 use mathlib.Core.Path.{_≡_}
@@ -22,7 +22,7 @@ abbrev pub In : {A : Type 0} → A → List A → Type 0
 In x [] = ⊥
 In x (y ∷ l) = (x ≡ y) ⊎ In x l
 
--- no element stands twice (for lists of numbers: NoDup of Logic)
+-- no element stands twice (for lists of numbers: NoDup)
 abbrev pub Distinct : {A : Type 0} → List A → Type 0
 Distinct [] = Unit {0}
 Distinct (x ∷ l) = (In x l → ⊥) × Distinct l

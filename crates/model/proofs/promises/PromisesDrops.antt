@@ -174,7 +174,7 @@ others-leak st e h g x o a d l =
     (λ z. clash (subst (λ (y : Heap). kept y ≡ true) (stop-stays (kind (st .op)) (e .cellNo) h g z d) (x .isKept)) l)) a
     (no-drop (st .op) o) d l
 
--- ==== on an image: "collected cells become 0xfd"
+-- ==== on an image: a cell that is collected becomes 0xfd
 
 -- a plain step that drops: u's byte is that of null, a cell that is still reachable keeps its byte, and any other is
 -- not in use
