@@ -1,5 +1,5 @@
 /* The controller bench: translates routines into tables for 128 locations and 256 edges, folds and unfolds heaps, and
- * steps them. All that it decides comes from the library. Nothing is allocated. */
+ * steps them. All that it answers comes from the library; it decides only what it can read. Nothing is allocated. */
 #include "bench.h"
 #include "digits.h"
 

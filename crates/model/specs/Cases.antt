@@ -1,4 +1,5 @@
--- 01, "Shelf cases": the cases marked P, and cases of 02, as one table of inputs and outputs. Assumes nothing.
+-- 01, "Shelf cases": the cases marked P, P11 as 02 has it, and cases R of relinks and D of drops, made for 02, as one
+-- table of inputs and outputs. Assumes nothing.
 use Prim.Native.Nat.{ℕ, zero, suc, _+_, _*_, _/_, _%_, _^_}
 use mathlib.Core.Bool.{Bool, true, false, _&&_}
 use mathlib.Core.List.{List, [], _∷_, _++_, map}

@@ -257,7 +257,7 @@ acceptsCell a s = not (makes a && inUse s)
 abbrev pub accepts : Op → Entry → Heap → Bool
 accepts op e h = acceptsPick (kind op) (e .pick) && acceptsCell (action op) (next h (e .cellNo))
 
--- what a step answers; a fault has branch 0 and leaves heap and statement
+-- what a step answers; a fault leaves heap and statement, and its branch is 0 (`made` in `Runs`, `edgeBy` in `Edges`)
 pub data Answer : Type 0 where
   refused : Answer
   stopped : Answer

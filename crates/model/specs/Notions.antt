@@ -11,7 +11,7 @@ use lib.ListN.{getD, length}
 use Rattle.model.specs.Base.{mem, sum, numbers, all}
 use Rattle.model.specs.Edges.{Edge, Guard, Loc, Test, Update, View, at, failed, isMore, isOne, noNode, oneNode, twoNodes}
 use Rattle.model.specs.Heap.{Heap, IsHeap, Slot, Val, cell, closed, holds, next, null, order, ptr, undef, unused}
-use Rattle.model.specs.Machine.{Action, Effect, Fault, atNull, atUndef, done, fault, makes, putSlot}
+use Rattle.model.specs.Machine.{Action, Effect, Fault, Op, atNull, atUndef, choose, clear, done, fault, free, load, makes, putSlot, relink, stop, store}
 use Rattle.model.specs.Records.{Row, Verdict, isAccepted, isRefused, refusalAt}
 use Rattle.model.specs.Shape.{Seg, cells, core, segments, size}
 
@@ -233,12 +233,30 @@ pub data LooksBad (h : Heap) (u w : ℕ) : Fault → Type 0 where
   u-null : (d : ℕ) → ptr h w ≡ cell d → ptr h u ≡ null → LooksBad h u w atNull
   u-undef : (d : ℕ) → ptr h w ≡ cell d → ptr h u ≡ undef → LooksBad h u w atUndef
 
+-- "Ops 3, 4, 5 and 7": the op reads, writes or frees through pointer v
+pub data Through : Op → ℕ → Type 0 where
+  loads : {u w : ℕ} → Through (load u w) w
+  clears : {u : ℕ} → Through (clear u) u
+  stores : {u w : ℕ} → Through (store u w) u
+  frees : {u : ℕ} → Through (free u) u
+
+-- "Every other statement ..": no stop and no choose, nothing that goes through a node, and no relink of two nodes
+pub record Other (op : Op) (h : Heap) : Type 0 where
+  pub noStop : op ≡ stop → ⊥
+  pub noChoose : op ≡ choose → ⊥
+  pub noNodeThrough : (v n : ℕ) → Through op v → ptr h v ≡ cell n → ⊥
+  pub noTwoNodes : (u w n m : ℕ) → op ≡ relink u w → ptr h u ≡ cell n → ptr h w ≡ cell m → n ≡ m
+
 -- both fault alike, or both finish and the one heap is the expansion of the other
 pub data Alike (sg : ℕ → Seg) : Effect → Effect → Type 0 where
   both-bad : {f : Fault} → Alike sg (fault f) (fault f)
   both-ok : {W H : Heap} → Expansion W sg H → Alike sg (done W) (done H)
 
 -- ---- edges
+
+-- the update of a segment of nodes that adds the counters of these, and nothing else; there were k nodes
+abbrev pub gathered : ℕ → Seg → Update
+gathered k s = record { adds = map (λ n. mem n (cells s)) (numbers 0 k); plus = 1 }
 
 -- how many nodes a location has
 abbrev pub nodesOf : Loc → ℕ
