@@ -41,9 +41,10 @@ def ending(path):
 
 FILES = set(files())
 ENDINGS = {"a", *map(ending, FILES)} - {""}
-PAGES = {f: read(f) for f in sorted(FILES) if re.fullmatch(r"(?:README|CONTRIBUTING|docs/.*)\.md", f)}
+# the request's own words, with names and figures as they were, stand in PROMISES and STATEMENTS, which tests/promises reads
+PAGES = {f: read(f) for f in sorted(FILES) if re.fullmatch(r"(?:README|CONTRIBUTING|docs/(?!PROMISES|STATEMENTS).*)\.md", f)}
 # the pages that say what is so now, and two sources that tell it to people as well
-TODAY = {f: text for f, text in PAGES.items() if not re.match(r"docs/(?:landings|examples|STATEMENTS)", f)}
+TODAY = {f: text for f, text in PAGES.items() if not re.match(r"docs/(?:landings|examples)", f)}
 TODAY |= {f: re.sub(r"\s+(?:\* )?", " ", read(f)) for f in ("include/currantplane.h", "cli/src/help.rs")}
 # the sources without their comments, and what they declare; tests/documents names what is gone
 CODE = {f: re.sub(COMMENT[ending(f)], "", read(f), flags=re.M) for f in sorted(FILES - {"tests/documents"})
@@ -91,7 +92,7 @@ def ticked(text):
 
 
 def sections(page):
-    return dict(section.partition("\n")[::2] for section in re.split(r"^## ", PAGES[page], flags=re.M)[1:])
+    return dict(section.partition("\n")[::2] for section in re.split(r"^## ", read(page), flags=re.M)[1:])
 
 
 def rows(page, title):

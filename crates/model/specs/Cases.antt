@@ -13,7 +13,7 @@ abbrev bytesOf : ℕ → ℕ → List ℕ
 bytesOf zero x = []
 bytesOf (suc n) x = x / 256 ^ n % 256 ∷ bytesOf n x
 
--- a record as 01 prints it: the digits x "and z zeros"
+-- a record as 01 prints it: the digits x and z zeros
 abbrev line : ℕ → ℕ → List ℕ
 line x z = bytesOf 32 (x * 16 ^ z)
 
