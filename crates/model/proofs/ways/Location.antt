@@ -10,11 +10,11 @@ use native.Mathlib.Omega.{arith}
 use lib.Dec.{leb}
 use lib.ListN.{length}
 use Rattle.model.specs.Edges.{Edge, Way, edgeBy, edgesAt, picksOf, stepBy, ways, whole, view, noNode, waysOf}
-use Rattle.model.specs.Heap.{Heap, inUse, kept, next}
+use Rattle.model.specs.Heap.{Heap, IsHeap, inUse, kept, next}
 use Rattle.model.specs.Machine.{Answer, Entry, Op, Stmt, accepts, faulted, picks, refused, step, stopped, went, isStop, kind, entry, Action, action, actionOf}
 use Rattle.model.specs.Runs.{State, Advance, made}
 use Rattle.model.specs.Shape.{counters, segments, shape}
-use Rattle.model.proofs.expansion.Facts.{kept-test, unused-of}
+use Rattle.model.proofs.expansion.Facts.{heap-closed, heap-kept, is-heap, kept-test, unused-of}
 use Rattle.model.specs.Notions.{Kept, In, SmallEdge, segAt, worth, ClosedHeap, guardsOn}
 use Rattle.model.proofs.expansion.Folds.{kept-down}
 use Rattle.model.proofs.ways.Leave.{Fit, begin}
@@ -128,3 +128,11 @@ module _ (s : ℕ) (st : Stmt) (H : Heap) (cl : ClosedHeap H) (kp : Kept H) wher
         subst (λ (x : Edge). Fit (L .taken .after) (x .to) (map (worth (counters H)) (x .updates))) (sym z) (L .fits),
         subst (SmallEdge nodes) (sym z) (r .4),
       )
+
+-- a step leaves a heap
+pub step-heap : (st : Stmt) (e : Entry) (h : Heap) → IsHeap h → (b t : ℕ) (g : Heap) → step st e h ≡ went b t g
+    → IsHeap g
+step-heap st e h x b t g q =
+    let F = leave-forward 0 st h (heap-closed h x) (heap-kept h x) e (record { branchNo = b; after = begin t g })
+    (ap (made (begin 0 h)) q) .4 in
+    is-heap g (F .2) (F .3)
