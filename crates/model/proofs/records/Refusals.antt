@@ -18,7 +18,7 @@ use Rattle.model.specs.Heap.{next}
 use Rattle.model.specs.Records.{Refusal, Row, checksH, checksRecord, checksS, failedNode, firstFailed, isH, isS, refusal, refusalAt}
 use Rattle.model.specs.Translate.{Routine, bad, badKind, badRecord, between, check, checkCounts, checkKinds, checkRecords, good, routineOf}
 use Rattle.model.proofs.records.Checked.{bad-good, good-inj}
-use Rattle.model.specs.Listings.{BadInput, GoodInput, bad-kind, bad-length, bad-record, bad-shapes, bad-statements, noRecords, numbersH, numbersInput, numbersS, recordChecks, recordRefusal, recordsOf, wrongKind}
+use Rattle.model.specs.Listings.{BadInput, GoodInput, bad-kind, bad-length, bad-record, bad-shapes, bad-statements, noRecords, numbersH, numbersInput, numbersS, recordChecks, recordNode, recordRefusal, recordsOf, wrongKind}
 use Rattle.model.proofs.lists.Logic.{and-l, and-r, bool-case, clash, not-false, or-r}
 
 -- ---- the first record of a wrong kind
@@ -216,6 +216,46 @@ pub refused-input : (s : List ℕ) (x : Refusal) → check s ≡ bad x → BadIn
 refused-input s x e = ⊎-elim
     (λ (p : (y : Refusal) × (check s ≡ bad y) × BadInput s y). subst (BadInput s) (bad-inj (sym (p .1) ∙ e)) (p .2))
     (λ (p : (r : Routine) × (check s ≡ good r) × GoodInput s r). bad-good (sym e ∙ p .1)) (check-cases s)
+
+-- records of right kinds all, and the first of a wrong kind
+kinds-none : (rs : List (List ℕ)) → ((j : ℕ) → j < length rs → wrongKind rs j ≡ false) → badKind false 0 rs ≡ none
+kinds-none rs f = ⊎-elim (λ (k, q, lt, w, g). clash w (f k lt)) (λ (q, g). q) (kind-cases false 0 rs)
+
+kind-found : (rs : List (List ℕ)) (i : ℕ) → i < length rs → ((j : ℕ) → j < i → wrongKind rs j ≡ false)
+    → wrongKind rs i ≡ true → badKind false 0 rs ≡ some i
+kind-found rs i lt f w = ⊎-elim
+    (λ (k, q, l, v, g). let a : k < i → ⊥ = λ z. clash v (f k z) in let b : i < k → ⊥ = λ z. clash w (g i z) in
+    q ∙ ap some (omega arith))
+    (λ (q, g). clash w (g i lt)) (kind-cases false 0 rs)
+
+-- the first that is refused
+record-found : (rs : List (List ℕ)) (n i : ℕ) → i < length rs → ((j : ℕ) → j < i → recordRefusal rs j ≡ 0)
+    → recordRefusal rs i ≡ suc n → badRecord (count isS rs) 0 [] rs ≡ some (refusalAt (suc n) i (recordNode rs i))
+record-found rs n i lt f w = ⊎-elim
+    (λ (k, m, q, l, v, g).
+    let u = ap firstFailed (none-earlier rs k) ∙ v in
+    let a : k < i → ⊥ = λ z. let y = f k z in omega arith in
+    let b : i < k → ⊥ = λ z. let y = ap firstFailed (none-earlier rs i) ∙ g i z in omega arith in
+    let e : k ≡ i = omega arith in
+    let c : suc m ≡ suc n = sym u ∙ ap (recordRefusal rs) e ∙ w in
+    let p : 0 + k ≡ i = omega arith in
+    let d = ap failedNode (sym (none-earlier rs k)) ∙ ap (recordNode rs) e in
+    q ∙ (λ x. some (refusalAt (c x) (p x) (d x))))
+    (λ (q, g). absurd (let y = ap firstFailed (none-earlier rs i) ∙ g i lt in omega arith))
+    (record-cases (count isS rs) 0 [] rs)
+
+-- an input with something wrong is refused so
+pub bad-refused : (s : List ℕ) (x : Refusal) → BadInput s x → check s ≡ bad x
+bad-refused s x (bad-length e a) = no-records s a ∙ ap bad (sym e)
+bad-refused s x (bad-kind i e a lt f w) =
+    check-kinds s a ∙ rw (kind-found (recordsOf s) i lt f w, checkKinds) (ap bad (sym e))
+bad-refused s x (bad-statements e a f b) =
+    kinds-counts s a (kinds-none (recordsOf s) f) ∙ rw (b, checkCounts) (ap bad (sym e))
+bad-refused s x (bad-shapes e a f b c) =
+    kinds-counts s a (kinds-none (recordsOf s) f) ∙ rw (b, checkCounts) (rw (c, checkCounts) (ap bad (sym e)))
+bad-refused s x (bad-record n i e a f b c lt g w) =
+    counts-records s a (kinds-none (recordsOf s) f) f b c
+    ∙ rw (record-found (recordsOf s) n i lt g w, checkRecords) (ap bad (sym e))
 
 -- an accepted input has nothing wrong with it
 pub accepted-input : (s : List ℕ) (r : Routine) → check s ≡ good r → GoodInput s r
