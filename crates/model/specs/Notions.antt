@@ -240,7 +240,11 @@ pub data Alike (sg : ℕ → Seg) : Effect → Effect → Type 0 where
 
 -- ---- edges
 
--- how many nodes a location has
+-- the statement of a location, and how many nodes it has
+abbrev pub statementOf : Loc → ℕ
+statementOf (at s h) = s
+statementOf (failed s f) = s
+
 abbrev pub nodesOf : Loc → ℕ
 nodesOf (at s h) = length (h .slots)
 nodesOf (failed s f) = 0

@@ -24,18 +24,29 @@ use Rattle.model.proofs.expansion.Facts.{heap-closed, heap-kept, kept-s
 use Rattle.model.proofs.expansion.Folds.{counters-grow, fold-same, order-cat}
 use Rattle.model.proofs.listings.Exact.{full-exact}
 use Rattle.model.proofs.listings.FullListing.{full-exists}
-use Rattle.model.specs.Listings.{Exact, IsFull, Reached, Refused, UnusedZero, Writable, WritableLoc, linkAt, locAt, stmtRecord}
-use Rattle.model.specs.Notions.{In, Pairs, AddApart, Alike, Exclude, Expansion, Positive, Room, SmallEdge, SmallGuards, cat, flagged, nodesOf, segAt, sg-after, total, upd, seg, guardsOn, Alone}
-use Rattle.model.proofs.listings.Moves.{good-writable}
+use Rattle.model.specs.Listings.{Exact, GoodLoc, IsFull, Reached, Refused, UnusedZero, Writable, WritableLoc, linkAt, locAt, stmtRecord}
+use Rattle.model.specs.Notions.{In, Pairs, AddApart, Alike, Exclude, Expansion, Positive, Room, SmallEdge, SmallGuards, cat, flagged, nodesOf, segAt, sg-after, statementOf, total, upd, seg, guardsOn, Alone}
+use Rattle.model.proofs.listings.Moves.{good-writable, nodes-few}
 use Rattle.model.proofs.listings.Once.{good-once}
 use Rattle.model.proofs.listings.Outcomes.{accepted-exact, fits-accepted, full-one, is-accepted, records-distinct, refused-says, tables-hold}
-use Rattle.model.proofs.listings.Reached.{good-cover, good-edge, good-exclude, reached-good}
+use Rattle.model.proofs.listings.Reached.{good-cover, good-edge, good-exclude, reached-good, reached-stmt}
 use Rattle.model.proofs.records.ReadBack.{failed-fault, failed-length, failed-statement, location-fault, location-length, location-nodes, location-shape, location-statement, shape-length, shape-shape}
+use Rattle.model.proofs.records.Refusals.{accepted-input}
 use Rattle.model.proofs.records.ShapeBack.{layout-writable, shape-record-back}
 use Rattle.model.proofs.expansion.Start.{start}
 use Rattle.model.proofs.records.Statements.{record-back, statement-back}
 
--- ==== edges: of every location that is reached in an accepted input
+-- ==== locations and edges: of every location that is reached in an accepted input
+
+-- "A location is a statement with a shape, or a statement with a fault.": one of the routine's statements; a shape that
+-- is closed, with every node reachable, core and numbered at first visit, six pointers and at most twelve nodes
+abbrev pub LocationsAre : Type 0
+LocationsAre = (s : List ℕ) (r : Routine) → check s ≡ good r → (l : Loc) → Reached (r .stmts) (r .starts) l
+    → (statementOf l < length (r .stmts)) × GoodLoc l × (nodesOf l ≤ 12)
+
+pub locations-are : LocationsAre
+locations-are s r e l p = let g = reached-good r (check-good s r e) l p in
+    (reached-stmt s r (accepted-input s r e) l p, g, nodes-few l g)
 
 -- What a record holds is all of an edge: branch 0 or 1; two guards at most, on nodes of its location; one update for
 -- each new node, with a flag for each old one; "bits 12 and 13 the constant (−1, 0 or 1) plus one".

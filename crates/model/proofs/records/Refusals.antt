@@ -10,14 +10,18 @@ use mathlib.Core.List.{List, [], _++_, _∷_, append-nil}
 use native.Mathlib.Nat.{zero-add}
 use native.Mathlib.Omega.{arith}
 use lib.Dec.{eqb, leb}
-use lib.ListN.{getD, length, take}
+use lib.ListN.{getD, length, length-map, take}
+use lib.Seq.{getD-take, length-take-le}
 use Rattle.model.specs.Base.{all, any, count, mem, sameList}
 use borrow.Author.Tests.{leb-true}
-use Rattle.model.proofs.lists.Lists.{all-in, mem-in}
+use Rattle.model.proofs.lists.Lists.{all-at, all-in, getD-map, mem-in}
+use Rattle.model.proofs.lists.Sorted.{kinds-sorted}
+use Rattle.model.specs.Edges.{stmtAt}
 use Rattle.model.specs.Heap.{next}
-use Rattle.model.specs.Records.{Refusal, Row, checksH, checksRecord, checksS, failedNode, firstFailed, isH, isS, refusal, refusalAt}
+use Rattle.model.specs.Records.{Refusal, Row, checksH, checksRecord, checksS, failedNode, firstFailed, isH, isS, refusal, refusalAt, stmtOf}
 use Rattle.model.specs.Translate.{Routine, bad, badKind, badRecord, between, check, checkCounts, checkKinds, checkRecords, good, routineOf}
 use Rattle.model.proofs.records.Checked.{bad-good, good-inj}
+use Rattle.model.proofs.records.Statements.{Leads, leads}
 use Rattle.model.specs.Listings.{BadInput, GoodInput, bad-kind, bad-length, bad-record, bad-shapes, bad-statements, noRecords, numbersH, numbersInput, numbersS, recordChecks, recordNode, recordRefusal, recordsOf, wrongKind}
 use Rattle.model.proofs.lists.Logic.{and-l, and-r, bool-case, clash, not-false, or-r}
 
@@ -278,6 +282,25 @@ good-accepted s r G = ⊎-elim
     (λ (p : (x : Refusal) × (check s ≡ bad x) × BadInput s x). absurd (bad-not-good s (p .0) r (p .2) G))
     (λ (p : (q : Routine) × (check s ≡ good q) × GoodInput s q). p .1 ∙ ap good (p .2 .isRead ∙ sym (G .isRead)))
     (check-cases s)
+
+-- ---- the statements of an input with nothing wrong
+
+-- there are some, and each leads to one of them
+pub good-leads : (s : List ℕ) (r : Routine) → GoodInput s r → (1 ≤ length (r .stmts))
+    × ((i : ℕ) → i < length (r .stmts) → Leads (length (r .stmts)) (stmtAt (r .stmts) i))
+good-leads s r G =
+    let rs = recordsOf s in
+    let n = count isS rs in
+    let S = kinds-sorted 0 rs (kinds-none rs (G .kinds)) in
+    let l : length (take n rs) ≡ n = length-take-le n rs (omega (arith, S .whole)) in
+    rw (G .isRead, length-map, l) (
+      leb-true 1 n (and-l (leb 1 n) (leb n 64) (G .statements)),
+      λ i lt.
+          let e = getD-take n rs i [] lt in
+          let t = ap isS (sym e) ∙ all-at isS (take n rs) [] i (S .statements) (omega arith) in
+          subst (Leads n) (sym (getD-map stmtOf (take n rs) i [] _ (omega arith) ∙ ap stmtOf e))
+          (leads n (getD rs i []) (rw t at (G .records i (omega (arith, S .whole))))),
+    )
 
 -- ---- numbers and places
 
