@@ -1,7 +1,7 @@
 -- The promises: each is a type, and under it stands its proof, which cites a law. This page has demand 1; demand 2 is
 -- in PromisesShapes and PromisesListings, demand 3 in PromisesRuns, reading the tables in PromisesTables, single
--- statements in PromisesStatements and PromisesDrops, the controller bench in PromisesBench, and the nodes that are told
--- with a refusal in PromisesNodes. The words are those of specs/.
+-- statements in PromisesStatements and PromisesDrops, the controller bench in PromisesBench, and the nodes that are
+-- told with a refusal in PromisesNodes. The words are those of specs/.
 use Prim.Native.Nat.{_*_, _-_, _/_, _<_, _≤_, suc, ℕ}
 use mathlib.Core.Path.{_∙_, _≡_}
 use mathlib.Core.Logic.{_↔_, _⊎_}

@@ -1,5 +1,5 @@
--- The promises of demand 2 about edges, listings, places, records and expansions. Each is a type; its proof under it
--- cites a law.
+-- The promises of demand 2 about locations, edges, listings, places, records and expansions. Each is a type; its proof
+-- under it cites a law.
 use Prim.Native.Nat.{_+_, _-_, _<_, _≤_, ℕ}
 use mathlib.Core.Path.{_≡_, refl}
 use mathlib.Core.Logic.{_↔_, _⊎_}
