@@ -258,7 +258,11 @@ pub data Alike (sg : ℕ → Seg) : Effect → Effect → Type 0 where
 abbrev pub gathered : ℕ → Seg → Update
 gathered k s = record { adds = map (λ n. mem n (cells s)) (numbers 0 k); plus = 1 }
 
--- how many nodes a location has
+-- the statement of a location, and how many nodes it has
+abbrev pub statementOf : Loc → ℕ
+statementOf (at s h) = s
+statementOf (failed s f) = s
+
 abbrev pub nodesOf : Loc → ℕ
 nodesOf (at s h) = length (h .slots)
 nodesOf (failed s f) = 0

@@ -27,7 +27,7 @@ use Rattle.model.specs.Listings.{BadInput, GoodInput, recordRefusal, rec
 use Rattle.model.specs.Notions.{CheckedBy, Halted}
 use Rattle.model.proofs.images.OneToOne.{halted-numbers, outcome-one, step-one, unfolded-one, verdict-one}
 use Rattle.model.proofs.listings.Outcomes.{bad-translate, fitting, places-most, refused-tables, translate-number}
-use Rattle.model.proofs.records.Refusals.{accepted-input, bad-number, good-accepted, record-number, refused-input}
+use Rattle.model.proofs.records.Refusals.{accepted-input, bad-number, bad-refused, good-accepted, record-number, refused-input}
 use Rattle.model.proofs.images.Stepping.{step-answers, step-checked, step-faults, step-lengths, step-stays}
 
 -- ==== demand 1: every call states its outcome for all inputs
@@ -91,14 +91,14 @@ TranslateNumbers = (s : List ℕ) (a b : ℕ) (x : Refusal) → translate s a b 
 pub translate-numbers : TranslateNumbers
 translate-numbers = translate-number
 
--- "Refusals by place of check", those of the input: a refused input has that wrong with it which the number says, at
--- the place given, and nothing before it
+-- "Refusals by place of check", those of the input: an input is refused exactly when that is wrong with it which the
+-- number says, at the place given, and nothing before it; and a translation is then refused so, whatever the tables
 abbrev pub InputRefused : Type 0
-InputRefused = (s : List ℕ) (x : Refusal) → check s ≡ bad x → BadInput s x
-    × ((a b : ℕ) → translate s a b .verdict ≡ isRefused x)
+InputRefused = (s : List ℕ) (x : Refusal) → ((check s ≡ bad x) ↔ BadInput s x)
+    × (check s ≡ bad x → (a b : ℕ) → translate s a b .verdict ≡ isRefused x)
 
 pub input-refused : InputRefused
-input-refused s x e = (refused-input s x e, λ a b. bad-translate s a b x e)
+input-refused s x = ((refused-input s x, bad-refused s x), λ e a b. bad-translate s a b x e)
 
 -- an input is accepted exactly when nothing is wrong with it
 abbrev pub InputAccepted : Type 0

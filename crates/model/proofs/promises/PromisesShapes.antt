@@ -10,6 +10,7 @@ use lib.ListN.{length, length-map}
 use Rattle.model.specs.Base.{mem, numbers, sum}
 use Rattle.model.specs.Heap.{Heap, IsHeap, cell, closed, inUse, kept, next, order}
 use Rattle.model.specs.Image.{foldImage, heapOf, unfoldHeap, unfoldImage}
+use Rattle.model.specs.Machine.{Entry, Stmt, step, went}
 use Rattle.model.specs.Shape.{Seg, canonical, cells, core, counters, nodeVal, segments, shape}
 use Rattle.model.proofs.shapes.Canon.{fold-canon}
 use Rattle.model.proofs.shapes.Canonical.{canon-canonical, canonical-canon, canonical-is}
@@ -24,6 +25,7 @@ use Rattle.model.proofs.images.RoundTrips.{fold-room, fold-unfold-bytes
 use Rattle.model.proofs.shapes.SameShape.{fold-unfold, same-renamed}
 use Rattle.model.proofs.shapes.Segments.{each-cell-once, itself-again, segment-listed, segment-unique, segments-are, twelve}
 use Rattle.model.proofs.shapes.Unfold.{counters-unfold, shape-unfold, unfold-is-heap}
+use Rattle.model.proofs.ways.Location.{step-heap}
 use Rattle.model.proofs.ways.Ways.{count-length}
 
 -- ==== the visit
@@ -67,6 +69,14 @@ lost-is-unreachable h k = let cl = test-closed h k in (
   λ r. cell-lost h cl (r .0)
       (used-of (next h (r .0)) (r .1)) (r .2),
 )
+
+-- and so it stays: a step that is made leaves a heap, whatever the statement and the entry
+abbrev pub StepKeepsHeaps : Type 0
+StepKeepsHeaps = (st : Stmt) (e : Entry) (h : Heap) → IsHeap h → (b t : ℕ) (g : Heap) → step st e h ≡ went b t g
+    → IsHeap g
+
+pub step-keeps-heaps : StepKeepsHeaps
+step-keeps-heaps = step-heap
 
 -- ==== core cells and segments
 
