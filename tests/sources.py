@@ -44,7 +44,7 @@ ENDINGS = {"a", *map(ending, FILES)} - {""}
 # the request's own words, with names and figures as they were, stand in PROMISES and STATEMENTS, which tests/promises reads
 PAGES = {f: read(f) for f in sorted(FILES) if re.fullmatch(r"(?:README|CONTRIBUTING|docs/(?!PROMISES|STATEMENTS).*)\.md", f)}
 # the pages that say what is so now, and two sources that tell it to people as well
-TODAY = {f: text for f, text in PAGES.items() if not re.match(r"docs/(?:landings|examples)", f)}
+TODAY = {f: text for f, text in PAGES.items() if not re.match(r"docs/(?:landings|examples|WRONG)", f)}
 TODAY |= {f: re.sub(r"\s+(?:\* )?", " ", read(f)) for f in ("include/currantplane.h", "cli/src/help.rs")}
 # the sources without their comments, and what they declare; tests/documents names what is gone
 CODE = {f: re.sub(COMMENT[ending(f)], "", read(f), flags=re.M) for f in sorted(FILES - {"tests/documents"})
@@ -75,7 +75,7 @@ def there(path):
     """The file or folder that is meant: from the root; an edit of a crate; else the end of a path, of model first."""
     path = path.rstrip("/")
     first, _, rest = path.partition("/")
-    for whole in (path.removeprefix("./"), f"crates/{first}/must-fail/{rest}.edit"):
+    for whole in (path.removeprefix("./"), f"crates/{first}/must-fail/{rest}.edit", f"tests/wrong/{first}/{rest}.edit"):
         if whole in FILES:
             return whole
     ends = [] if first == "." or first in FILES else [f for f in FILES if f.endswith((f"/{path}", f"/{path}.antt"))]
