@@ -31,5 +31,8 @@ returns c =
 pub write-answer-spec : {M : Type 1} → statement M
 write-answer-spec =
     tie.close
-    (tie.spec (λ c κs. search needs) (λ c κs. search needs) (λ c. let a = c .before .before .before .before .before .args in sym (length-take-le (a .n) (a .input .now) (omega (arith, c .before .before .before .before .before .pre)))) (λ c. search needs) (λ c. search needs)
+    (tie.spec (λ c κs. search needs) (λ c κs. search needs)
+    (λ c. let k = c .before .before .before .before .before in
+    sym (length-take-le (k .args .n) (k .args .input .now) (omega (arith, k .pre))))
+    (λ c. search needs) (λ c. search needs)
     (λ c κs. search needs) (λ c. search needs) (λ c. search needs) write-outcome-requires (λ c. search needs) returns)
