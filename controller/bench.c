@@ -1,5 +1,5 @@
 /* The controller bench: translates routines into tables for 128 locations and 256 edges, folds and unfolds heaps, and
- * steps them. All that it decides comes from the library. Nothing is allocated. */
+ * steps them. All that it answers comes from the library; it decides only what it can read. Nothing is allocated. */
 #include "bench.h"
 #include "digits.h"
 
@@ -19,7 +19,7 @@ static const char usage[] =
     "       bench run FILE POINTERS CELLS [PICKS]        a routine on a heap, step by step\n"
     "       bench size FILE..                            code, data, and the deepest stack over these routines\n"
     "\n"
-    "FILE holds records of 32 bytes; without it, or as -, it is standard input, of which 4,096 bytes are read.\n"
+    "FILE holds records of 32 bytes; without it, or as -, it is standard input; 4,096 bytes are read of it.\n"
     "POINTERS, CELLS, SHAPE and STATEMENT are hex digits, two for a byte, - for none: six pointers; a byte for\n"
     "each cell, the next cell's number, fe null, ff undefined, fd for a cell that is not in use; records of 32\n"
     "bytes. COUNTERS and PICKS are numbers with commas between. A refusal is printed as 'refused', its number\n"

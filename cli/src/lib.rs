@@ -1,5 +1,6 @@
-//! The command-line tool over the proved library. What is translated, folded, unfolded and stepped is so by proved code;
-//! reading text and printing, which is all that stands here, is not proved.
+//! The command-line tool over the proved library. What is translated, folded, unfolded and stepped is so by proved code.
+//! What stands here is not proved: reading text and printing, following the automaton's edges beside a run, and saying of a
+//! refused shape what is wrong with it.
 
 pub mod arguments;
 pub mod automaton;

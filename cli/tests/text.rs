@@ -150,7 +150,7 @@ fn errors_in_shapes() {
     assert_eq!(message("stop\nshape p0\n"), "f:2:7: found `p0`, expected the end of the line");
     let thirteen: Vec<String> = (0..13).map(|n| format!("n{n}")).collect();
     let chain = format!("stop\nshape\np0 -> {}\n", thirteen.join(" -> "));
-    assert_eq!(message(&chain), "f:3:81: found `n12`, which would be node 13 of the shape, expected at most 12 nodes");
+    assert_eq!(message(&chain), "f:3:81: found `n12`, which would be the 13th node of the shape, expected at most 12 nodes");
 }
 
 #[test]

@@ -113,7 +113,7 @@ impl Block {
             return Ok(at as u8);
         }
         if self.names.len() == NODES {
-            let found = format!("`{name}`, which would be node 13 of the shape");
+            let found = format!("`{name}`, which would be the 13th node of the shape");
             return Err(Error::new(spot, found, format!("at most {NODES} nodes")));
         }
         self.names.push(Named { name, spot });

@@ -1,3 +1,2 @@
-pub mod Targets
 pub mod Located
 pub mod Exploration

@@ -15,6 +15,7 @@ use Rattle.model.proofs.records.Bytes.{records-wide, table-record}
 use Rattle.model.specs.Listings.{locAt}
 use Rattle.model.proofs.lists.Lists.{getD-in, getD-map}
 use Rattle.model.proofs.records.ReadBack.{fault-positive, record-length}
+use Rattle.model.proofs.records.Statements.{leads, statement-fields}
 use Rattle.model.specs.Structs.{decoded, stmtIn}
 use Rattle.model.specs.declared.Counts.{Counts}
 use Rattle.model.specs.declared.Decoded.{Decoded}
@@ -22,10 +23,9 @@ use Rattle.listing.specs.Grow.{Holds}
 use Rattle.listing.specs.declared.Grown.{Grown}
 use Rattle.listing.specs.declared.Grown.the-variants.{Added}
 use Rattle.listing.proofs.Kept.{place-within}
-use Rattle.explore.specs.Explore.{ExploreReady, StatementsOk}
+use Rattle.explore.specs.Explore.{ExploreReady, StatementOk, StatementsOk}
 use Rattle.location_edges.specs.Added.{AddedTo, LocOk, LocsOk, addedIn}
-use Rattle.location_edges.specs.LocationEdges.{AtShape, EdgesAdded, ShapeGiven}
-use Rattle.explore.proofs.Targets.{among}
+use Rattle.location_edges.specs.LocationEdges.{Among, AtShape, EdgesAdded, ShapeGiven}
 
 -- a location whose byte 2 is not zero has no edges
 fault-edges : (sts : List Stmt) (l : Loc) → (byte (locRecord l) 2 ≡ 0 → ⊥) → edgesOf sts l ≡ []
@@ -37,6 +37,12 @@ shape-case : (n : ℕ) (l : Loc) → byte (locRecord l) 2 ≡ 0 → LocOk n l
     → (s : ℕ) × (h : Heap) × (l ≡ at s h) × LocOk n (at s h)
 shape-case n (at s h) e k = (s, h, refl, k)
 shape-case n (failed s f) e k = absurd (omega (arith, fault-positive f))
+
+-- an accepted record, decoded
+among : (n : ℕ) (r : List ℕ) → StatementOk r n → Among (decoded r) n
+among n r S =
+    let f = statement-fields n r (S .accepted) in
+    record { fields = record { known = f .0; isU = f .1; isW = f .2 }; leads = leads n r (S .accepted); few = S .few }
 
 module _ (t : Listing) (ls es : List ℕ) (c : Counts) (i : ℕ) (H : Holds t ls es c) (lt : i < c .locations) where
   below : i < length (t .locs)

@@ -1,4 +1,5 @@
-// Tests of bytes and of single fields of S and H records. They are joined by & and |, so that there are no branches.
+// Tests of bytes and of single fields of S and H records. Those of single bytes are joined by & and |, without
+// branches.
 ghost use mathlib.Core.Path.{_≡_};
 ghost use lib.ListN.{length};
 ghost use Rattle.model.specs.Base.{all, recordSize};

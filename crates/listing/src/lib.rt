@@ -26,7 +26,7 @@ fn fields_to(made: EdgeMade, from: usize, to: usize) -> EdgeFields
     }
 }
 
-// Adds an edge of location `from`. Nothing is written where there is no place for all of it.
+// Adds an edge of location `from`, where there is a place for all of it.
 pub fn add_edge(
     locations: &mut [u8],
     edges: &mut [u8],

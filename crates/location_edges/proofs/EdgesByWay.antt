@@ -14,13 +14,13 @@ use Rattle.model.specs.Heap.{Heap, next, unused}
 use Rattle.model.specs.Machine.{Effect, accepts, action, answerOf, branch, carryOut, done, entry, fault, isStop, kind}
 use Rattle.model.specs.Edges.{Edge, Loc, Way, at, edgeBy, edgesAt, failed, splitHeap, stepBy, view, ways}
 use Rattle.model.specs.Listings.{GoodLoc, WritableLoc}
-use Rattle.model.specs.Notions.{In}
+use Rattle.model.specs.Notions.{In, statementOf}
 use Rattle.model.specs.Structs.{opIn, stmtIn}
 use Rattle.model.specs.declared.Decoded.{Decoded}
 use Rattle.model.proofs.expansion.Step.{step-go}
 use Rattle.model.proofs.lists.Lists.{joined-in, map-in, some-inj, some-none}
 use Rattle.model.proofs.lists.Logic.{bool-case}
-use Rattle.model.proofs.listings.Reached.{shape-edge}
+use Rattle.model.proofs.listings.Reached.{edge-stmt, shape-edge}
 use Rattle.model.proofs.records.ReadBack.{canon-writable}
 use Rattle.model.proofs.shapes.Same.{elem-in}
 use Rattle.model.proofs.ways.Picks.{accept-room, room-of}
@@ -33,11 +33,6 @@ use Rattle.location_edges.specs.Added.{LocOk}
 use Rattle.location_edges.specs.LocationEdges.{AtShape, Counted, WayEdge}
 
 -- ---- one way
-
--- the statement of a location is one of n
-abbrev Below : ℕ → Loc → Type 0
-Below n (at t h) = t < n
-Below n (failed t f) = t < n
 
 -- the edge, or none, by a way out of statement s, which is d, with shape h
 abbrev made : ℕ → Decoded → Heap → Way → List Edge
@@ -62,9 +57,9 @@ module _ {l : List ℕ} {d : Decoded} {s : ℕ} {h : Heap} {y : declared.Way} (R
       let past : next h nodes ≡ unused = List·getD-eq-default (h .slots) unused (omega arith) in
       accept-room (opIn d) (entry (y .pick) nodes) h (room-of (action (opIn d)) h nodes past) (λ q. R .pick)
 
-  -- a ready way makes one edge, to one of n statements
-  way-makes : (n : ℕ) → s < n → AtShape l d n s h → (E : Edge) × (made s d h (wayIn y h) ≡ E ∷ []) × Below n (E .to)
-  way-makes n low A = by-run (carryOut (opIn d) nodes (z .heap)) refl
+  -- a ready way makes one edge
+  way-makes : (E : Edge) × (made s d h (wayIn y h) ≡ E ∷ [])
+  way-makes = by-run (carryOut (opIn d) nodes (z .heap)) refl
     where
       answers : (x : Effect) → carryOut (opIn d) nodes (z .heap) ≡ x
           → made s d h z ≡ edgeBy s nodes z (answerOf (stmtIn d) (branch (opIn d) (z .pick) (z .heap)) x)
@@ -73,10 +68,9 @@ module _ {l : List ℕ} {d : Decoded} {s : ℕ} {h : Heap} {y : declared.Way} (R
           (step-go (stmtIn d) (entry (z .pick) nodes) (z .heap) (R .goes) (by-split (y .split) refl)
           ∙ ap (answerOf (stmtIn d) (branch (opIn d) (z .pick) (z .heap))) e)
 
-      by-run : (x : Effect) → carryOut (opIn d) nodes (z .heap) ≡ x
-          → (E : Edge) × (made s d h z ≡ E ∷ []) × Below n (E .to)
-      by-run (fault f) e = (_, answers (fault f) e, low)
-      by-run (done w) e = (_, answers (done w) e, A .statement .leads (R .goes) (z .pick) (z .heap))
+      by-run : (x : Effect) → carryOut (opIn d) nodes (z .heap) ≡ x → (E : Edge) × (made s d h z ≡ E ∷ [])
+      by-run (fault f) e = (_, answers (fault f) e)
+      by-run (done w) e = (_, answers (done w) e)
 
 -- ---- all ways, as a list
 
@@ -141,7 +135,7 @@ pub record Next (l : List ℕ) (d : Decoded) (n s : ℕ) (h : Heap) (j : ℕ) (y
   pub fine : LocOk n (edge .to)
   pub rest : edgesFrom s d h j ≡ edge ∷ edgesFrom s d h (j + 1)
 
-loc-fine : (n : ℕ) (l : Loc) → GoodLoc l → Below n l → LocOk n l
+loc-fine : (n : ℕ) (l : Loc) → GoodLoc l → statementOf l < n → LocOk n l
 loc-fine n (at s h) g b = (g, b)
 loc-fine n (failed s f) g b = b
 
@@ -174,7 +168,7 @@ module _ {l : List ℕ} {d : Decoded} {n s : ℕ} {h : Heap} (A : AtShape l d n 
 
   pub next-way : Next l d n s h j y
   next-way =
-      let M = way-makes ready n (A .low) A in
+      let M = way-makes ready in
       let E = M .0 in
       let all = ways (opIn d) h in
       let isIn : In E (edgesAt s (stmtIn d) h) =
@@ -183,7 +177,7 @@ module _ {l : List ℕ} {d : Decoded} {n s : ℕ} {h : Heap} (A : AtShape l d n 
       (rw (M .1) (inl refl)) in
       let S = shape-edge s (stmtIn d) h (A .isShape) (A .six) E isIn in
       let fine : LocOk n (E .to) =
-      loc-fine n (E .to) (S .1) (M .2) in
+      loc-fine n (E .to) (S .1) (edge-stmt n s (stmtIn d) h (A .low) (A .statement .leads) E isIn) in
       let m = makers-are s d h w C j lt in
       let from : drop j (makers d h) ≡ wayIn y h ∷ drop (j + 1) (makers d h) =
       ap (drop j) m ∙ drop-elem all j (wayIn y h) is-way

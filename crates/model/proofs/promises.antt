@@ -4,6 +4,7 @@ pub mod PromisesShapes
 pub mod PromisesListings
 pub mod PromisesRuns
 pub mod PromisesTables
+pub mod PromisesEdges
 pub mod PromisesStatements
 pub mod PromisesBench
 pub mod PromisesNodes

@@ -12,3 +12,4 @@ pub mod Lands
 pub mod Location
 pub mod Guards
 pub mod RelinkEdges
+pub mod Numbers

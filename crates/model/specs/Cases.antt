@@ -1,4 +1,5 @@
--- 01, "Shelf cases": the cases marked P, and cases of 02, as one table of inputs and outputs. Assumes nothing.
+-- 01, "Shelf cases": the cases marked P, P11 as 02 has it, and cases R of relinks and D of drops, made for 02, as one
+-- table of inputs and outputs. Assumes nothing.
 use Prim.Native.Nat.{ℕ, zero, suc, _+_, _*_, _/_, _%_, _^_}
 use mathlib.Core.Bool.{Bool, true, false, _&&_}
 use mathlib.Core.List.{List, [], _∷_, _++_, map}
@@ -12,13 +13,13 @@ abbrev bytesOf : ℕ → ℕ → List ℕ
 bytesOf zero x = []
 bytesOf (suc n) x = x / 256 ^ n % 256 ∷ bytesOf n x
 
--- a record as 01 prints it: the digits x "and z zeros"
+-- a record as 01 prints it: the digits x and z zeros
 abbrev line : ℕ → ℕ → List ℕ
 line x z = bytesOf 32 (x * 16 ^ z)
 
--- the records in use, each L and then each E, as the program `translate` prints them
-abbrev printed : Tables → List (List ℕ)
-printed t = map (recordAt (t .locBytes)) (numbers 0 (t .locCount))
+-- the records in use, each L and then each E: what the lines of the program `translate` show
+abbrev inUse : Tables → List (List ℕ)
+inUse t = map (recordAt (t .locBytes)) (numbers 0 (t .locCount))
     ++ map (recordAt (t .edgeBytes)) (numbers 0 (t .edgeCount))
 
 pub record Case : Type 0 where
@@ -33,7 +34,7 @@ isListed (isRefused x) = false
 abbrev pub holdsFor : Case → Bool
 holdsFor c =
     let o = translate (joined (c .input)) 1024 1024 in
-    isListed (o .verdict) && sameList (sameList eqb) (printed (o .tables)) (c .output)
+    isListed (o .verdict) && sameList (sameList eqb) (inUse (o .tables)) (c .output)
 
 abbrev pub cases : List Case
 cases =
@@ -118,7 +119,15 @@ cases =
           ∷ line 0x45000000010000000310 44
           ∷ [];
     }
-    -- P9: free of null: same shape
+    -- P9: free of null: same shape; and the same beside a list, whose counter is carried
+    ∷ record {
+      input = line 0x5307000001 54 ∷ line 0x53 62 ∷ line 0x48000000fefefefefefe 44 ∷ [];
+      output =
+          line 0x4c000000fefefefefefe 44
+          ∷ line 0x4c010000fefefefefefe 44
+          ∷ line 0x4500000001000000 48
+          ∷ [];
+    }
     ∷ record {
       input = line 0x5307000001 54 ∷ line 0x53 62 ∷ line 0x48000001fe00fefefefefe 42 ∷ [];
       output =
@@ -229,6 +238,7 @@ cases =
           ∷ line 0x4500000001000000 48
           ∷ [];
     }
+    -- ---- drops, by 02, job 6
     -- D1: p0 at a list; drop p0: it goes, and its counter is in no update
     ∷ record {
       input = line 0x530d000001 54 ∷ line 0x53 62 ∷ line 0x4800000100fefefefefefe 42 ∷ [];

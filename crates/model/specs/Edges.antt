@@ -140,9 +140,10 @@ picksOf (tests u s) = 0 ∷ []
 picksOf picks = 0 ∷ 1 ∷ []
 
 -- "Ops 3, 4, 5 and 7 on a pointer to a node give two edges: counter = 1, with nothing split, then counter ≥ 2, with
--- the head split off .. Every other statement gives one unguarded edge, except choose"; 02, job 3: "three edges: u's
--- counter = 1 and w's = 1; u's = 1 and w's ≥ 2; u's ≥ 2, which leaks .. u's guard is the first and w's the second,
--- absent on the third edge"; job 6: "Its one edge has no guard"
+-- the head split off .. Every other statement gives one unguarded edge, except choose (branch 0, then 1) and stop
+-- (none)": a stop has a way, but makes no step by it (`edgeBy`). 02, job 3: "three edges: u's counter = 1 and w's = 1;
+-- u's = 1 and w's ≥ 2; u's ≥ 2, which leaks .. u's guard is the first and w's the second, absent on the third edge";
+-- job 6: "Its one edge has no guard"
 abbrev pub waysOf : Kind → View → Heap → List Way
 waysOf k noNode h = map (λ p. whole [] p h) (picksOf k)
 waysOf k (oneNode n) h = whole (oneAt n ∷ []) 0 h ∷ split (moreAt n ∷ []) n h ∷ []

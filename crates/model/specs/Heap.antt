@@ -23,7 +23,7 @@ pub record Heap : Type 0 where
   pub ptrs : List Val
   pub slots : List Slot
 
--- what pointer u holds, and the slot of cell c; past the end there is no cell
+-- what pointer u holds, and the slot of cell c; past the last pointer undefined, past the last cell none in use
 abbrev pub ptr : Heap → ℕ → Val
 ptr h u = getD (h .ptrs) u undef
 
@@ -69,7 +69,7 @@ abbrev pub closed : Heap → Bool
 closed h = all (named (next h)) (h .ptrs) && all (slotNamed (next h)) (h .slots)
 
 -- The visit. A walk follows nexts from a value and adds each cell to those seen, until null, undefined or a cell seen
--- before. The fuel f bounds its steps; the number of slots is enough.
+-- before. The fuel f bounds its steps; the number of slots is enough (`OrderIsWalk`).
 abbrev pub walk : (ℕ → Slot) → ℕ → List ℕ → Val → List ℕ
 walk nx zero seen v = seen
 walk nx (suc f) seen null = seen

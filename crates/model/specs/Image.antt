@@ -8,7 +8,7 @@ use lib.ListN.{length, take, drop, replicate}
 use Rattle.model.specs.Base.{all, sum, mostCells, mostNodes, mostStatements, pointerCount, recordSize}
 use Rattle.model.specs.Heap.{Val, cell, null, undef, Slot, unused, holds, Heap, closed, kept}
 use Rattle.model.specs.Shape.{shape, counters}
-use Rattle.model.specs.Machine.{Op, faultNumber, Action, stay, compare, point, follow, link, splice, make, release, action, Entry, entry, accepts, Answer, refused, stopped, faulted, went, step}
+use Rattle.model.specs.Machine.{Op, faultNumber, Action, makes, action, Entry, entry, accepts, Answer, refused, stopped, faulted, went, step}
 use Rattle.model.specs.Records.{valByte, valOf, slotByte, byte, isZero, isS, filled, shapeRecord, layoutH, shapeOf, stmtOf, Refusal, refusal, refusalAt, Verdict, isAccepted, isRefused, Row, unless, firstFailed, failedNode, checksNodes, checksS}
 
 -- "six pointer bytes and 0 to 240 cell bytes: a cell number, 0xfe, 0xff, or for a cell 0xfd (not in use)"
@@ -166,14 +166,7 @@ stepVerdict (noStep x) = isRefused x
 
 -- at new, the cell c is past the end of n cells
 abbrev pub pastEnd : Action → ℕ → ℕ → Bool
-pastEnd stay c n = false
-pastEnd (compare u s) c n = false
-pastEnd (point u s) c n = false
-pastEnd (follow u w) c n = false
-pastEnd (link u s) c n = false
-pastEnd (splice u w) c n = false
-pastEnd (make u) c n = leb n c
-pastEnd (release u) c n = false
+pastEnd a c n = makes a && leb n c
 
 abbrev pub answered : Answer → List ℕ → List ℕ → Stepping
 answered refused ps cs = stays (noStep (refusal 16 0)) ps cs

@@ -1,5 +1,6 @@
--- What the promises about listings, refusals and records speak of, beside specs/: the locations that are reached, what
--- a listing holds, where one has no place, what is wrong with an input, and what a record can hold.
+-- What the promises about listings, refusals and records speak of, beside the definitions by section of 01: the
+-- locations that are reached, what a listing holds, where one has no place, what is wrong with an input, and what a
+-- record can hold.
 use Prim.Native.Nat.{_%_, _/_, _<_, _≤_, suc, zero, ℕ}
 use mathlib.Core.Path.{_≡_}
 use mathlib.Core.Logic.{_↔_, _⊎_}

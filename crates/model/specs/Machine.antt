@@ -80,6 +80,17 @@ actionOf picks = stay
 abbrev pub action : Op → Action
 action op = actionOf (kind op)
 
+-- whether an action takes the cell for new; no other looks at it
+abbrev pub makes : Action → Bool
+makes stay = false
+makes (compare u s) = false
+makes (point u s) = false
+makes (follow u w) = false
+makes (link u s) = false
+makes (splice u w) = false
+makes (make u) = true
+makes (release u) = false
+
 -- "Reading or writing through null is fault 1; through undefined, fault 2. .. fault 3 (a leak)"
 pub data Fault : Type 0 where
   atNull : Fault
@@ -241,19 +252,12 @@ acceptsPick (tests u s) p = true
 acceptsPick picks p = leb p 1
 
 abbrev pub acceptsCell : Action → Slot → Bool
-acceptsCell stay s = true
-acceptsCell (compare u v) s = true
-acceptsCell (point u v) s = true
-acceptsCell (follow u w) s = true
-acceptsCell (link u v) s = true
-acceptsCell (splice u w) s = true
-acceptsCell (make u) s = not (inUse s)
-acceptsCell (release u) s = true
+acceptsCell a s = not (makes a && inUse s)
 
 abbrev pub accepts : Op → Entry → Heap → Bool
 accepts op e h = acceptsPick (kind op) (e .pick) && acceptsCell (action op) (next h (e .cellNo))
 
--- what a step answers; a fault has branch 0 and leaves heap and statement
+-- what a step answers; a fault leaves heap and statement, and its branch is 0 (`made` in `Runs`, `edgeBy` in `Edges`)
 pub data Answer : Type 0 where
   refused : Answer
   stopped : Answer

@@ -1,5 +1,5 @@
--- What the promises about heaps, shapes and edges speak of, beside specs/: reachable cells, segments, merging,
--- renaming, one heap as the expansion of another, guards and updates on counters.
+-- What the promises about heaps, shapes and edges speak of, beside the definitions by section of 01: reachable cells,
+-- segments, merging, renaming, one heap as the expansion of another, guards and updates on counters.
 use Prim.Native.Nat.{_+_, _-_, _<_, _≤_, ℕ}
 use Rattle.model.specs.Image.{StepAnswer, noStep, toFault, toNext, toStop}
 use mathlib.Core.Path.{_≡_}
@@ -11,7 +11,7 @@ use lib.ListN.{getD, length}
 use Rattle.model.specs.Base.{mem, sum, numbers, all}
 use Rattle.model.specs.Edges.{Edge, Guard, Loc, Test, Update, View, at, failed, isMore, isOne, noNode, oneNode, twoNodes}
 use Rattle.model.specs.Heap.{Heap, IsHeap, Slot, Val, cell, closed, holds, next, null, order, ptr, undef, unused}
-use Rattle.model.specs.Machine.{Action, Effect, Fault, atNull, atUndef, compare, done, fault, follow, link, make, point, putSlot, release, splice, stay}
+use Rattle.model.specs.Machine.{Action, Effect, Fault, Op, atNull, atUndef, choose, clear, done, fault, free, load, makes, putSlot, relink, stop, store}
 use Rattle.model.specs.Records.{Row, Verdict, isAccepted, isRefused, refusalAt}
 use Rattle.model.specs.Shape.{Seg, cells, core, segments, size}
 
@@ -22,7 +22,7 @@ abbrev pub In : {A : Type 0} → A → List A → Type 0
 In x [] = ⊥
 In x (y ∷ l) = (x ≡ y) ⊎ In x l
 
--- no element stands twice (for lists of numbers: NoDup of Logic)
+-- no element stands twice (for lists of numbers: NoDup)
 abbrev pub Distinct : {A : Type 0} → List A → Type 0
 Distinct [] = Unit {0}
 Distinct (x ∷ l) = (In x l → ⊥) × Distinct l
@@ -210,25 +210,11 @@ pub record Expansion (W : Heap) (sg : ℕ → Seg) (H : Heap) : Type 0 where
 
 -- the cell for new is not in use
 abbrev pub Room : Action → Heap → ℕ → Type 0
-Room stay h c = Unit {0}
-Room (compare u s) h c = Unit {0}
-Room (point u s) h c = Unit {0}
-Room (follow u w) h c = Unit {0}
-Room (link u s) h c = Unit {0}
-Room (splice u w) h c = Unit {0}
-Room (make u) h c = next h c ≡ unused
-Room (release u) h c = Unit {0}
+Room a h c = makes a ≡ true → next h c ≡ unused
 
 -- the chains after the effect: at new, cell k of the small heap is cell c of the large one
 abbrev pub sg-after : Action → ℕ → ℕ → (ℕ → Seg) → ℕ → Seg
-sg-after stay k c sg = sg
-sg-after (compare u s) k c sg = sg
-sg-after (point u s) k c sg = sg
-sg-after (follow u w) k c sg = sg
-sg-after (link u s) k c sg = sg
-sg-after (splice u w) k c sg = sg
-sg-after (make u) k c sg = upd sg k (seg c [])
-sg-after (release u) k c sg = sg
+sg-after a k c sg = cond (makes a) (upd sg k (seg c [])) sg
 
 -- node i is looked at
 abbrev pub Views : View → ℕ → Type 0
@@ -247,6 +233,20 @@ pub data LooksBad (h : Heap) (u w : ℕ) : Fault → Type 0 where
   u-null : (d : ℕ) → ptr h w ≡ cell d → ptr h u ≡ null → LooksBad h u w atNull
   u-undef : (d : ℕ) → ptr h w ≡ cell d → ptr h u ≡ undef → LooksBad h u w atUndef
 
+-- "Ops 3, 4, 5 and 7": the op reads, writes or frees through pointer v
+pub data Through : Op → ℕ → Type 0 where
+  loads : {u w : ℕ} → Through (load u w) w
+  clears : {u : ℕ} → Through (clear u) u
+  stores : {u w : ℕ} → Through (store u w) u
+  frees : {u : ℕ} → Through (free u) u
+
+-- "Every other statement ..": no stop and no choose, nothing that goes through a node, and no relink of two nodes
+pub record Other (op : Op) (h : Heap) : Type 0 where
+  pub noStop : op ≡ stop → ⊥
+  pub noChoose : op ≡ choose → ⊥
+  pub noNodeThrough : (v n : ℕ) → Through op v → ptr h v ≡ cell n → ⊥
+  pub noTwoNodes : (u w n m : ℕ) → op ≡ relink u w → ptr h u ≡ cell n → ptr h w ≡ cell m → n ≡ m
+
 -- both fault alike, or both finish and the one heap is the expansion of the other
 pub data Alike (sg : ℕ → Seg) : Effect → Effect → Type 0 where
   both-bad : {f : Fault} → Alike sg (fault f) (fault f)
@@ -254,7 +254,15 @@ pub data Alike (sg : ℕ → Seg) : Effect → Effect → Type 0 where
 
 -- ---- edges
 
--- how many nodes a location has
+-- the update of a segment of nodes that adds the counters of these, and nothing else; there were k nodes
+abbrev pub gathered : ℕ → Seg → Update
+gathered k s = record { adds = map (λ n. mem n (cells s)) (numbers 0 k); plus = 1 }
+
+-- the statement of a location, and how many nodes it has
+abbrev pub statementOf : Loc → ℕ
+statementOf (at s h) = s
+statementOf (failed s f) = s
+
 abbrev pub nodesOf : Loc → ℕ
 nodesOf (at s h) = length (h .slots)
 nodesOf (failed s f) = 0

@@ -129,7 +129,7 @@ shapeOf r = record {
 
 -- ---- refusals
 
--- "a numbered refusal with its place"; 02, job 5: "the place becomes the record and the first node concerned"
+-- demand 1: a numbered refusal with its place; 02, job 5: "the place becomes the record and the first node concerned"
 pub record Refusal : Type 0 where
   pub number : ℕ
   pub place : ℕ

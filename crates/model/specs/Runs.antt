@@ -75,7 +75,8 @@ added m [] = 0
 added m (c ∷ cs) = m % 2 * c + added (m / 2) cs
 
 -- "each new counter its constant plus the old counters that it adds"; the constant stands plus one in bits 12 and 13.
--- Where it is −1 a counter of 1 or more is added, so nothing is cut off where subtraction stops at 0.
+-- In the tables of a translation a constant of −1 comes with a counter of 1 or more, so nothing is cut off where
+-- subtraction stops at 0.
 abbrev pub applied : List ℕ → ℕ → ℕ
 applied cs u = (added (u % 4096) cs + u / 4096 % 4) - 1
 

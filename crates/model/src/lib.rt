@@ -23,7 +23,7 @@ pub const OPS: u8 = 14;
 // A pointer's number, 0 to 5.
 pub struct Pointer(pub u8);
 
-// A node's number, 0 to 11.
+// A node's number; in a shape 0 to 11.
 pub struct Node(pub u8);
 
 // A statement's number, 0 to 63.

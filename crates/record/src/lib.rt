@@ -1,4 +1,5 @@
-// L, H and E records of 32 bytes: each writer is lent the part of a table that starts at its record.
+// L, H and E records of 32 bytes: a writer is lent the part of a table that starts at its record, or a record of its
+// own that is entered later.
 use model::EdgeFields;
 use model::Guard;
 use model::Statement;

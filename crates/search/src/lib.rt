@@ -1,4 +1,4 @@
-// Looking for a known location among the records of the location table.
+// Looking for a record among those of a table: a known location, or a shape among those before it.
 ghost use mathlib.Core.Path.{_≡_};
 ghost use Prim.Native.Nat.{_+_, _*_, _≤_};
 ghost use lib.Dec.{eqb};

@@ -1,5 +1,5 @@
--- What the program writes for an input: "reads at most 4,096 bytes"; the tables have 1,024 and 2,048 places.
--- Assumes nothing.
+-- The text that the program hands on to be written, for what it has read: "reads at most 4,096 bytes"; the tables have
+-- 1,024 and 2,048 places. Assumes nothing.
 use Prim.Native.Nat.{ℕ}
 use mathlib.Core.List.{List}
 use lib.ListN.{take}

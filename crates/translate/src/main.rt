@@ -23,14 +23,14 @@ fn text_room() -> [u8; 199680]
 }
 
 // The whole text for an input: the bytes before the place that is answered.
-fn write_answer(input: &[u8], text: &mut [u8]) -> usize
-    requires { ⌜ (length (now input) ≤ 4096) × (199680 ≤ length (now text)) ⌝ }
+fn write_answer(input: &[u8], n: usize, text: &mut [u8]) -> usize
+    requires { ⌜ (length (now input) ≡ 4096) × (n ≤ 4096) × (199680 ≤ length (now text)) ⌝ }
     ensures { λ r. ⌜ Counts r (now (text .exit)) ⌝ }
-    ensures { λ r. ⌜ take r (now (text .exit)) ≡ printed (now (input .entry)) ⌝ }
+    ensures { λ r. ⌜ take r (now (text .exit)) ≡ printed (take n (now (input .entry))) ⌝ }
 {
     let mut locations = location_table();
     let mut edges = io::large_buffer();
-    let outcome = automaton::translate(input, &mut locations, &mut edges);
+    let outcome = automaton::translate(&input[..n], &mut locations, &mut edges);
     text::write_outcome(outcome, &locations, &edges, text)
 }
 
@@ -38,6 +38,6 @@ fn main() {
     let mut input = io::buffer();
     let mut text = text_room();
     let n = io::read_full(STDIN_FILENO, &mut input);
-    let end = write_answer(&input[..n], &mut text);
+    let end = write_answer(&input, n, &mut text);
     io::write_all(STDOUT_FILENO, &text[..end]);
 }

@@ -1,7 +1,7 @@
 -- The set bits of a number: how many there are, which is the lowest, and the counters that they add.
 use Prim.Native.Nat.{ℕ, zero, suc, _+_, _-_, _*_, _/_, _%_, _^_, _≤_, _<_}
 use mathlib.Core.Path.{_≡_, refl, sym, ap, ap₂, _∙_}
-use mathlib.Core.Bool.{cond}
+use mathlib.Core.Bool.{Bool, cond}
 use mathlib.Core.List.{List, [], _∷_}
 use native.Mathlib.Nat.{lt-of-not-le, mod-one, pow-suc}
 use native.Mathlib.Numerals.{add-one}
@@ -12,7 +12,11 @@ use lib.Dec.{eqb}
 use lib.ListN.{length, getD, replicate}
 use lib.Pow.{field, mod-mod-pow, pow-mono, shl-exact, shr-shr}
 use Rattle.model.specs.Base.{count, numbers}
+use Rattle.model.specs.Edges.{Update}
+use Rattle.model.specs.Notions.{flagged}
+use Rattle.model.specs.Records.{updateCode}
 use Rattle.model.specs.Runs.{added}
+use Rattle.model.proofs.records.Bytes.{added-bits, code-flags}
 use Rattle.update.specs.Counted.{addedCount}
 
 -- ---- how many
@@ -55,6 +59,20 @@ counted-added u = sym (added-counted u) ∙ ap ones (masked u) ∙ each 12 (u % 
     each (suc d) n h =
         let h' : n < 2 ^ d * 2 = rw pow-suc at h in
         ones-step n ∙ omega (arith, each d (n / 2) (omega arith))
+
+flagged-ones : (fs : List Bool) (n : ℕ) → length fs ≤ n → flagged fs (replicate n 1) ≡ count (λ b. b) fs
+flagged-ones [] n h = refl
+flagged-ones (b ∷ fs) zero h = absurd (omega arith)
+flagged-ones (b ∷ fs) (suc n) h = ap (λ k. cond b 1 0 + k) (flagged-ones fs n (omega arith))
+
+-- how many old counters an update adds is the count of ones in bits 0 to 11: as many as it flags, whatever its constant
+abbrev pub CountOfOnes : Type 0
+CountOfOnes = (u : Update) → length (u .adds) ≤ 12 → addedCount (updateCode u) ≡ count (λ b. b) (u .adds)
+
+pub count-of-ones : CountOfOnes
+count-of-ones u h =
+    counted-added (updateCode u) ∙ ap (λ n. added n (replicate 12 1)) (code-flags u h)
+    ∙ added-bits (u .adds) (replicate 12 1) ∙ flagged-ones (u .adds) 12 h
 
 -- ---- the lowest set bit
 

@@ -6,16 +6,17 @@ use mathlib.Core.List.{List, [], _∷_, _++_}
 use native.Mathlib.Omega.{arith}
 use lib.ListN.{List·getD-eq-default, getD, length}
 use Rattle.model.specs.Heap.{Heap, Slot, Val, closed, holds, next, unused}
-use Rattle.model.specs.Machine.{carryOut, Action, action}
+use Rattle.model.specs.Machine.{carryOut, Action, action, makes}
 use Rattle.model.specs.Edges.{splitHeap, view}
 use Rattle.model.specs.Records.{opOf, opCount}
 use Rattle.model.proofs.expansion.Facts.{closed-test}
-use Rattle.model.proofs.lists.Logic.{bool-case}
+use Rattle.model.proofs.lists.Logic.{bool-case, clash}
+use Rattle.model.proofs.ways.Views.{view-makes}
 use Rattle.model.specs.Notions.{AllClosed, Closed, ClosedHeap, Used, Views, Room}
 use Rattle.way.specs.Way.{openedHeap, withUnused, makesAt, wayIn, openedCount}
 use Rattle.way.specs.declared.Way.{Way}
 use Rattle.model.proofs.expansion.Splits.{split-closed}
-use Rattle.way.proofs.Through.{makes, makes-view, room-makes, makes-op, end-makes}
+use Rattle.way.proofs.Through.{makes-op, end-makes}
 use Rattle.model.specs.Image.{pastEnd}
 use Rattle.way.proofs.Opened.{run-makes}
 
@@ -46,7 +47,7 @@ opened-closed false op n h c u =
 -- new is not split, and its cell is not in use
 new-whole : (a : Action) (sp : Bool) (n : ℕ) (h : Heap) → (sp ≡ true → Views (view a h) n) → makes a ≡ true → sp
     ≡ false
-new-whole a true n h v e = makes-view a h n e (v refl)
+new-whole a true n h v e = clash e (view-makes a h n (v refl))
 new-whole a false n h v e = refl
 
 -- the action by the op's number
@@ -56,9 +57,9 @@ module _ (op u w : ℕ) (lt : op < opCount) (sp : Bool) (n : ℕ) (h : Heap)
   a = action (opOf op u w)
 
   pub opened-room : Room a (openedHeap sp op n h) (length (h .slots))
-  opened-room = room-makes a (openedHeap sp op n h) (length (h .slots)) (λ e.
+  opened-room = λ e.
       rw (new-whole a sp n h v e, sym (makes-op op u w lt) ∙ e)
-      (past-last (h .slots) (length (h .slots)) ∙ List·getD-eq-default (h .slots) unused (omega arith)))
+      (past-last (h .slots) (length (h .slots)) ∙ List·getD-eq-default (h .slots) unused (omega arith))
 
   pub opened-end : pastEnd a (length (h .slots)) (openedCount sp op (length (h .slots))) ≡ false
   opened-end = end-makes a (length (h .slots)) (openedCount sp op (length (h .slots))) (λ e.

@@ -11,11 +11,10 @@ use borrow.Author.Tests.{eqb-true, ltb-true, ne-eqb}
 use Rattle.model.specs.Base.{all}
 use Rattle.model.specs.Heap.{Heap, Slot, unused, holds, cell, undef}
 use Rattle.model.specs.Image.{cellSlot, heapOf}
-use Rattle.model.specs.Machine.{collects, done, kind, setPtr, settle, carryOut, put, Op, action, Action, perform, point, follow, link, make, release, compare, splice, stay}
+use Rattle.model.specs.Machine.{collects, done, kind, setPtr, settle, carryOut, put, Op, action, Action, perform, point, follow, link, make, makes, release, compare, splice, stay}
 use Rattle.model.specs.Records.{byte, shapeOf, valOf, valueByte}
 use Rattle.model.proofs.lists.Lists.{getD-map, map-set}
 use Rattle.model.proofs.lists.Logic.{and-l, and-r, bool-case, or-cases, clash}
-use Rattle.way.proofs.Through.{makes}
 use Rattle.way.specs.Way.{OpenReady, openedBytes, openedCount, openedHeap, withUnused, makesAt}
 use Rattle.way.proofs.ListLaws.{take-push}
 

@@ -7,8 +7,8 @@ use native.Mathlib.Omega.{arith}
 use lib.ListN.{getD, length, length-map}
 use borrow.Author.Tests.{eqb-true, lt-leb, ltb-false, ltb-true, ne-eqb, eqb-false}
 use Rattle.model.specs.Edges.{View, noNode, oneNode, picksOf, twoNodes, view, viewPair, viewVal, waysOf, whole}
-use Rattle.model.specs.Heap.{Heap, Val, cell, null, undef, next, unused}
-use Rattle.model.specs.Machine.{Action, Kind, action, follow, kind, link, make, point, release, compare, splice, stay}
+use Rattle.model.specs.Heap.{Heap, Val, cell, null, undef}
+use Rattle.model.specs.Machine.{Action, Kind, action, follow, kind, link, make, makes, point, release, compare, splice, stay}
 use Rattle.model.specs.Records.{opCount, opOf, valOf, isZero}
 use Rattle.model.proofs.expansion.Splits.{pair-none}
 use Rattle.model.proofs.lists.Lists.{getD-map}
@@ -17,7 +17,6 @@ use Rattle.model.proofs.records.Ops.{each-op, op-stops, op-goes}
 use Rattle.way.specs.Way.{looksAt, makesAt, picksAt, viewBy, wayNumber}
 use lib.Dec.{eqb, ltb}
 use Rattle.model.specs.Image.{pastEnd}
-use Rattle.model.specs.Notions.{Room, Views}
 use Rattle.model.specs.Structs.{keepsAt}
 
 pub pointer-value : (ps : List ℕ) (u : ℕ) → u < length ps → valOf (getD ps u 0) ≡ getD (map valOf ps) u undef
@@ -57,45 +56,8 @@ view-keeps op u w h lt e =
     (each-op (λ o. looks (action o)) (λ n. cond (keepsAt n) false (looksAt n)) u w refl op lt
     ∙ ap (λ t. cond t false (looksAt op)) e)
 
-abbrev pub makes : Action → Bool
-makes stay = false
-makes (compare u s) = false
-makes (point u s) = false
-makes (follow u w) = false
-makes (link u s) = false
-makes (splice u w) = false
-makes (make u) = true
-makes (release u) = false
-
-pub makes-view : {C : Type 0} (a : Action) (h : Heap) (n : ℕ) → makes a ≡ true → Views (view a h) n → C
-makes-view stay h n e v = clash e refl
-makes-view (compare u s) h n e v = clash e refl
-makes-view (point u s) h n e v = clash e refl
-makes-view (follow u w) h n e v = clash e refl
-makes-view (link u s) h n e v = clash e refl
-makes-view (splice u w) h n e v = clash e refl
-makes-view (make u) h n e v = absurd v
-makes-view (release u) h n e v = clash e refl
-
-pub room-makes : (a : Action) (h : Heap) (c : ℕ) → (makes a ≡ true → next h c ≡ unused) → Room a h c
-room-makes stay h c f = tt
-room-makes (compare u s) h c f = tt
-room-makes (point u s) h c f = tt
-room-makes (follow u w) h c f = tt
-room-makes (link u s) h c f = tt
-room-makes (splice u w) h c f = tt
-room-makes (make u) h c f = f refl
-room-makes (release u) h c f = tt
-
 pub end-makes : (a : Action) (c n : ℕ) → (makes a ≡ true → c < n) → pastEnd a c n ≡ false
-end-makes stay c n f = refl
-end-makes (compare u s) c n f = refl
-end-makes (point u s) c n f = refl
-end-makes (follow u w) c n f = refl
-end-makes (link u s) c n f = refl
-end-makes (splice u w) c n f = refl
-end-makes (make u) c n f = lt-leb n c (f refl)
-end-makes (release u) c n f = refl
+end-makes a c n f = bool-case (makes a) (λ m. rw (m, lt-leb n c (f m))) (λ m. rw m)
 
 -- op 6 alone takes a cell
 pub makes-op : (op u w : ℕ) → op < opCount → makes (action (opOf op u w)) ≡ makesAt op

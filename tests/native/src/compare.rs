@@ -43,6 +43,14 @@ pub fn unfolding(record: &[u8], counters: &[u32], lengths: [usize; 2], fill: u8)
     ours
 }
 
+/// A fold by both: refusal, shape and counters agree.
+pub fn folding(pointers: &[u8], cells: &[u8]) -> (Refusal, [u8; 32], [u32; 12]) {
+    let ours = crate::fold(pointers, cells);
+    let theirs = reference::fold(pointers, cells);
+    assert_eq!(ours, (told(theirs.refusal), theirs.record, theirs.counters), "fold of {pointers:x?} {cells:x?}");
+    ours
+}
+
 /// A step by both: answers and every byte of the heap agree. Gives the answer and the heap afterwards.
 pub fn stepping(pointers: &[u8], cells: &[u8], record: &[u8], pick: u8, cell: usize) -> ((Refusal, [u8; 4]), Image) {
     let (mut p, mut c) = (pointers.to_vec(), cells.to_vec());

@@ -133,11 +133,11 @@ pub fn damage_record(d: &mut Draw, r: &mut Vec<u8>) {
 }
 
 /// Whether the op uses the pointers u and w.
-fn uses_u(op: u8) -> bool {
+pub fn uses_u(op: u8) -> bool {
     matches!(op, 1..=9 | 12 | 13)
 }
 
-fn uses_w(op: u8) -> bool {
+pub fn uses_w(op: u8) -> bool {
     matches!(op, 2 | 3 | 5 | 9 | 12)
 }
 

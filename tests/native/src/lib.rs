@@ -8,6 +8,7 @@ pub mod dropped;
 pub mod edges;
 pub mod joined;
 pub mod rings;
+pub mod small;
 pub mod stream;
 
 pub use currantplane::{fold, record, step, translate, unfold, Node, Refusal};

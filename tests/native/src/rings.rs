@@ -14,7 +14,7 @@ pub fn full(input: &[u8]) -> Translated {
     reference::translate(input, &mut vec![0; FULL[0]], &mut vec![0; FULL[1]])
 }
 
-fn s_record(op: u8, u: u8, w: u8, first: usize, second: usize) -> Record {
+pub fn s_record(op: u8, u: u8, w: u8, first: usize, second: usize) -> Record {
     let mut record = [0; 32];
     record[..6].copy_from_slice(&[0x53, op, u, w, first as u8, second as u8]);
     record

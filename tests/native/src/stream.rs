@@ -81,6 +81,17 @@ impl Stream {
         refusal
     }
 
+    /// A heap's shape and counters.
+    pub fn folding(&mut self, pointers: &[u8], cells: &[u8]) {
+        let told = reference::fold(pointers, cells);
+        self.begin(b'F');
+        self.block(pointers);
+        self.block(cells);
+        self.refusal(told.refusal);
+        self.block(&told.record);
+        self.numbers(&told.counters.map(|counter| counter as usize));
+    }
+
     /// One statement on a heap.
     pub fn stepping(&mut self, (mut pointers, mut cells): Image, record: &[u8], pick: u8, cell: usize) {
         self.begin(b'S');

@@ -5,6 +5,7 @@
 use native::compare::{told, translation, unfolding};
 use native::damage::{among_shapes, any_values, counters_of, spoiled};
 use native::draw::Draw;
+use native::small::every_record;
 use native::{Node, Refusal};
 use reference::selftest::damaged_shapes;
 
@@ -107,23 +108,6 @@ fn shapes_spoiled_and_any_values() {
         compare(&mut d, &record, &mut counts);
     }
     counts.at_least(20, 100_000);
-}
-
-/// Every record with so many nodes whose first pointers, so many, hold anything, and whose others are null.
-fn every_record(nodes: u8, pointers: usize, mut f: impl FnMut(&Record)) {
-    let held: Vec<u8> = (0..nodes).chain([0xfe, 0xff]).collect();
-    let places: Vec<usize> = (4..4 + pointers).chain((10..).take(nodes.into())).collect();
-    let mut record = [0; 32];
-    (record[0], record[3]) = (0x48, nodes);
-    record[4..10].fill(0xfe);
-    for number in 0..held.len().pow(places.len() as u32) {
-        let mut left = number;
-        for &at in &places {
-            record[at] = held[left % held.len()];
-            left /= held.len();
-        }
-        f(&record);
-    }
 }
 
 #[test]

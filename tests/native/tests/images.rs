@@ -1,7 +1,7 @@
 //! Fold, unfold and step of the proved library against the second translator's, on valid and damaged images, records and statements.
 //! Every refusal and every fault must have been met: the tests count them.
 
-use native::compare::{stepping, told, unfolding};
+use native::compare::{folding, stepping, told, unfolding};
 use native::damage::spoil_shape;
 use native::draw::{damage_record, damaged_image, image, statement, Draw};
 use native::{Node, Refusal};
@@ -20,10 +20,7 @@ fn all_met(what: &str, met: &[u64], wanted: &[usize]) {
 }
 
 fn compare_fold(pointers: &[u8], cells: &[u8]) -> u8 {
-    let ours = native::fold(pointers, cells);
-    let theirs = reference::fold(pointers, cells);
-    assert_eq!(ours, (told(theirs.refusal), theirs.record, theirs.counters), "fold of {pointers:x?} {cells:x?}");
-    ours.0.number
+    folding(pointers, cells).0.number
 }
 
 fn compare_unfold(record: &[u8], counters: &[u32], np: usize, nc: usize) -> u8 {

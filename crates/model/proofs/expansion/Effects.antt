@@ -223,7 +223,7 @@ module _ (W : Heap) (sg : ℕ → Seg) (H : Heap) (X : Expansion W sg H) where
       splice-alike (ptr W u) (ptr W w) (ptr H u) (ptr H w) (ptr-img W sg H X u) (ptr-img W sg H X w)
       (ptr-closed W sg H X u) (ptr-closed W sg H X w) o
   effect-alike (make u) k c o fw fh =
-      let N = exp-new W sg H X k c fw fh in
+      let N = exp-new W sg H X k c (fw refl) (fh refl) in
       let W′ = putSlot k (holds undef) W in
       let H′ = putSlot c (holds undef) H in
       let sg′ = upd sg k (seg c []) in

@@ -5,9 +5,9 @@ use mathlib.Core.Logic.{_⊎_, inl, inr, ⊎-elim}
 use mathlib.Core.Bool.{_&&_, _||_, false, not, true}
 use mathlib.Core.List.{List, [], _∷_, _++_}
 use native.Mathlib.Omega.{arith}
-use lib.Dec.{eqb, leb, ltb}
+use lib.Dec.{eqb, leb}
 use lib.ListN.{getD, length, take}
-use borrow.Author.Tests.{eq-eqb, le-leb, ltb-false, ltb-true}
+use borrow.Author.Tests.{eq-eqb, le-leb}
 use Rattle.model.specs.Base.{all, count, mem}
 use Rattle.model.specs.Answers.{refusalOf}
 use Rattle.model.specs.Heap.{Heap}
@@ -16,7 +16,7 @@ use Rattle.model.specs.Listings.{BadInput, RightKinds, RightRecords, bad
 use Rattle.model.specs.Nodes.{GivenAsTold, OneTold, SaysNode, Told, not-core, nothing, numbered-otherwise, recordOf, unreachable}
 use Rattle.model.specs.Notions.{CheckedBy, Given}
 use Rattle.model.specs.Records.{Refusal, Row, Verdict, checkLayout, checkRepeated, checksH, checksNodes, checksS, failedNode, firstFailed, isRefused, isS, layoutH, refusal, refusalAt, refusalH, shapeOf, tellsNode, unless}
-use Rattle.model.specs.Translate.{Outcome, bad, check, places, refusedWith, translate}
+use Rattle.model.specs.Translate.{Outcome, bad, places, refusedWith, translate}
 use Rattle.model.proofs.expansion.Facts.{test-closed}
 use Rattle.model.proofs.images.Images.{unfold-verdict}
 use Rattle.model.proofs.listings.Outcomes.{TranslateCases, bad-translate, translate-cases}
@@ -25,7 +25,7 @@ use Rattle.model.proofs.lists.Lists.{getD-in}
 use Rattle.model.proofs.lists.Logic.{and-both, bool-case, clash, not-false}
 use Rattle.model.proofs.records.Checked.{records-wide}
 use Rattle.model.proofs.records.Checks.{Nodeless, Numbered, failed-given, failed-nodeless, failed-number, no-node, given-failed, none-failed, not-both, pass-tells, refused-inj}
-use Rattle.model.proofs.records.Refusals.{CheckCases, among, check-cases, record-number, refused-input}
+use Rattle.model.proofs.records.Refusals.{among, bad-refused, record-number, refused-input}
 use Rattle.model.proofs.records.ShapeBack.{layout-closed, layout-writable}
 use Rattle.model.proofs.records.ToldNodes.{given-as-told, one-told}
 
@@ -207,29 +207,6 @@ checked-none cs v C k z x e =
 
 module _ (s : List ℕ) (i : ℕ) (a : noRecords s ≡ false) (f : RightKinds s (length (recordsOf s)))
     (b : rightS s ≡ true) (c : rightH s ≡ true) (lt : i < length (recordsOf s)) (g : RightRecords s i) where
-  -- the first record that is refused decides
-  first-decides : {m : ℕ} → recordRefusal (recordsOf s) i ≡ suc m
-      → check s ≡ bad (refusalAt (suc m) i (recordNode (recordsOf s) i))
-  first-decides {m} e = by-case (check-cases s)
-    where
-      by-input : (x : Refusal) → BadInput s x → x ≡ refusalAt (suc m) i (recordNode (recordsOf s) i)
-      by-input x (bad-length q a′) = clash a′ a
-      by-input x (bad-kind j q a′ l f′ w) = clash w (f j l)
-      by-input x (bad-statements q a′ f′ b′) = clash b b′
-      by-input x (bad-shapes q a′ f′ b′ c′) = clash c c′
-      by-input x (bad-record n j q a′ f′ b′ c′ l g′ w) =
-          let same-place : j ≡ i =
-          bool-case (ltb j i) (λ t. absurd (let z = g j (ltb-true j i t) in omega arith))
-          (λ t. bool-case (ltb i j) (λ u. absurd (let z = g′ i (ltb-true i j u) in omega arith))
-          (λ u. let p = ltb-false j i t in let r = ltb-false i j u in omega arith)) in
-          q ∙ ap (λ k. refusalAt (suc n) k (recordNode (recordsOf s) k)) same-place
-          ∙ ap (λ k. refusalAt k i (recordNode (recordsOf s) i))
-          (sym w ∙ ap (recordRefusal (recordsOf s)) same-place ∙ e)
-
-      by-case : CheckCases s → check s ≡ bad (refusalAt (suc m) i (recordNode (recordsOf s) i))
-      by-case (inl (x, q, B)) = q ∙ ap bad (by-input x B)
-      by-case (inr (r, q, G)) = absurd (let z = G .records i lt in omega arith)
-
   pub told-refused : {n v : ℕ} → isS (recordOf s i) ≡ false → layoutH (recordOf s i) ≡ true → tellsNode n ≡ true
       → Told (shapeOf (recordOf s i)) n v → (ta tb : ℕ) → translate s ta tb .verdict ≡ isRefused (refusalAt n i v)
   told-refused {n} {v} h l t T ta tb =
@@ -244,4 +221,4 @@ module _ (s : List ℕ) (i : ℕ) (a : noRecords s ≡ false) (f : RightKinds s 
           → recordNode (recordsOf s) i ≡ v → translate s ta tb .verdict ≡ isRefused (refusalAt k i v)
       by-number zero u p q = clash u refl
       by-number (suc k) u p q = bad-translate s ta tb (refusalAt (suc k) i v)
-          (first-decides p ∙ ap (λ d. bad (refusalAt (suc k) i d)) q)
+          (bad-refused s _ (bad-record k i (ap (refusalAt (suc k) i) (sym q)) a f b c lt g p))

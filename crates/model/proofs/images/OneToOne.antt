@@ -1,17 +1,19 @@
--- The cases of an answer are told apart by what they say.
+-- The cases of an answer are told apart by what they say, and a call's outcome has one answer and one content of what
+-- was lent.
 use Prim.Native.Nat.{ℕ}
 use Rattle.model.proofs.records.Checks.{not-both, refused-inj}
 use Rattle.model.specs.Notions.{Halted}
-use mathlib.Core.Path.{_≡_, ap, refl, sym}
+use mathlib.Core.Path.{_∙_, _≡_, ap, ap₂, refl, sym}
 use mathlib.Core.List.{List, [], _∷_}
 use native.Mathlib.Omega.{arith}
 use lib.ListN.{drop}
-use Rattle.model.specs.Answers.{outcomeOf, stepAnswerOf, stepNumbers, verdictOf, unfoldedVerdict}
-use Rattle.model.specs.Image.{StepAnswer, noStep, toFault, toNext, toStop}
+use Rattle.model.specs.Answers.{foldingOf, outcomeOf, stepAnswerOf, stepNumbers, steppingOf, unfoldedVerdict, unfoldingOf, verdictOf}
+use Rattle.model.specs.Image.{Folding, StepAnswer, Stepping, Unfolding, noStep, toFault, toNext, toStop}
 use Rattle.model.specs.Records.{isAccepted, refusal, refusalAt}
 use Rattle.model.specs.Translate.{Outcome}
 use Rattle.model.specs.declared.Ended.{Ended}
 use Rattle.model.specs.declared.Ended.the-variants as ended
+use Rattle.model.specs.declared.Folded.{Folded}
 use Rattle.model.specs.declared.Unfolded.{Unfolded}
 use Rattle.model.specs.declared.Unfolded.the-variants as unfolded
 use Rattle.model.specs.declared.Stepped.{Stepped}
@@ -76,3 +78,41 @@ halted-numbers (toNext b n) h = absurd h
 halted-numbers (toFault f) h = refl
 halted-numbers toStop h = refl
 halted-numbers (noStep x) h = refl
+
+-- ---- an answer with what stands in the lent bytes: the same outcome is the same answer and the same bytes
+
+outcome-locations : (x : Translated) (ls es : List ℕ) → outcomeOf x ls es .tables .locBytes ≡ ls
+outcome-locations (translated.Listed l e) ls es = refl
+outcome-locations (translated.Refused n p v) ls es = refl
+
+outcome-edges : (x : Translated) (ls es : List ℕ) → outcomeOf x ls es .tables .edgeBytes ≡ es
+outcome-edges (translated.Listed l e) ls es = refl
+outcome-edges (translated.Refused n p v) ls es = refl
+
+pub outcomes-one : (x y : Translated) (ls es ms fs : List ℕ) → outcomeOf x ls es ≡ outcomeOf y ms fs
+    → (x ≡ y) × (ls ≡ ms) × (es ≡ fs)
+outcomes-one x y ls es ms fs e =
+    let l = sym (outcome-locations x ls es) ∙ ap (λ (o : Outcome). o .tables .locBytes) e ∙ outcome-locations y ms fs in
+    let d = sym (outcome-edges x ls es) ∙ ap (λ (o : Outcome). o .tables .edgeBytes) e ∙ outcome-edges y ms fs in
+    (outcome-one x y ls es (e ∙ ap₂ (outcomeOf y) (sym l) (sym d)), l, d)
+
+pub folded-one : (x y : Folded) → foldingOf x ≡ foldingOf y → x ≡ y
+folded-one x y e =
+    let v = verdict-one (x .ended) (y .ended) (ap (λ (f : Folding). f .verdict) e) in
+    λ i. record { ended = v i; shape = e i .recordBytes; counters = e i .counts }
+
+pub unfoldings-one : (x y : Unfolded) (ps cs qs ds : List ℕ) → unfoldingOf x ps cs ≡ unfoldingOf y qs ds
+    → (x ≡ y) × (ps ≡ qs) × (cs ≡ ds)
+unfoldings-one x y ps cs qs ds e = (
+  unfolded-one x y (ap (λ (u : Unfolding). u .verdict) e),
+  ap (λ (u : Unfolding). u .ptrBytes) e,
+  ap (λ (u : Unfolding). u .cellBytes) e,
+)
+
+pub steppings-one : (x y : Stepped) (ps cs qs ds : List ℕ) → steppingOf x ps cs ≡ steppingOf y qs ds
+    → (x ≡ y) × (ps ≡ qs) × (cs ≡ ds)
+steppings-one x y ps cs qs ds e = (
+  step-one x y (ap (λ (s : Stepping). s .answer) e),
+  ap (λ (s : Stepping). s .ptrBytes) e,
+  ap (λ (s : Stepping). s .cellBytes) e,
+)

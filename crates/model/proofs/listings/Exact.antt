@@ -15,7 +15,7 @@ use Rattle.model.specs.Heap.{Heap}
 use Rattle.model.specs.Machine.{Stmt, leak}
 use Rattle.model.specs.Translate.{Link, Listing, Routine, listed, listing}
 use Rattle.model.proofs.listings.Listing.{add-found, add-place, any-loc, edge-locs, explored-end, explored-prefix, extend-all, extend-distinct, extend-has, extend-prefix, listing-whole, loc-place}
-use Rattle.model.specs.Listings.{Exact, Reached, addEdge, addLoc, addLocs, by-edge, explored, extend, from-start, linkOf, linkTarget, linksFrom, locAt}
+use Rattle.model.specs.Listings.{Exact, IsFull, Reached, addEdge, addLoc, addLocs, by-edge, explored, extend, from-start, linkOf, linkTarget, linksFrom, locAt}
 use Rattle.model.specs.Notions.{Distinct, In}
 use Rattle.model.proofs.lists.Lists.{getD-in, in-append-cases, in-getD, in-joined, in-map, joined-in, joined-snoc, map-in}
 use Rattle.model.proofs.lists.Logic.{bool-case, not-true}
@@ -179,12 +179,15 @@ explored-exact r n k e =
           ∙ sym (adds-append [] (map (at 0) hs) (map linkTarget (explored sts hs n .links)));
     }
 
--- A listing holds exactly the reachable locations and all their edges, in the order of the exploration.
+-- The full listing holds exactly the reachable locations and all their edges, in the order of the exploration,
+pub full-exact : (r : Routine) (t : Listing) → Distinct (r .starts) → IsFull r t → Exact r t
+full-exact r t k f =
+    subst (Exact r) (sym f) (explored-exact r (length (t .locs)) k (ap (λ (u : Listing). length (u .locs)) f))
+
+-- and a listing that has places is the full one.
 pub listing-exact : (r : Routine) (cl ce : ℕ) (t : Listing) → Distinct (r .starts) → listing r cl ce ≡ listed t
     → Exact r t
-listing-exact r cl ce t k p =
-    let w = listing-whole r cl ce t p in
-    subst (Exact r) (sym (w .0)) (explored-exact r (length (t .locs)) k (ap (λ (u : Listing). length (u .locs)) (w .0)))
+listing-exact r cl ce t k p = full-exact r t k (listing-whole r cl ce t p .0)
 
 -- ---- each link
 

@@ -38,7 +38,7 @@ pub good-writable : (l : Loc) → GoodLoc l → WritableLoc l
 good-writable (at s h) g = canon-writable h (g .0) (g .1)
 good-writable (failed s f) g = tt
 
-nodes-few : (l : Loc) → GoodLoc l → nodesOf l ≤ 12
+pub nodes-few : (l : Loc) → GoodLoc l → nodesOf l ≤ 12
 nodes-few (at s h) g = canon-writable h (g .0) (g .1) .few
 nodes-few (failed s f) g = omega arith
 

@@ -15,22 +15,24 @@ use Rattle.model.specs.Base.{numbers}
 use Rattle.model.specs.Edges.{Edge, Guard, Loc, Way, at, edgeBy, edgesAt, edgesOf, failed, picksOf, split, stepBy, stmtAt, ways, whole, oneAt, moreAt, View, waysOf, view, oneNode, twoNodes, noNode}
 use Rattle.model.specs.Heap.{Heap, inUse, kept, unused}
 use Rattle.model.specs.Image.{spread, unfoldHeap}
-use Rattle.model.specs.Machine.{Action, Effect, Entry, Stmt, answerOf, branch, done, fault, step, Kind, action, kind, perform, collects, settle}
+use Rattle.model.specs.Machine.{Action, Effect, Entry, Stmt, accepts, answerOf, branch, carryOut, done, entry, fault, step, target, Kind, action, kind, perform, collects, settle}
 use Rattle.model.specs.Runs.{State, Status, Advance, made, past, running}
 use Rattle.model.specs.Shape.{counters, nodeVal, segments}
 use Rattle.model.specs.Translate.{Routine}
-use Rattle.model.specs.Notions.{Canon, In, Pairs, Exclude, Positive, SmallEdge, nodesOf, worth, ClosedHeap, Views, guardOn, guardsOn}
+use Rattle.model.specs.Notions.{Canon, In, Pairs, Exclude, Positive, SmallEdge, nodesOf, worth, ClosedHeap, Views, guardOn, guardsOn, statementOf}
 use Rattle.model.proofs.shapes.Canon.{fold-canon}
 use Rattle.model.proofs.records.Checked.{GoodStarts}
+use Rattle.model.proofs.records.Refusals.{good-leads}
+use Rattle.model.proofs.records.Statements.{Leads}
 use Rattle.model.proofs.expansion.Collect.{settle-any}
 use Rattle.model.proofs.expansion.Facts.{heap-closed, heap-kept, kept-test}
 use Rattle.model.proofs.ways.Guards.{edges-cover, edges-exclude}
 use Rattle.model.proofs.ways.Leave.{Fit, MatchIn, begin}
-use Rattle.model.specs.Listings.{Reached, by-edge, from-start, GoodLoc}
-use Rattle.model.proofs.lists.Lists.{getD-default, getD-map, in-joined, in-map, some-inj}
+use Rattle.model.specs.Listings.{GoodInput, Reached, by-edge, from-start, GoodLoc}
+use Rattle.model.proofs.lists.Lists.{getD-default, getD-map, in-map, in-single, some-inj}
 use Rattle.model.proofs.lists.Logic.{and-both, bool-case, eqb-same}
 use Rattle.model.proofs.lists.Numbers.{at-number, length-numbers}
-use Rattle.model.proofs.ways.Location.{leave-backward, way-guards}
+use Rattle.model.proofs.ways.Location.{edge-goes, edge-way, leave-backward, way-guards}
 use Rattle.model.proofs.visits.Order.{used-below}
 use Rattle.model.proofs.ways.Picks.{made-goes}
 use Rattle.model.proofs.expansion.Step.{step-go}
@@ -145,12 +147,11 @@ module _ (s : ℕ) (st : Stmt) (h : Heap) (C : Canon h) (six : length (h .ptrs) 
   pub shape-edge : (E : Edge) → In E (edgesAt s st h) → SmallEdge (length (h .slots)) E × GoodLoc (E .to)
   shape-edge E i =
       let k = length (h .slots) in
-      let j = in-joined E (map (λ z. edgeBy s k z (stepBy st k z)) (ways (st .op) h)) i in
-      let w = in-map (λ z. edgeBy s k z (stepBy st k z)) (j .0) (ways (st .op) h) (j .1) in
+      let w = edge-way s st h E i in
       let y = w .0 in
       let a = action (st .op) in
       let m = ways-met (kind (st .op)) a h (C .closed) (view a h) refl y (w .1) in
-      let g : E .guards ≡ y .guards = way-guards s k y (stepBy st k y) E (subst (In E) (w .2) (j .2)) in
+      let g : E .guards ≡ y .guards = way-guards s k y (stepBy st k y) E (w .2) in
       let cs = m .0 in
       let len : length cs ≡ k = m .1 in
       let pos : Positive cs = m .2 in
@@ -176,6 +177,34 @@ good-edge sts (failed s f) g E i = absurd i
 pub reached-good : (r : Routine) → GoodStarts r → (l : Loc) → Reached (r .stmts) (r .starts) l → GoodLoc l
 reached-good r G l (from-start {h = h} i) = G .shapes h i
 reached-good r G l (by-edge {l = k} e p i) = good-edge (r .stmts) k (reached-good r G k p) e i .1
+
+-- an edge leads to one of n statements, where the statement that it leaves does
+pub edge-stmt : (n s : ℕ) (st : Stmt) (h : Heap) → s < n → Leads n st → (E : Edge) → In E (edgesAt s st h)
+    → statementOf (E .to) < n
+edge-stmt n s st h low L E i =
+    let k = length (h .slots) in
+    let w = edge-way s st h E i in
+    let y = w .0 in
+    let e = entry (y .pick) k in
+    let g = edge-goes s k y st E (w .2) in
+    bool-case (accepts (st .op) e (y .heap))
+    (λ a. by-run y (branch (st .op) (y .pick) (y .heap)) (L g (y .pick) (y .heap)) (carryOut (st .op) k (y .heap))
+    (subst (λ x. In E (edgeBy s k y x)) (step-go st e (y .heap) g a) (w .2)))
+    (λ a. absurd (rw a at (w .2)))
+  where
+    by-run : (y : Way) (b : ℕ) → target st b < n → (x : Effect)
+        → In E (edgeBy s (length (h .slots)) y (answerOf st b x)) → statementOf (E .to) < n
+    by-run y b t (fault f) q = rw (in-single E _ q) low
+    by-run y b t (done g) q = rw (in-single E _ q) t
+
+-- so every reached location has one of the routine's
+pub reached-stmt : (s : List ℕ) (r : Routine) → GoodInput s r → (l : Loc) → Reached (r .stmts) (r .starts) l
+    → statementOf l < length (r .stmts)
+reached-stmt s r G l (from-start i) = good-leads s r G .0
+reached-stmt s r G l (by-edge {l = at k h} e p i) =
+    let low = reached-stmt s r G (at k h) p in
+    edge-stmt (length (r .stmts)) k (stmtAt (r .stmts) k) h low (good-leads s r G .1 k low) e i
+reached-stmt s r G l (by-edge {l = failed k f} e p i) = absurd i
 
 -- the guards of the edges of one branch exclude each other and leave nothing out
 pub good-exclude : (sts : List Stmt) (l : Loc) → GoodLoc l → Pairs Exclude (edgesOf sts l)

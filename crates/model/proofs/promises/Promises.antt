@@ -1,15 +1,16 @@
 -- The promises: each is a type, and under it stands its proof, which cites a law. This page has demand 1; demand 2 is
--- in PromisesShapes and PromisesListings, demand 3 in PromisesRuns, reading the tables in PromisesTables, and single
--- statements in PromisesStatements. The words are those of specs/, Notions and Listings.
+-- in PromisesShapes, PromisesEdges and PromisesListings, demand 3 in PromisesRuns, reading the tables in
+-- PromisesTables, single statements in PromisesStatements and PromisesDrops, the controller bench in PromisesBench, and
+-- the nodes that are told with a refusal in PromisesNodes. The words are those of specs/.
 use Prim.Native.Nat.{_*_, _-_, _/_, _<_, _≤_, suc, ℕ}
-use mathlib.Core.Path.{_∙_, _≡_}
+use mathlib.Core.Path.{_∙_, _≡_, sym}
 use mathlib.Core.Logic.{_↔_, _⊎_}
 use mathlib.Core.Bool.{false, true}
 use mathlib.Core.List.{List, [], _∷_}
 use native.Mathlib.Omega.{arith}
 use lib.ListN.{drop, getD, length, replicate}
 use Rattle.model.specs.Base.{mem}
-use Rattle.model.specs.Answers.{outcomeOf, stepAnswerOf, stepNumbers, verdictOf, unfoldedVerdict}
+use Rattle.model.specs.Answers.{foldingOf, outcomeOf, stepAnswerOf, stepNumbers, steppingOf, unfoldedVerdict, unfoldingOf, verdictOf}
 use Rattle.model.specs.Heap.{IsHeap}
 use Rattle.model.specs.Image.{answered, checksImage, checksStep, checksUnfold, foldImage, heapOf, stepImage, stepVerdict, toFault, unfoldImage}
 use Rattle.model.proofs.records.Checks.{accepted-by}
@@ -18,15 +19,16 @@ use Rattle.model.specs.Records.{Refusal, filled, isAccepted, isRefused, 
 use Rattle.model.specs.Shape.{counters, shape}
 use Rattle.model.specs.Translate.{Routine, bad, check, good, translate}
 use Rattle.model.specs.declared.Ended.{Ended}
+use Rattle.model.specs.declared.Folded.{Folded}
 use Rattle.model.specs.declared.Unfolded.{Unfolded}
 use Rattle.model.specs.declared.Stepped.{Stepped}
 use Rattle.model.specs.declared.Translated.{Translated}
 use Rattle.model.proofs.images.Images.{fold-accepted, fold-checked, fold-gives, fold-lengths, fold-refused, fold-verdict, image-accepted, unfold-checked, unfold-lengths, unfold-refused}
 use Rattle.model.specs.Listings.{BadInput, GoodInput, recordRefusal, recordsOf, numbersInput, numbersTranslate, numbersS, numbersH}
 use Rattle.model.specs.Notions.{CheckedBy, Halted}
-use Rattle.model.proofs.images.OneToOne.{halted-numbers, outcome-one, step-one, unfolded-one, verdict-one}
+use Rattle.model.proofs.images.OneToOne.{folded-one, halted-numbers, outcome-one, outcomes-one, step-one, steppings-one, unfolded-one, unfoldings-one, verdict-one}
 use Rattle.model.proofs.listings.Outcomes.{bad-translate, fitting, places-most, refused-tables, translate-number}
-use Rattle.model.proofs.records.Refusals.{accepted-input, bad-number, good-accepted, record-number, refused-input}
+use Rattle.model.proofs.records.Refusals.{accepted-input, bad-number, bad-refused, good-accepted, record-number, refused-input}
 use Rattle.model.proofs.images.Stepping.{step-answers, step-checked, step-faults, step-lengths, step-stays}
 
 -- ==== demand 1: every call states its outcome for all inputs
@@ -40,6 +42,26 @@ AnswersDiffer = ((a b : Ended) → verdictOf a ≡ verdictOf b → a ≡ b)
 
 pub answers-differ : AnswersDiffer
 answers-differ = (verdict-one, unfolded-one, step-one, outcome-one)
+
+-- a contract leaves nothing free: what two programs answer and leave, by the same contract and for the same input, is
+-- the same, so that none but the definition's outcome meets it
+abbrev pub OneOutcome : Type 0
+OneOutcome = ((s : List ℕ) (a b : ℕ) (x y : Translated) (ls es ms fs : List ℕ) → outcomeOf x ls es ≡ translate s a b
+    → outcomeOf y ms fs ≡ translate s a b → (x ≡ y) × (ls ≡ ms) × (es ≡ fs))
+    × ((ps cs : List ℕ) (x y : Folded) → foldingOf x ≡ foldImage ps cs → foldingOf y ≡ foldImage ps cs → x ≡ y)
+    × ((r vs ps cs : List ℕ) (x y : Unfolded) (qs ds us es : List ℕ) → unfoldingOf x qs ds ≡ unfoldImage r vs ps cs
+    → unfoldingOf y us es ≡ unfoldImage r vs ps cs → (x ≡ y) × (qs ≡ us) × (ds ≡ es))
+    × ((r : List ℕ) (p c : ℕ) (ps cs : List ℕ) (x y : Stepped) (qs ds us es : List ℕ)
+    → steppingOf x qs ds ≡ stepImage r p c ps cs → steppingOf y us es ≡ stepImage r p c ps cs
+    → (x ≡ y) × (qs ≡ us) × (ds ≡ es))
+
+pub one-outcome : OneOutcome
+one-outcome = (
+  λ s a b x y ls es ms fs p q. outcomes-one x y ls es ms fs (p ∙ sym q),
+  λ ps cs x y p q. folded-one x y (p ∙ sym q),
+  λ r vs ps cs x y qs ds us es p q. unfoldings-one x y qs ds us es (p ∙ sym q),
+  λ r p c ps cs x y qs ds us es e f. steppings-one x y qs ds us es (e ∙ sym f),
+)
 
 -- "The two record counts are reported, both 0 on a refusal." A refused translation leaves both tables all zero.
 abbrev pub RefusalClears : Type 0
@@ -90,14 +112,14 @@ TranslateNumbers = (s : List ℕ) (a b : ℕ) (x : Refusal) → translate s a b 
 pub translate-numbers : TranslateNumbers
 translate-numbers = translate-number
 
--- "Refusals by place of check", those of the input: a refused input has that wrong with it which the number says, at
--- the place given, and nothing before it
+-- "Refusals by place of check", those of the input: an input is refused exactly when that is wrong with it which the
+-- number says, at the place given, and nothing before it; and a translation is then refused so, whatever the tables
 abbrev pub InputRefused : Type 0
-InputRefused = (s : List ℕ) (x : Refusal) → check s ≡ bad x → BadInput s x
-    × ((a b : ℕ) → translate s a b .verdict ≡ isRefused x)
+InputRefused = (s : List ℕ) (x : Refusal) → ((check s ≡ bad x) ↔ BadInput s x)
+    × (check s ≡ bad x → (a b : ℕ) → translate s a b .verdict ≡ isRefused x)
 
 pub input-refused : InputRefused
-input-refused s x e = (refused-input s x e, λ a b. bad-translate s a b x e)
+input-refused s x = ((refused-input s x, bad-refused s x), λ e a b. bad-translate s a b x e)
 
 -- an input is accepted exactly when nothing is wrong with it
 abbrev pub InputAccepted : Type 0

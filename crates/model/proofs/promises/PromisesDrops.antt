@@ -4,23 +4,23 @@ use Prim.Native.Nat.{_<_, ℕ}
 use mathlib.Core.Path.{_∙_, _≡_, ap, refl, subst, sym}
 use mathlib.Core.Bool.{Bool, cond, false, true}
 use mathlib.Core.Logic.{_↔_, _⊎_, inl, inr, ⊎-elim}
-use mathlib.Core.List.{List, [], _∷_}
+use mathlib.Core.List.{List, [], _∷_, map}
 use lib.ListN.{getD, length, set}
 use Rattle.model.specs.Base.{count, sum}
 use Rattle.model.specs.Edges.{Edge, Update, at, edgesAt}
 use Rattle.model.specs.Heap.{Heap, IsHeap, Val, cell, closed, holds, inUse, kept, next, null, ptr, undef}
 use Rattle.model.specs.Image.{heapOf, stepImage, stepVerdict, toNext}
 use Rattle.model.specs.Machine.{Entry, Op, Stmt, accepts, answerOf, collect, done, effect, fault, faulted, isStop, kind, leak, letGo, setNull, setPtr, step, went}
-use Rattle.model.specs.Notions.{Expansion, In, Reaches}
+use Rattle.model.specs.Notions.{Expansion, In, Reaches, gathered}
 use Rattle.model.specs.Records.{byte, isAccepted}
-use Rattle.model.specs.Shape.{Seg, core, counters, shape}
+use Rattle.model.specs.Shape.{Seg, core, counters, segments, shape}
 use Rattle.model.proofs.expansion.Collect.{collect-back, collect-closed, collect-expands, collect-kept, collect-same, collect-twice, visited-stays}
 use Rattle.model.proofs.expansion.Cores.{core-is}
 use Rattle.model.proofs.expansion.Facts.{heap-kept, is-heap, test-closed, test-kept}
 use Rattle.model.proofs.expansion.Reach.{order-reaches, reaches-order}
 use Rattle.model.proofs.images.DropBytes.{drop-answer, drop-gone, drop-pointers, drop-stays}
 use Rattle.model.proofs.shapes.Count.{counters-add-up}
-use Rattle.model.proofs.ways.Drops.{carried-reaches, drop-edge, drop-goes, leak-stops, no-constant, no-drop, null-keeps, reaches-carried, stop-stays}
+use Rattle.model.proofs.ways.Drops.{carried-reaches, drop-edge, drop-goes, drop-updates, leak-stops, no-constant, no-drop, null-keeps, reaches-carried, stop-stays}
 use Rattle.model.proofs.lists.Lists.{in-single}
 use Rattle.model.proofs.lists.Logic.{clash, not-true}
 
@@ -162,6 +162,19 @@ drops-carry i st h x u o E j =
       no-constant st u k i h cl,
     )
 
+-- "and a node that is no longer core merges as usual": the update of a new node adds exactly the counters of the nodes
+-- that its segment, of what is left, joins
+abbrev pub DropUpdates : Type 0
+DropUpdates = (i : ℕ) (st : Stmt) (h : Heap) → closed h ≡ true → (u : ℕ) → st .op ≡ letGo u → (E : Edge)
+    → In E (edgesAt i st h)
+    → E .updates ≡ map (gathered (length (h .slots))) (segments (collect (setPtr u null h)))
+
+pub drops-update : DropUpdates
+drops-update i st h x u o E j =
+    let k = ap kind o in
+    ap (λ (F : Edge). F .updates) (in-single E _ (subst (In E) (drop-edge st u k i h) j))
+    ∙ drop-updates st u k i h (test-closed h x)
+
 -- "Other statements still stop at a leak."
 abbrev pub OthersLeak : Type 0
 OthersLeak = (st : Stmt) (e : Entry) (h g : Heap) → IsHeap h → ((u : ℕ) → st .op ≡ letGo u → ⊥)
@@ -174,7 +187,7 @@ others-leak st e h g x o a d l =
     (λ z. clash (subst (λ (y : Heap). kept y ≡ true) (stop-stays (kind (st .op)) (e .cellNo) h g z d) (x .isKept)) l)) a
     (no-drop (st .op) o) d l
 
--- ==== on an image: "collected cells become 0xfd"
+-- ==== on an image: a cell that is collected becomes 0xfd
 
 -- a plain step that drops: u's byte is that of null, a cell that is still reachable keeps its byte, and any other is
 -- not in use

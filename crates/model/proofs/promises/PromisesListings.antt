@@ -1,5 +1,5 @@
--- The promises of demand 2 about edges, listings, places, records and expansions. Each is a type; its proof under it
--- cites a law.
+-- The promises of demand 2 about locations, edges, listings, places, records and expansions. Each is a type; its proof
+-- under it cites a law.
 use Prim.Native.Nat.{_+_, _-_, _<_, _≤_, ℕ}
 use mathlib.Core.Path.{_≡_, refl}
 use mathlib.Core.Logic.{_↔_, _⊎_}
@@ -15,26 +15,38 @@ use Rattle.model.specs.Records.{byte, edgeRecord, guardCode, isS, layout
 use Rattle.model.specs.Runs.{applied, branchOf, guardsOf, updatesOf}
 use Rattle.model.specs.Shape.{Seg, cells, core, counters, segments, shape}
 use Rattle.model.specs.Translate.{Listing, Routine, check, good, linkRecord, places, tablesOf, translate}
-use Rattle.model.proofs.records.Bytes.{applied-code}
+use Rattle.model.proofs.records.Bytes.{applied-code, code-below}
 use Rattle.model.proofs.records.Checked.{check-good}
 use Rattle.model.proofs.expansion.Cores.{core-head, core-inner}
 use Rattle.model.proofs.records.EdgeBack.{edge-bit, edge-branch, edge-codes, edge-from, edge-length, edge-to, edge-updates}
 use Rattle.model.proofs.expansion.Effects.{effect-alike, exp-split}
 use Rattle.model.proofs.expansion.Facts.{heap-closed, heap-kept, kept-same, unused-of, used-of}
 use Rattle.model.proofs.expansion.Folds.{counters-grow, fold-same, order-cat}
+use Rattle.model.proofs.listings.Exact.{full-exact}
 use Rattle.model.proofs.listings.FullListing.{full-exists}
-use Rattle.model.specs.Listings.{Exact, IsFull, Reached, Refused, UnusedZero, Writable, WritableLoc, linkAt, locAt, stmtRecord}
-use Rattle.model.specs.Notions.{In, Pairs, AddApart, Alike, Exclude, Expansion, Positive, Room, SmallEdge, SmallGuards, cat, flagged, nodesOf, segAt, sg-after, total, upd, seg, guardsOn, Alone}
-use Rattle.model.proofs.listings.Moves.{good-writable}
+use Rattle.model.specs.Listings.{Exact, GoodLoc, IsFull, Reached, Refused, UnusedZero, Writable, WritableLoc, linkAt, locAt, stmtRecord}
+use Rattle.model.specs.Notions.{In, Pairs, AddApart, Alike, Exclude, Expansion, Positive, Room, SmallEdge, SmallGuards, cat, flagged, nodesOf, segAt, sg-after, statementOf, total, upd, seg, guardsOn, Alone}
+use Rattle.model.proofs.listings.Moves.{good-writable, nodes-few}
 use Rattle.model.proofs.listings.Once.{good-once}
 use Rattle.model.proofs.listings.Outcomes.{accepted-exact, fits-accepted, full-one, is-accepted, records-distinct, refused-says, tables-hold}
-use Rattle.model.proofs.listings.Reached.{good-cover, good-edge, good-exclude, reached-good}
+use Rattle.model.proofs.listings.Reached.{good-cover, good-edge, good-exclude, reached-good, reached-stmt}
 use Rattle.model.proofs.records.ReadBack.{failed-fault, failed-length, failed-statement, location-fault, location-length, location-nodes, location-shape, location-statement, shape-length, shape-shape}
+use Rattle.model.proofs.records.Refusals.{accepted-input}
 use Rattle.model.proofs.records.ShapeBack.{layout-writable, shape-record-back}
 use Rattle.model.proofs.expansion.Start.{start}
 use Rattle.model.proofs.records.Statements.{record-back, statement-back}
 
--- ==== edges: of every location that is reached in an accepted input
+-- ==== locations and edges: of every location that is reached in an accepted input
+
+-- "A location is a statement with a shape, or a statement with a fault.": one of the routine's statements; a shape that
+-- is closed, with every node reachable, core and numbered at first visit, six pointers and at most twelve nodes
+abbrev pub LocationsAre : Type 0
+LocationsAre = (s : List ℕ) (r : Routine) → check s ≡ good r → (l : Loc) → Reached (r .stmts) (r .starts) l
+    → (statementOf l < length (r .stmts)) × GoodLoc l × (nodesOf l ≤ 12)
+
+pub locations-are : LocationsAre
+locations-are s r e l p = let g = reached-good r (check-good s r e) l p in
+    (reached-stmt s r (accepted-input s r e) l p, g, nodes-few l g)
 
 -- What a record holds is all of an edge: branch 0 or 1; two guards at most, on nodes of its location; one update for
 -- each new node, with a flag for each old one; "bits 12 and 13 the constant (−1, 0 or 1) plus one".
@@ -105,6 +117,13 @@ OneListing = (s : List ℕ) (r : Routine) → check s ≡ good r → (t : Listin
 
 pub one-full-listing : OneListing
 one-full-listing s r e = let f = full-exists s r e in (f .0, f .1, λ u k. full-one r u (f .0) k (f .1))
+
+-- and it is exact, whether or not any tables have places for it
+abbrev pub FullIsExact : Type 0
+FullIsExact = (s : List ℕ) (r : Routine) (t : Listing) → check s ≡ good r → IsFull r t → Exact r t
+
+pub full-is-exact : FullIsExact
+full-is-exact s r t e = full-exact r t (check-good s r e .distinct)
 
 -- "for 11 and 12 the number of the location being explored, or, while starting shapes are entered, the number, from 0
 -- among them, of the shape that found no place"; "For each edge, its target's place comes before its own."
@@ -190,13 +209,14 @@ edge-read-back from to e h b g = (
   edge-updates from to e,
 )
 
--- "each new counter its constant plus the old counters that it adds", from the code of an update
+-- "each new counter its constant plus the old counters that it adds", from the code of an update; its bits 14 and 15
+-- are zero
 abbrev pub UpdateReadBack : Type 0
-UpdateReadBack = (u : Update) (cs : List ℕ) → length (u .adds) ≤ 12 → u .plus ≤ 3 → applied cs (updateCode u)
-    ≡ (flagged (u .adds) cs + u .plus) - 1
+UpdateReadBack = (u : Update) (cs : List ℕ) → length (u .adds) ≤ 12 → u .plus ≤ 3
+    → (applied cs (updateCode u) ≡ (flagged (u .adds) cs + u .plus) - 1) × (updateCode u < 16384)
 
 pub update-read-back : UpdateReadBack
-update-read-back = applied-code
+update-read-back u cs h k = (applied-code u cs h k, code-below u h k)
 
 -- a shape's record and a statement's are read back, and an accepted record is what is written for what it was read as
 abbrev pub ShapeReadBack : Type 0

@@ -20,7 +20,7 @@ use Rattle.model.proofs.records.ToldNodes.{one-told, otherwise-higher}
 
 -- ==== what is told of the nodes
 
--- "exactly one of the four holds": a node is unreachable, a node is not core, a node is numbered otherwise, or it is a
+-- exactly one of the four holds: a node is unreachable, a node is not core, a node is numbered otherwise, or it is a
 -- shape; and the first three of one node each
 abbrev pub OneOfFour : Type 0
 OneOfFour = (h : Heap) → closed h ≡ true → OneTold h
@@ -38,8 +38,8 @@ numbered-higher h k n t = otherwise-higher h (test-closed h k) t
 
 -- ==== what is given
 
--- "a record that keeps the layout is given 9, 18 or 19 exactly under these conditions with exactly that node, or is a
--- shape and gets none of the three": after any earlier records
+-- a record that keeps the layout is given 9, 18 or 19 exactly under these conditions with exactly that node, or is a
+-- shape and gets none of the three, after any earlier records
 abbrev pub NodesOfRecord : Type 0
 NodesOfRecord = (earlier : List (List ℕ)) (r : List ℕ) → length r ≡ 32 → layoutH r ≡ true
     → OneTold (shapeOf r) × GivenAsTold (shapeOf r) (refusalH earlier r) (failedNode (checksH earlier r))
@@ -74,7 +74,7 @@ NodesRefused = (s : List ℕ) (i n v : ℕ) → noRecords s ≡ false → RightK
 pub nodes-refused : NodesRefused
 nodes-refused s i n v a f b c lt g = told-refused s i a f b c lt g
 
--- "All other refusals have node 0": of a translation and of an unfolding
+-- all other refusals have node 0: of a translation and of an unfolding
 abbrev pub OtherNodes : Type 0
 OtherNodes = (x : Refusal) → tellsNode (x .number) ≡ false
     → ((s : List ℕ) (a b : ℕ) → translate s a b .verdict ≡ isRefused x → x .node ≡ 0)

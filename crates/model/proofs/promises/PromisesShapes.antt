@@ -5,31 +5,41 @@ use Rattle.model.specs.Records.{isAccepted}
 use mathlib.Core.Path.{_≡_, sym}
 use mathlib.Core.Logic.{_↔_, _⊎_}
 use mathlib.Core.Bool.{false, true}
-use mathlib.Core.List.{List, map}
+use mathlib.Core.List.{List, [], map}
 use lib.ListN.{length, length-map}
 use Rattle.model.specs.Base.{mem, numbers, sum}
 use Rattle.model.specs.Heap.{Heap, IsHeap, cell, closed, inUse, kept, next, order}
 use Rattle.model.specs.Image.{foldImage, heapOf, unfoldHeap, unfoldImage}
+use Rattle.model.specs.Machine.{Entry, Stmt, step, went}
 use Rattle.model.specs.Shape.{Seg, canonical, cells, core, counters, nodeVal, segments, shape}
 use Rattle.model.proofs.shapes.Canon.{fold-canon}
 use Rattle.model.proofs.shapes.Canonical.{canon-canonical, canonical-canon, canonical-is}
 use Rattle.model.proofs.expansion.Cores.{core-is}
 use Rattle.model.proofs.expansion.Facts.{closed-test, heap-closed, heap-kept, kept-test, test-closed, test-kept, used-of, used-test}
 use Rattle.model.proofs.shapes.Iso.{renamed-same}
-use Rattle.model.specs.Notions.{In, NoDup, EveryCore, IsSegment, Merges, MergesTo, Positive, Reaches, Renames, Two, counted, flat, heads, segAt}
+use Rattle.model.specs.Notions.{In, NoDup, EveryCore, IsSegment, Merges, MergesTo, Positive, Reaches, Renames, Tours, Two, counted, flat, heads, segAt}
 use Rattle.model.proofs.shapes.Merge.{merge-ends, merge-exists, merge-heap, merge-keeps, merged-is-fold, merged-nodes}
-use Rattle.model.proofs.visits.Order.{order-once}
+use Rattle.model.proofs.visits.Order.{order-once, toured, tours-same}
 use Rattle.model.proofs.expansion.Reach.{cell-lost, kept-reaches, lost-cell, order-reaches, reaches-order}
 use Rattle.model.proofs.images.RoundTrips.{fold-room, fold-unfold-bytes, unfold-fold-bytes}
 use Rattle.model.proofs.shapes.SameShape.{fold-unfold, same-renamed}
 use Rattle.model.proofs.shapes.Segments.{each-cell-once, itself-again, segment-listed, segment-unique, segments-are, twelve}
 use Rattle.model.proofs.shapes.Unfold.{counters-unfold, shape-unfold, unfold-is-heap}
+use Rattle.model.proofs.ways.Location.{step-heap}
 use Rattle.model.proofs.ways.Ways.{count-length}
 
 -- ==== the visit
 
 -- "Nodes are numbered at first visit: from pointer 0 along successors until the walk ends or repeats, then pointer 1,
--- and so on." The visit holds exactly the reachable cells, each once.
+-- and so on.": the order is that of the walk without a bound on its steps, and of no other
+abbrev pub OrderIsWalk : Type 0
+OrderIsWalk = (h : Heap) → closed h ≡ true → Tours (next h) [] (h .ptrs) (order h)
+    × ((l : List ℕ) → Tours (next h) [] (h .ptrs) l → l ≡ order h)
+
+pub order-is-walk : OrderIsWalk
+order-is-walk h k = let t = toured h (test-closed h k) .tours in (t, λ l w. tours-same (next h) w t)
+
+-- the visit holds exactly the reachable cells, each once
 abbrev pub OrderIsReachable : Type 0
 OrderIsReachable = (h : Heap) → closed h ≡ true → (c : ℕ) → (mem c (order h) ≡ true) ↔ Reaches h c
 
@@ -59,6 +69,14 @@ lost-is-unreachable h k = let cl = test-closed h k in (
   λ r. cell-lost h cl (r .0)
       (used-of (next h (r .0)) (r .1)) (r .2),
 )
+
+-- and so it stays: a step that is made leaves a heap, whatever the statement and the entry
+abbrev pub StepKeepsHeaps : Type 0
+StepKeepsHeaps = (st : Stmt) (e : Entry) (h : Heap) → IsHeap h → (b t : ℕ) (g : Heap) → step st e h ≡ went b t g
+    → IsHeap g
+
+pub step-keeps-heaps : StepKeepsHeaps
+step-keeps-heaps = step-heap
 
 -- ==== core cells and segments
 

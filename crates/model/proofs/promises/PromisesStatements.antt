@@ -1,4 +1,5 @@
--- The promises about single statements that 02 amends or adds. Each is a type; its proof under it cites a law.
+-- The promises about tests and relinks, which 02 amends and adds; drops have a page of their own. Each is a type; its
+-- proof under it cites a law.
 use Prim.Native.Nat.{_≤_, ℕ}
 use mathlib.Core.Path.{_∙_, _≡_, ap, refl, sym}
 use mathlib.Core.Bool.{false, true}

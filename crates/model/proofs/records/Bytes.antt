@@ -71,16 +71,21 @@ bits-pow (suc n) (false ∷ fs) h = rw (pow-suc 2 n) (omega (arith, bits-pow n f
 pub bits-below : (fs : List Bool) → length fs ≤ 12 → bits fs < 4096
 bits-below fs h = bits-pow 12 fs h
 
--- an update's code, applied to the counters
+-- an update's code: fourteen bits, of which the low twelve are the flags
+pub code-below : (u : Update) → length (u .adds) ≤ 12 → u .plus ≤ 3 → updateCode u < 16384
+code-below u h k = let b = bits-below (u .adds) h in omega arith
+
+pub code-flags : (u : Update) → length (u .adds) ≤ 12 → updateCode u % 4096 ≡ bits (u .adds)
+code-flags u h = add-mul-mod-self-left (bits (u .adds)) 4096 (u .plus) ∙ mod-eq-of-lt (bits-below (u .adds) h)
+
+-- and applied to the counters
 pub applied-code : (u : Update) (cs : List ℕ) → length (u .adds) ≤ 12 → u .plus ≤ 3
     → applied cs (updateCode u) ≡ (flagged (u .adds) cs + u .plus) - 1
 applied-code u cs h k =
     let b = bits-below (u .adds) h in
-    let m : updateCode u % 4096 ≡ bits (u .adds) = add-mul-mod-self-left (bits (u .adds)) 4096 (u .plus)
-    ∙ mod-eq-of-lt b in
     let d : updateCode u / 4096 ≡ u .plus = omega arith in
     let p : u .plus % 4 ≡ u .plus = mod-eq-of-lt (omega arith) in
-    rw (m, d, p, added-bits (u .adds) cs)
+    rw (code-flags u h, d, p, added-bits (u .adds) cs)
 
 joined-record : (rs : List (List ℕ)) (z : List ℕ) (i : ℕ) → ((r : List ℕ) → In r rs → length r ≡ 32) → i < length rs
     → take 32 (drop (32 * i) (joined rs ++ z)) ≡ getD rs i []

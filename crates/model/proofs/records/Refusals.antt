@@ -10,15 +10,19 @@ use mathlib.Core.List.{List, [], _++_, _∷_, append-nil}
 use native.Mathlib.Nat.{zero-add}
 use native.Mathlib.Omega.{arith}
 use lib.Dec.{eqb, leb}
-use lib.ListN.{getD, length, take}
+use lib.ListN.{getD, length, length-map, take}
+use lib.Seq.{getD-take, length-take-le}
 use Rattle.model.specs.Base.{all, any, count, mem, sameList}
 use borrow.Author.Tests.{leb-true}
-use Rattle.model.proofs.lists.Lists.{all-in, mem-in}
+use Rattle.model.proofs.lists.Lists.{all-at, all-in, getD-map, mem-in}
+use Rattle.model.proofs.lists.Sorted.{kinds-sorted}
+use Rattle.model.specs.Edges.{stmtAt}
 use Rattle.model.specs.Heap.{next}
-use Rattle.model.specs.Records.{Refusal, Row, checksH, checksRecord, checksS, failedNode, firstFailed, isH, isS, refusal, refusalAt}
+use Rattle.model.specs.Records.{Refusal, Row, checksH, checksRecord, checksS, failedNode, firstFailed, isH, isS, refusal, refusalAt, stmtOf}
 use Rattle.model.specs.Translate.{Routine, bad, badKind, badRecord, between, check, checkCounts, checkKinds, checkRecords, good, routineOf}
 use Rattle.model.proofs.records.Checked.{bad-good, good-inj}
-use Rattle.model.specs.Listings.{BadInput, GoodInput, bad-kind, bad-length, bad-record, bad-shapes, bad-statements, noRecords, numbersH, numbersInput, numbersS, recordChecks, recordRefusal, recordsOf, wrongKind}
+use Rattle.model.proofs.records.Statements.{Leads, leads}
+use Rattle.model.specs.Listings.{BadInput, GoodInput, bad-kind, bad-length, bad-record, bad-shapes, bad-statements, noRecords, numbersH, numbersInput, numbersS, recordChecks, recordNode, recordRefusal, recordsOf, wrongKind}
 use Rattle.model.proofs.lists.Logic.{and-l, and-r, bool-case, clash, not-false, or-r}
 
 -- ---- the first record of a wrong kind
@@ -217,6 +221,46 @@ refused-input s x e = ⊎-elim
     (λ (p : (y : Refusal) × (check s ≡ bad y) × BadInput s y). subst (BadInput s) (bad-inj (sym (p .1) ∙ e)) (p .2))
     (λ (p : (r : Routine) × (check s ≡ good r) × GoodInput s r). bad-good (sym e ∙ p .1)) (check-cases s)
 
+-- records of right kinds all, and the first of a wrong kind
+kinds-none : (rs : List (List ℕ)) → ((j : ℕ) → j < length rs → wrongKind rs j ≡ false) → badKind false 0 rs ≡ none
+kinds-none rs f = ⊎-elim (λ (k, q, lt, w, g). clash w (f k lt)) (λ (q, g). q) (kind-cases false 0 rs)
+
+kind-found : (rs : List (List ℕ)) (i : ℕ) → i < length rs → ((j : ℕ) → j < i → wrongKind rs j ≡ false)
+    → wrongKind rs i ≡ true → badKind false 0 rs ≡ some i
+kind-found rs i lt f w = ⊎-elim
+    (λ (k, q, l, v, g). let a : k < i → ⊥ = λ z. clash v (f k z) in let b : i < k → ⊥ = λ z. clash w (g i z) in
+    q ∙ ap some (omega arith))
+    (λ (q, g). clash w (g i lt)) (kind-cases false 0 rs)
+
+-- the first that is refused
+record-found : (rs : List (List ℕ)) (n i : ℕ) → i < length rs → ((j : ℕ) → j < i → recordRefusal rs j ≡ 0)
+    → recordRefusal rs i ≡ suc n → badRecord (count isS rs) 0 [] rs ≡ some (refusalAt (suc n) i (recordNode rs i))
+record-found rs n i lt f w = ⊎-elim
+    (λ (k, m, q, l, v, g).
+    let u = ap firstFailed (none-earlier rs k) ∙ v in
+    let a : k < i → ⊥ = λ z. let y = f k z in omega arith in
+    let b : i < k → ⊥ = λ z. let y = ap firstFailed (none-earlier rs i) ∙ g i z in omega arith in
+    let e : k ≡ i = omega arith in
+    let c : suc m ≡ suc n = sym u ∙ ap (recordRefusal rs) e ∙ w in
+    let p : 0 + k ≡ i = omega arith in
+    let d = ap failedNode (sym (none-earlier rs k)) ∙ ap (recordNode rs) e in
+    q ∙ (λ x. some (refusalAt (c x) (p x) (d x))))
+    (λ (q, g). absurd (let y = ap firstFailed (none-earlier rs i) ∙ g i lt in omega arith))
+    (record-cases (count isS rs) 0 [] rs)
+
+-- an input with something wrong is refused so
+pub bad-refused : (s : List ℕ) (x : Refusal) → BadInput s x → check s ≡ bad x
+bad-refused s x (bad-length e a) = no-records s a ∙ ap bad (sym e)
+bad-refused s x (bad-kind i e a lt f w) =
+    check-kinds s a ∙ rw (kind-found (recordsOf s) i lt f w, checkKinds) (ap bad (sym e))
+bad-refused s x (bad-statements e a f b) =
+    kinds-counts s a (kinds-none (recordsOf s) f) ∙ rw (b, checkCounts) (ap bad (sym e))
+bad-refused s x (bad-shapes e a f b c) =
+    kinds-counts s a (kinds-none (recordsOf s) f) ∙ rw (b, checkCounts) (rw (c, checkCounts) (ap bad (sym e)))
+bad-refused s x (bad-record n i e a f b c lt g w) =
+    counts-records s a (kinds-none (recordsOf s) f) f b c
+    ∙ rw (record-found (recordsOf s) n i lt g w, checkRecords) (ap bad (sym e))
+
 -- an accepted input has nothing wrong with it
 pub accepted-input : (s : List ℕ) (r : Routine) → check s ≡ good r → GoodInput s r
 accepted-input s r e = ⊎-elim
@@ -238,6 +282,25 @@ good-accepted s r G = ⊎-elim
     (λ (p : (x : Refusal) × (check s ≡ bad x) × BadInput s x). absurd (bad-not-good s (p .0) r (p .2) G))
     (λ (p : (q : Routine) × (check s ≡ good q) × GoodInput s q). p .1 ∙ ap good (p .2 .isRead ∙ sym (G .isRead)))
     (check-cases s)
+
+-- ---- the statements of an input with nothing wrong
+
+-- there are some, and each leads to one of them
+pub good-leads : (s : List ℕ) (r : Routine) → GoodInput s r → (1 ≤ length (r .stmts))
+    × ((i : ℕ) → i < length (r .stmts) → Leads (length (r .stmts)) (stmtAt (r .stmts) i))
+good-leads s r G =
+    let rs = recordsOf s in
+    let n = count isS rs in
+    let S = kinds-sorted 0 rs (kinds-none rs (G .kinds)) in
+    let l : length (take n rs) ≡ n = length-take-le n rs (omega (arith, S .whole)) in
+    rw (G .isRead, length-map, l) (
+      leb-true 1 n (and-l (leb 1 n) (leb n 64) (G .statements)),
+      λ i lt.
+          let e = getD-take n rs i [] lt in
+          let t = ap isS (sym e) ∙ all-at isS (take n rs) [] i (S .statements) (omega arith) in
+          subst (Leads n) (sym (getD-map stmtOf (take n rs) i [] _ (omega arith) ∙ ap stmtOf e))
+          (leads n (getD rs i []) (rw t at (G .records i (omega (arith, S .whole))))),
+    )
 
 -- ---- numbers and places
 

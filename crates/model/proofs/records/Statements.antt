@@ -1,20 +1,21 @@
--- Statement records: how a statement is written, that it is read back, and that an accepted record is written again as
--- it stood.
-use Prim.Native.Nat.{_<_, ℕ}
+-- Statement records: how a statement is written, that it is read back, where an accepted one leads, and that its record
+-- is written again as it stood.
+use Prim.Native.Nat.{_<_, suc, zero, ℕ}
 use Rattle.model.proofs.records.Checks.{none-failed}
 use Rattle.model.specs.Notions.{Pass}
-use mathlib.Core.Path.{_∙_, _≡_, ap, refl, sym}
-use mathlib.Core.Bool.{Bool, _&&_, false, true}
+use mathlib.Core.Path.{_∙_, _≡_, ap, refl, subst, sym}
+use mathlib.Core.Bool.{Bool, _&&_, false, not, true}
 use mathlib.Core.List.{List, [], _∷_}
 use native.Mathlib.Omega.{arith}
 use lib.ListN.{drop, length, replicate}
 use borrow.Author.Tests.{eqb-true, ltb-true}
 use Rattle.model.specs.Base.{all}
-use Rattle.model.specs.Machine.{Op, Stmt, choose, clear, copy, free, isNull, letGo, load, new, relink, same, setNull, skip, stop, store}
-use Rattle.model.specs.Records.{byte, fieldsS, isS, isZero, opOf, pointerField, refusalS, stmtOf, targetField, usesFirst, usesSecond, usesU, usesW, checksS, opCount}
+use Rattle.model.specs.Heap.{Heap}
+use Rattle.model.specs.Machine.{Kind, Op, Stmt, acts, branch, branchBy, choose, clear, copy, drops, free, halts, isNull, isStop, kind, letGo, load, new, picks, relink, same, setNull, skip, stop, store, target, tests}
+use Rattle.model.specs.Records.{byte, fieldsS, isS, isZero, opOf, pointerField, refusalS, stmtOf, targetBelow, targetField, usesFirst, usesSecond, usesU, usesW, checksS, opCount}
 use Rattle.model.proofs.records.Bytes.{all-zero}
 use Rattle.model.specs.Listings.{UnusedZero, field, stmtRecord, opFields, fieldsOf, OpFields}
-use Rattle.model.proofs.lists.Logic.{and-l, and-r, clash}
+use Rattle.model.proofs.lists.Logic.{and-l, and-r, bool-case, clash}
 use Rattle.model.proofs.records.Ops.{each-op}
 
 op-back : (op : Op) → (let o = opFields op in opOf (o .number) (o .u) (o .w)) ≡ op
@@ -95,6 +96,56 @@ statement-fields n r e =
     let q = passed-s n r e in
     let f = fields-hold r (q .1 .0) in
     (ltb-true op opCount (q .0), pointer-low (usesU op) (byte r 2) (f .0), pointer-low (usesW op) (byte r 3) (f .1))
+
+-- ---- where its branches lead
+
+-- a kind with a second branch
+abbrev turns : Kind → Bool
+turns halts = false
+turns (acts x) = false
+turns (drops u) = false
+turns (tests u s) = true
+turns picks = true
+
+branch-first : (k : Kind) (p : ℕ) (h : Heap) → turns k ≡ false → branchBy k p h ≡ 0
+branch-first halts p h e = refl
+branch-first (acts x) p h e = refl
+branch-first (drops u) p h e = refl
+branch-first (tests u s) p h e = clash refl e
+branch-first picks p h e = clash refl e
+
+-- an op that is no stop uses its first target, and one with a second branch the second
+first-used : (op u w : ℕ) → op < opCount → not (isStop (kind (opOf op u w))) ≡ usesFirst op
+first-used op u w = each-op (λ o. not (isStop (kind o))) usesFirst u w refl op
+
+second-used : (op u w : ℕ) → op < opCount → turns (kind (opOf op u w)) ≡ usesSecond op
+second-used op u w = each-op (λ o. turns (kind o)) usesSecond u w refl op
+
+used-below : (n : ℕ) (used : Bool) (b : ℕ) → targetBelow n used b ≡ true → used ≡ true → b < n
+used-below n true b h e = ltb-true b n h
+used-below n false b h e = clash e refl
+
+target-either : (st : Stmt) (n b : ℕ) → st .firstTarget < n → st .secondTarget < n → target st b < n
+target-either st n zero p q = p
+target-either st n (suc b) p q = q
+
+-- where an accepted statement leads: each branch to one of the n statements
+abbrev pub Leads : ℕ → Stmt → Type 0
+Leads n st = isStop (kind (st .op)) ≡ false → (p : ℕ) (h : Heap) → target st (branch (st .op) p h) < n
+
+pub leads : (n : ℕ) (r : List ℕ) → refusalS n r ≡ 0 → Leads n (stmtOf r)
+leads n r e goes p h =
+    let op = byte r 1 in
+    let known = statement-fields n r e .0 in
+    let x = targetBelow n (usesFirst op) (byte r 4) in
+    let y = targetBelow n (usesSecond op) (byte r 5) in
+    let q = passed-s n r e .1 .1 .0 in
+    let used : usesFirst op ≡ true = sym (first-used op (byte r 2) (byte r 3) known) ∙ ap not goes in
+    let a : byte r 4 < n = used-below n (usesFirst op) (byte r 4) (and-l x y q) used in
+    bool-case (turns (kind (stmtOf r .op)))
+    (λ t. target-either (stmtOf r) n (branch (stmtOf r .op) p h) a
+    (used-below n (usesSecond op) (byte r 5) (and-r x y q) (sym (second-used op (byte r 2) (byte r 3) known) ∙ t)))
+    (λ t. subst (λ b. target (stmtOf r) b < n) (sym (branch-first (kind (stmtOf r .op)) p h t)) a)
 
 -- ---- a record is written again as it stood
 

@@ -78,7 +78,7 @@ module _ (r : Routine) (t : Listing) (X : Exact r t) (G : GoodStarts r) (a b : �
           bool-case (isStop (kind (st .op)))
           (λ z. rw z (not-true (leaves T (c .loc)) (λ e.
           let k = link-in (c .loc) e in
-          let w = edge-way (q .stmt) st H (m .2) (m .3) (k .0) (subst (λ l. In (k .0) (edgesOf sts l)) (m .0) (k .1)) in
+          let w = edge-way (q .stmt) st (shape H) (k .0) (subst (λ l. In (k .0) (edgesOf sts l)) (m .0) (k .1)) in
           clash z (edge-goes (q .stmt) (length (shape H .slots)) (w .0) st (k .0) (w .2)))))
           (λ z. rw z
           (let e : Entry = record { pick = 0; cellNo = length (H .slots) } in

@@ -5,21 +5,23 @@ use mathlib.Core.Logic.{_⊎_, inl, inr}
 use mathlib.Core.Bool.{cond, false, true}
 use mathlib.Core.List.{List, [], _∷_, map}
 use native.Mathlib.Omega.{arith}
+use lib.Dec.{eqb}
 use lib.ListN.{getD, length, set}
-use borrow.Author.Tests.{ne-eqb}
-use Rattle.model.specs.Base.{joined, mem}
-use Rattle.model.specs.Edges.{Edge, Update, Way, Weight, at, edgeBy, edgesAt, stepBy, updateOf, view, waysOf, whole}
+use borrow.Author.Tests.{eqb-true, ne-eqb}
+use Rattle.model.specs.Base.{any, joined, mem, numbers}
+use Rattle.model.specs.Edges.{Edge, Update, Way, Weight, addsCounter, at, edgeBy, edgesAt, stepBy, updateOf, view, waysOf, whole}
 use Rattle.model.specs.Heap.{Heap, Slot, Val, kept, next, null, order, ptr, tour, undef, walk}
 use Rattle.model.specs.Machine.{Entry, Kind, Op, Stmt, accepts, actionOf, acts, answerOf, branch, choose, clear, collect, collects, copy, done, drops, effect, entry, fault, faulted, free, halts, isNull, isStop, kind, leak, letGo, load, new, perform, picks, relink, same, setNull, setPtr, settle, skip, step, stop, store, tests, went}
-use Rattle.model.specs.Notions.{ClosedHeap, In, Kept, Reaches, segAt}
+use Rattle.model.specs.Notions.{ClosedHeap, In, Kept, Reaches, gathered, segAt}
 use Rattle.model.specs.Shape.{Seg, cells, core, segments, shape}
 use Rattle.model.proofs.expansion.Collect.{collect-same, order-collect}
 use Rattle.model.proofs.expansion.Cuts.{flat-cut, flat-mem, mem-flat-in}
 use Rattle.model.proofs.expansion.Effects.{set-closed}
 use Rattle.model.proofs.expansion.Reach.{order-reaches, reaches-order}
 use Rattle.model.proofs.expansion.Step.{step-as, step-go}
-use Rattle.model.proofs.lists.Lists.{getD-in, in-map, map-in}
-use Rattle.model.proofs.lists.Logic.{clash, eqb-same}
+use Rattle.model.proofs.lists.Lists.{getD-in, in-map, map-in, map-same}
+use Rattle.model.proofs.lists.Logic.{bool-case, clash, eqb-same}
+use Rattle.model.proofs.lists.Numbers.{in-numbers}
 use Rattle.model.proofs.visits.Order.{toured, used-below}
 use Rattle.model.proofs.ways.Ways.{whole-adds, whole-one, whole-rest}
 use Rattle.model.proofs.ways.Weights.{adds-update, count-none, update-adds}
@@ -172,3 +174,18 @@ module _ (st : Stmt) (u : ℕ) (k : kind (st .op) ≡ drops u) where
           )) in
           let rests = count-none _ (cells s) (λ c m q. whole-rest nodes [] c q) in
           ap (λ (x : Update). x .plus) e ∙ (omega arith)
+
+      -- each update adds the counters of the nodes that its segment joins
+      pub drop-updates : going .updates ≡ map (gathered nodes) (segments (collect cut))
+      drop-updates = map-same (updateOf nodes carries) (gathered nodes) (segments (collect cut)) (λ s is.
+          let u = updateOf nodes carries in
+          let plus = no-constant (u s) (map-in u s (segments (collect cut)) is) in
+          let adds = map-same (λ n. any (λ c. addsCounter n (carries c)) (cells s)) (λ n. mem n (cells s))
+          (numbers 0 nodes) (λ n r. let lt = in-numbers 0 nodes n r .1 in
+          λ j. any (λ c. weighed n c (omega arith) j) (cells s)) in
+          λ j. record { adds = adds j; plus = plus j })
+        where
+          weighed : (n c : ℕ) → n < nodes → addsCounter n (carries c) ≡ eqb n c
+          weighed n c lt = bool-case (eqb c nodes)
+              (λ e. let q = eqb-true c nodes e in rw (e, ne-eqb n c (λ z. omega arith)))
+              (λ e. rw e)

@@ -5,16 +5,16 @@ use mathlib.Core.Path.{_∙_, _≡_, ap, refl, subst, sym}
 use mathlib.Core.Logic.{inl}
 use mathlib.Core.Option.{some}
 use mathlib.Core.Bool.{false, true}
-use mathlib.Core.List.{[], _∷_, map}
+use mathlib.Core.List.{List, [], _∷_, map}
 use native.Mathlib.Omega.{arith}
 use lib.Dec.{leb}
 use lib.ListN.{length}
 use Rattle.model.specs.Edges.{Edge, Way, edgeBy, edgesAt, picksOf, stepBy, ways, whole, view, noNode, waysOf}
-use Rattle.model.specs.Heap.{Heap, inUse, kept, next}
+use Rattle.model.specs.Heap.{Heap, IsHeap, inUse, kept, next}
 use Rattle.model.specs.Machine.{Answer, Entry, Op, Stmt, accepts, faulted, picks, refused, step, stopped, went, isStop, kind, entry, Action, action, actionOf}
 use Rattle.model.specs.Runs.{State, Advance, made}
 use Rattle.model.specs.Shape.{counters, segments, shape}
-use Rattle.model.proofs.expansion.Facts.{kept-test, unused-of}
+use Rattle.model.proofs.expansion.Facts.{heap-closed, heap-kept, is-heap, kept-test, unused-of}
 use Rattle.model.specs.Notions.{Kept, In, SmallEdge, segAt, worth, ClosedHeap, guardsOn}
 use Rattle.model.proofs.expansion.Folds.{kept-down}
 use Rattle.model.proofs.ways.Leave.{Fit, begin}
@@ -37,6 +37,15 @@ edge-goes s k y st E i = bool-case (isStop (kind (st .op)))
     (λ e. bool-case (accepts (st .op) (entry (y .pick) k) (y .heap)) (λ a. absurd (rw (a, e) at i))
     (λ a. absurd (rw a at i)))
     (λ e. e)
+
+-- the way of an edge
+pub edge-way : (s : ℕ) (st : Stmt) (h : Heap) (E : Edge) → In E (edgesAt s st h)
+    → let k = length (h .slots) in (y : Way) × In y (ways (st .op) h) × In E (edgeBy s k y (stepBy st k y))
+edge-way s st h E i =
+    let by : Way → List Edge = λ y. edgeBy s (length (h .slots)) y (stepBy st (length (h .slots)) y) in
+    let r = in-joined E (map by (ways (st .op) h)) i in
+    let q = in-map by (r .0) (ways (st .op) h) (r .1) in
+    (q .0, q .1, subst (In E) (q .2) (r .2))
 
 -- at choose the branch of an edge is the pick of its way, since nothing is lost
 pub choose-edge : (s k : ℕ) (st : Stmt) → kind (st .op) ≡ picks → (y : Way) → kept (y .heap) ≡ true → (E : Edge)
@@ -82,14 +91,6 @@ module _ (s : ℕ) (st : Stmt) (H : Heap) (cl : ClosedHeap H) (kp : Kept H) wher
         subst (λ (y : Advance State). Fit (y .after) (r .0 .to) (map (worth (counters H)) (r .0 .updates))) z (L .fits),
       )
 
-  -- the way of an edge
-  pub edge-way : (E : Edge) → In E (edgesAt s st (shape H))
-      → (y : Way) × In y (ways op-of (shape H)) × In E (edgeBy s nodes y (stepBy st nodes y))
-  edge-way E i =
-      let r = in-joined E (map (λ z. edgeBy s nodes z (stepBy st nodes z)) (ways op-of (shape H))) i in
-      let q = in-map (λ z. edgeBy s nodes z (stepBy st nodes z)) (r .0) (ways op-of (shape H)) (r .1) in
-      (q .0, q .1, subst (In E) (q .2) (r .2))
-
   -- a way of choose has the shape as it is
   choose-way : kind op-of ≡ picks → (y : Way) → In y (ways op-of (shape H)) → (y .heap ≡ shape H) × (y .pick ≤ 1)
   choose-way q y i =
@@ -109,7 +110,7 @@ module _ (s : ℕ) (st : Stmt) (H : Heap) (cl : ClosedHeap H) (kp : Kept H) wher
       × Fit (x .after) (E .to) (map (worth (counters H)) (E .updates))
       × SmallEdge nodes E
   leave-backward E i on e p u =
-      let w = edge-way E i in
+      let w = edge-way s st (shape H) E i in
       let y = w .0 in
       let on′ = ap (λ gs. guardsOn gs (counters H)) (sym (way-guards s nodes y (stepBy st nodes y) E (w .2))) ∙ on in
       let g : isStop (kind op-of) ≡ false = edge-goes s nodes y st E (w .2) in
@@ -128,3 +129,11 @@ module _ (s : ℕ) (st : Stmt) (H : Heap) (cl : ClosedHeap H) (kp : Kept H) wher
         subst (λ (x : Edge). Fit (L .taken .after) (x .to) (map (worth (counters H)) (x .updates))) (sym z) (L .fits),
         subst (SmallEdge nodes) (sym z) (r .4),
       )
+
+-- a step leaves a heap
+pub step-heap : (st : Stmt) (e : Entry) (h : Heap) → IsHeap h → (b t : ℕ) (g : Heap) → step st e h ≡ went b t g
+    → IsHeap g
+step-heap st e h x b t g q =
+    let F = leave-forward 0 st h (heap-closed h x) (heap-kept h x) e (record { branchNo = b; after = begin t g })
+    (ap (made (begin 0 h)) q) .4 in
+    is-heap g (F .2) (F .3)

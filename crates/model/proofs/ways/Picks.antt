@@ -8,7 +8,7 @@ use native.Mathlib.Omega.{arith}
 use borrow.Author.Tests.{le-leb, leb-true}
 use Rattle.model.specs.Edges.{picksOf}
 use Rattle.model.specs.Heap.{Heap, inUse, next, ptr, sameVal, unused}
-use Rattle.model.specs.Machine.{Action, Entry, Kind, Op, Stmt, accepts, acceptsCell, acceptsPick, action, acts, branchBy, drops, follow, halts, tests, isStop, kind, link, make, picks, point, release, compare, splice, stay, step, test, valueOf}
+use Rattle.model.specs.Machine.{Action, Entry, Kind, Op, Stmt, accepts, acceptsCell, acceptsPick, action, acts, branchBy, drops, halts, tests, isStop, kind, makes, picks, step, test, valueOf}
 use Rattle.model.specs.Notions.{In, Room}
 use Rattle.model.specs.Runs.{Advance, State, made}
 use Rattle.model.proofs.expansion.Facts.{unused-of}
@@ -88,34 +88,14 @@ low-pick picks p l = le-leb p 1 (l refl)
 -- ---- cells for new
 
 cell-room : (a : Action) (h : Heap) (c : ℕ) → acceptsCell a (next h c) ≡ true → Room a h c
-cell-room stay h c e = tt
-cell-room (compare u s) h c e = tt
-cell-room (point u s) h c e = tt
-cell-room (follow u w) h c e = tt
-cell-room (link u s) h c e = tt
-cell-room (splice u w) h c e = tt
-cell-room (make u) h c e = bool-case (inUse (next h c)) (λ z. clash (rw z at e) refl) (λ z. unused-of (next h c) z)
-cell-room (release u) h c e = tt
+cell-room a h c e m =
+    bool-case (inUse (next h c)) (λ z. clash (rw (m, z) at e) refl) (λ z. unused-of (next h c) z)
 
 room-cell : (a : Action) (h : Heap) (c : ℕ) → Room a h c → acceptsCell a (next h c) ≡ true
-room-cell stay h c r = refl
-room-cell (compare u s) h c r = refl
-room-cell (point u s) h c r = refl
-room-cell (follow u w) h c r = refl
-room-cell (link u s) h c r = refl
-room-cell (splice u w) h c r = refl
-room-cell (make u) h c r = rw r
-room-cell (release u) h c r = refl
+room-cell a h c r = bool-case (makes a) (λ m. rw (m, r m)) (λ m. rw m)
 
 pub room-of : (a : Action) (h : Heap) (c : ℕ) → next h c ≡ unused → Room a h c
-room-of stay h c e = tt
-room-of (compare u s) h c e = tt
-room-of (point u s) h c e = tt
-room-of (follow u w) h c e = tt
-room-of (link u s) h c e = tt
-room-of (splice u w) h c e = tt
-room-of (make u) h c e = e
-room-of (release u) h c e = tt
+room-of a h c e m = e
 
 -- ---- accepted entries
 

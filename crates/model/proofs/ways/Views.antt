@@ -3,21 +3,33 @@
 use Prim.Native.Nat.{_≤_, ℕ}
 use mathlib.Core.Path.{_∙_, _≡_, ap, refl, subst, sym}
 use mathlib.Core.Logic.{⊎-elim, inl, inr}
-use mathlib.Core.Bool.{true}
+use mathlib.Core.Bool.{true, false}
 use mathlib.Core.List.{List, [], _∷_}
 use native.Mathlib.Omega.{arith}
 use lib.ListN.{length}
 use Rattle.model.specs.Edges.{Guard, Way, splitHeap, whole, View, noNode, oneNode, twoNodes, view, waysOf, picksOf, Test, isOne, isMore, oneAt, moreAt}
 use Rattle.model.specs.Heap.{Heap, cell, next, Slot, ptr}
-use Rattle.model.specs.Machine.{picks, Kind, Action, acceptsCell, point, acts, follow, link, make, release, compare, splice, stay}
+use Rattle.model.specs.Machine.{picks, Kind, Action, acceptsCell, makes, point, acts, follow, link, make, release, compare, splice, stay}
 use Rattle.model.specs.Shape.{Seg}
 use Rattle.model.proofs.expansion.Effects.{closed-ptr}
 use Rattle.model.proofs.expansion.Splits.{pair-is, view-is}
 use Rattle.model.specs.Notions.{Room, sg-after, AllClosed, Closed, In, Used, Views}
 use Rattle.model.proofs.lists.Lists.{in-map}
+use Rattle.model.proofs.lists.Logic.{clash}
 
 pub acts-no-pick : (a : Action) → acts a ≡ picks → ⊥
 acts-no-pick a e = let z : _≡_ {A = ℕ} 0 1 = cc in omega arith
+
+-- what looks at a node takes no cell
+pub view-makes : (a : Action) (h : Heap) (n : ℕ) → Views (view a h) n → makes a ≡ false
+view-makes stay h n e = refl
+view-makes (compare u s) h n e = refl
+view-makes (point u s) h n e = refl
+view-makes (follow u w) h n e = refl
+view-makes (link u s) h n e = refl
+view-makes (splice u w) h n e = refl
+view-makes (make u) h n e = absurd e
+view-makes (release u) h n e = refl
 
 pub record Looks (a : Action) : Type 0 where
   pub takes : (s : Slot) → acceptsCell a s ≡ true
@@ -25,14 +37,9 @@ pub record Looks (a : Action) : Type 0 where
   pub chains : (k c : ℕ) (sg : ℕ → Seg) → sg-after a k c sg ≡ sg
 
 pub view-looks : (a : Action) (h : Heap) (n : ℕ) → Views (view a h) n → Looks a
-view-looks stay h n e = absurd e
-view-looks (compare u s) h n e = absurd e
-view-looks (point u s) h n e = absurd e
-view-looks (follow u w) h n e = record { takes = λ s. refl; roomy = λ h c. tt; chains = λ k c sg. refl }
-view-looks (link u s) h n e = record { takes = λ s. refl; roomy = λ h c. tt; chains = λ k c sg. refl }
-view-looks (splice u w) h n e = record { takes = λ s. refl; roomy = λ h c. tt; chains = λ k c sg. refl }
-view-looks (make u) h n e = absurd e
-view-looks (release u) h n e = record { takes = λ s. refl; roomy = λ h c. tt; chains = λ k c sg. refl }
+view-looks a h n e =
+    let m = view-makes a h n e in
+    record { takes = λ s. rw m; roomy = λ h c t. clash t m; chains = λ k c sg. rw m }
 
 -- each node that is looked at is in use
 pub ptr-used : (h : Heap) (u n : ℕ) → AllClosed (next h) (h .ptrs) → ptr h u ≡ cell n → Used (next h) n

@@ -10,7 +10,7 @@ use lib.ListN.{List·getD-eq-default, List·getD-map, getD, length, length-map}
 use borrow.Author.Tests.{eqb-false, eqb-true, ne-eqb}
 use Rattle.model.specs.Edges.{Guard, Way, Weight, addsCounter, counter, isOneCell, isLess, one, less, split, splitHeap, whole, view}
 use Rattle.model.specs.Heap.{Heap, next, unused}
-use Rattle.model.specs.Machine.{Action, point, follow, link, make, release, compare, splice, stay}
+use Rattle.model.specs.Machine.{Action, makes}
 use Rattle.model.specs.Shape.{Seg, counters, last, nodeSlot, segments, shape, size}
 use Rattle.model.proofs.shapes.Canon.{single}
 use Rattle.model.proofs.expansion.Effects.{exp-split}
@@ -44,16 +44,10 @@ same-weigh k sg f h z e i = eq-case i k (λ p. ap (λ x. size (sg x)) p ∙ z �
 
 weigh-of : (a : Action) (k c : ℕ) (sg : ℕ → Seg) (f : ℕ → ℕ) → ((i : ℕ) → eqb i k ≡ false → size (sg i) ≡ f i)
     → size (sg k) ≡ 1 → f k ≡ 1 → (i : ℕ) → size (sg-after a k c sg i) ≡ f i
-weigh-of stay k c sg f h z e = same-weigh k sg f h z e
-weigh-of (compare u s) k c sg f h z e = same-weigh k sg f h z e
-weigh-of (point u s) k c sg f h z e = same-weigh k sg f h z e
-weigh-of (follow u w) k c sg f h z e = same-weigh k sg f h z e
-weigh-of (link u s) k c sg f h z e = same-weigh k sg f h z e
-weigh-of (splice u w) k c sg f h z e = same-weigh k sg f h z e
-weigh-of (make u) k c sg f h z e = λ i.
-    eq-case i k (λ p. ap size (upd-at sg k (seg c []) i p) ∙ sym e ∙ ap f (sym p))
-    (λ p. ap size (upd-off sg k (seg c []) i p) ∙ h i p)
-weigh-of (release u) k c sg f h z e = same-weigh k sg f h z e
+weigh-of a k c sg f h z e i = bool-case (makes a)
+    (λ m. rw m (eq-case i k (λ p. ap size (upd-at sg k (seg c []) i p) ∙ sym e ∙ ap f (sym p))
+    (λ p. ap size (upd-off sg k (seg c []) i p) ∙ h i p)))
+    (λ m. rw m (same-weigh k sg f h z e i))
 
 -- the weights of the two kinds of way
 module _ (k : ℕ) (cs : List ℕ) where

@@ -38,7 +38,7 @@ add-end : tie.Need-add-end
 add-end c = omega (arith, in-table c)
 
 part-of-requires-2 : tie.Need-part-of-requires-2
-part-of-requires-2 c κs = (omega arith, in-table c .0)
+part-of-requires-2 c κs = (omega arith, omega (arith, in-table c))
 
 returns-2 : tie.Need-returns-2
 returns-2 c =

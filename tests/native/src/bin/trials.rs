@@ -110,13 +110,7 @@ fn heap(d: &mut Draw, i: usize) -> (Vec<u8>, Vec<u8>) {
 fn folds(out: &mut Stream, d: &mut Draw) {
     for i in 0..HEAPS {
         let (pointers, cells) = if i % 4 == 0 { heap(d, i) } else { damaged_image(d, cells(i)) };
-        let told = reference::fold(&pointers, &cells);
-        out.begin(b'F');
-        out.block(&pointers);
-        out.block(&cells);
-        out.refusal(told.refusal);
-        out.block(&told.record);
-        out.numbers(&told.counters.map(|counter| counter as usize));
+        out.folding(&pointers, &cells);
     }
 }
 
