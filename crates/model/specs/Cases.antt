@@ -18,8 +18,8 @@ abbrev line : ℕ → ℕ → List ℕ
 line x z = bytesOf 32 (x * 16 ^ z)
 
 -- the records in use, each L and then each E: what the lines of the program `translate` show
-abbrev inUse : Tables → List (List ℕ)
-inUse t = map (recordAt (t .locBytes)) (numbers 0 (t .locCount))
+abbrev listedRecords : Tables → List (List ℕ)
+listedRecords t = map (recordAt (t .locBytes)) (numbers 0 (t .locCount))
     ++ map (recordAt (t .edgeBytes)) (numbers 0 (t .edgeCount))
 
 pub record Case : Type 0 where
@@ -34,7 +34,7 @@ isListed (isRefused x) = false
 abbrev pub holdsFor : Case → Bool
 holdsFor c =
     let o = translate (joined (c .input)) 1024 1024 in
-    isListed (o .verdict) && sameList (sameList eqb) (inUse (o .tables)) (c .output)
+    isListed (o .verdict) && sameList (sameList eqb) (listedRecords (o .tables)) (c .output)
 
 abbrev pub cases : List Case
 cases =
