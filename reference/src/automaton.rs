@@ -32,24 +32,29 @@ fn two_bytes(record: &[u8], at: usize) -> u16 {
     u16::from(record[at]) | u16::from(record[at + 1]) << 8
 }
 
-fn read_edge(record: &Record) -> Result<Edge, String> {
+/// The fields of an E record, whatever its bytes are.
+pub fn decode_edge(record: &Record) -> Edge {
     let mut updates = [0; NODES];
     for (number, update) in updates.iter_mut().enumerate() {
         *update = two_bytes(record, 8 + 2 * number);
     }
     let first = Guard { kind: record[6], node: usize::from(record[7]) };
     let second = Guard { kind: record[1] >> 1 & 3, node: usize::from(record[1] >> 3 & 15) };
-    let edge = Edge {
+    Edge {
         branch: record[1] & 1,
         from: usize::from(two_bytes(record, 2)),
         to: usize::from(two_bytes(record, 4)),
         guards: [first, second],
         updates,
-    };
+    }
+}
+
+fn read_edge(record: &Record) -> Result<Edge, String> {
+    let edge = decode_edge(record);
     let sound = record[0] == EDGE
         && record[1] & 0x80 == 0
         && edge.guards.iter().all(is_guard)
-        && updates.iter().all(|&update| update >> 12 <= 2);
+        && edge.updates.iter().all(|&update| update >> 12 <= 2);
     if sound {
         Ok(edge)
     } else {

@@ -10,6 +10,8 @@ pub mod Part
 pub mod Answers
 pub mod Runs
 pub mod Structs
+pub mod Layout
+pub mod Walking
 pub mod Notions
 pub mod Listings
 pub mod Bench

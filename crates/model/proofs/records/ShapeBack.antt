@@ -33,14 +33,13 @@ laid-of a b c k w l h =
     let t1 = eqb a 0x48 in
     let t2 = t1 && isZero b in
     let t3 = t2 && isZero c in
-    let t4 = t3 && leb k 12 in
-    let t5 = t4 && all (valueByte k) (take (6 + k) w) in
-    let z = and-r t5 (all isZero (drop (10 + k) r)) h in
-    let h5 = and-l t5 (all isZero (drop (10 + k) r)) h in
-    let h4 = and-l t4 (all (valueByte k) (take (6 + k) w)) h5 in
-    let h3 = and-l t3 (leb k 12) h4 in
+    let t4 = leb k 12 && all (valueByte k) (take (6 + k) w) in
+    let zs = all isZero (drop (10 + k) r) in
+    let h3 = and-l t3 (t4 && zs) h in
+    let h4 = and-l t4 zs (and-r t3 (t4 && zs) h) in
+    let z = and-r t4 zs (and-r t3 (t4 && zs) h) in
     let h2 = and-l t2 (isZero c) h3 in
-    let few = leb-true k 12 (and-r t3 (leb k 12) h4) in
+    let few = leb-true k 12 (and-l (leb k 12) (all (valueByte k) (take (6 + k) w)) h4) in
     let e : 10 + k ≡ suc (suc (suc (suc (6 + k)))) = omega arith in
     let n : length (drop (6 + k) w) ≡ 22 - k = omega (arith, length-drop (6 + k) w) in (
       (λ i. eqb-true a 0x48 (and-l t1 (isZero b) h2) i ∷ eqb-true b 0 (and-r t1 (isZero b) h2) i
@@ -48,7 +47,7 @@ laid-of a b c k w l h =
       record {
         long = l;
         few = few;
-        values = and-r t4 (all (valueByte k) (take (6 + k) w)) h5;
+        values = and-r (leb k 12) (all (valueByte k) (take (6 + k) w)) h4;
         zeros = all-zero (drop (6 + k) w) (subst (λ m. all isZero (drop m r) ≡ true) e z) ∙ ap (λ m. replicate m 0) n;
       },
     )
