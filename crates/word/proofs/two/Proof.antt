@@ -1,10 +1,10 @@
--- `search::two` meets its contract: each byte is below 256, so that the sum fits.
+-- `word::two` meets its contract: each byte is below 256, so that the sum fits.
 use Prim.Native.Nat.{_+_}
 use native.Mathlib.Numerals.{add-one}
 use native.Mathlib.Omega.{arith}
 use borrow.Author.Needs.{needs}
-use Rattle.search.proofs.two.Statement.{statement}
-use Rattle.search.proofs.two.Tie as tie
+use Rattle.word.proofs.two.Statement.{statement}
+use Rattle.word.proofs.two.Tie as tie
 
 cast-result : tie.Need-cast-result
 cast-result c = omega (arith, c .shared-slice-known .given (c .before .args .at))
