@@ -13,6 +13,7 @@ use borrow.Author.Tests.{eq-eqb, eqb-true, le-leb, leb-true, ne-eqb}
 use Rattle.model.specs.Base.{all, count, numbers}
 use Rattle.model.specs.Layout.{addedOnce, addsOld}
 use Rattle.model.specs.Records.{word}
+use Rattle.model.specs.Runs.{updatesOf}
 use Rattle.model.proofs.lists.Lists.{all-in, all-of}
 use Rattle.model.proofs.lists.Logic.{and-both, and-l, and-r, bool-case, bool-ext}
 use Rattle.model.proofs.lists.Numbers.{in-numbers, numbers-in}
@@ -116,7 +117,7 @@ kept-apart p seen (u ∷ us) =
     ap (λ k. p u && eqb (bitAnd seen m) 0 && k) (kept-apart p (bitOr seen m) us)
     ∙ regroup (p u) (eqb (bitAnd seen m) 0) (all p us) (apartFrom (bitOr seen m) us)
 
-pub kept-updates : (p : ℕ → Bool) (us : List ℕ) → keptFrom p 0 us ≡ all p us && addedOnce us
+kept-updates : (p : ℕ → Bool) (us : List ℕ) → keptFrom p 0 us ≡ all p us && addedOnce us
 kept-updates p us = kept-apart p 0 us ∙ ap (λ b. all p us && b) (apart-added us)
 
 -- the updates of new nodes j to n
@@ -129,3 +130,29 @@ updates-step r j n h =
 
 pub updates-end : (r : List ℕ) (j n : ℕ) → n ≤ j → updatesFrom r j n ≡ []
 updates-end r j n h = let e : n - j ≡ 0 = omega arith in rw e
+
+pub kept-start : (p : ℕ → Bool) (r : List ℕ) (n : ℕ)
+    → all p (updatesOf n r) && addedOnce (updatesOf n r) ≡ keptFrom p 0 (updatesFrom r 0 n)
+kept-start p r n = let e : n - 0 ≡ n = omega arith in rw e (sym (kept-updates p (updatesOf n r)))
+
+-- turns of the loop over them: the rest decides
+module _ (p : ℕ → Bool) (seen : ℕ) (r : List ℕ) (j n : ℕ) {whole : Bool}
+    (inv : whole ≡ keptFrom p seen (updatesFrom r j n)) where
+  abbrev pub update : ℕ
+  update = word r (8 + 2 * j)
+
+  kept-next : j < n → whole ≡ p update && eqb (bitAnd seen (update % 4096)) 0
+      && keptFrom p (bitOr seen (update % 4096)) (updatesFrom r (j + 1) n)
+  kept-next h = inv ∙ ap (keptFrom p seen) (updates-step r j n h)
+
+  pub kept-fail : j < n → p update && eqb (bitAnd seen (update % 4096)) 0 ≡ false → false ≡ whole
+  kept-fail h e =
+      sym (kept-next h ∙ ap (λ b. b && keptFrom p (bitOr seen (update % 4096)) (updatesFrom r (j + 1) n)) e)
+
+  pub kept-pass : j < n → p update && eqb (bitAnd seen (update % 4096)) 0 ≡ true
+      → whole ≡ keptFrom p (bitOr seen (update % 4096)) (updatesFrom r (j + 1) n)
+  kept-pass h e =
+      kept-next h ∙ ap (λ b. b && keptFrom p (bitOr seen (update % 4096)) (updatesFrom r (j + 1) n)) e
+
+  pub kept-end : n ≤ j → true ≡ whole
+  kept-end h = sym (inv ∙ ap (keptFrom p seen) (updates-end r j n h))

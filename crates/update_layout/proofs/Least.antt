@@ -4,22 +4,24 @@ use mathlib.Core.Path.{_≡_, refl, sym, ap, ap₂, subst, _∙_}
 use mathlib.Core.Bool.{Bool, true, false, _&&_, _||_, and-false, cond, not}
 use mathlib.Core.List.{List, [], _∷_}
 use mathlib.Core.Logic.{inl, inr}
-use native.Mathlib.Nat.{zero-add}
+use native.Mathlib.Nat.{div-eq-of-lt, div-lt-iff-lt-mul}
 use native.Mathlib.Omega.{arith}
+use lib.Bits.{bitAnd}
 use lib.Dec.{eqb, leb, ltb}
+use lib.Pow.{pow-pos}
 use lib.ListN.{getD, length, length-map, replicate, length-replicate, getD-replicate}
-use borrow.Author.Tests.{eq-eqb, eqb-true, leb-true, ltb-true, lt-ltb, le-leb, ne-eqb, le-ltb}
+use borrow.Author.Tests.{eq-eqb, eqb-false, eqb-true, leb-false, leb-true, not-false as unnot, ltb-true, lt-ltb, le-leb, ne-eqb, le-ltb}
 use Rattle.model.specs.Base.{any, numbers}
 use Rattle.model.specs.Layout.{addsOld, asksMore, constantKeeps, couldFall, countersThere, leastCounters}
 use Rattle.model.specs.Notions.{In}
 use Rattle.model.specs.Records.{GuardCode, isZero}
 use Rattle.model.specs.Runs.{added, applied, guardsHold}
 use Rattle.model.proofs.lists.Lists.{any-find, any-in, getD-map}
-use Rattle.model.proofs.lists.Logic.{and-both, and-l, and-r, and-true, bool-ext, clash, eqb-same, eqb-sym, not-true, or-cases, or-false-l, or-false-r}
+use Rattle.model.proofs.lists.Logic.{and-both, and-l, and-r, and-true, bool-ext, clash, eqb-same, eqb-sym, not-false, not-true, or-cases, or-false-l, or-false-r}
 use Rattle.model.proofs.lists.Numbers.{at-number, length-numbers}
 use Rattle.model.proofs.records.Falls.{least-at, least-length}
 use Rattle.update.specs.Counted.{addedCount}
-use Rattle.update.proofs.Bits.{counted-added}
+use Rattle.update.proofs.Bits.{counted-added, masked}
 use Rattle.update_layout.specs.Kept.{asks, exclude, guardOk}
 use Rattle.update_layout.proofs.Disjoint.{low-bit}
 use Rattle.update_layout.proofs.Sums.{added-at, added-past, added-same}
@@ -176,3 +178,31 @@ guard-none k g e = rw e (sym (and-true (isZero (g .node))))
 pub guard-some : (k : ℕ) (g : GuardCode) → (g .test ≡ 0 → ⊥) → leb (g .test) 2 && ltb (g .node) k ≡ guardOk k g
 guard-some k g ne = let z : isZero (g .test) ≡ false = ne-eqb (g .test) 0 ne in
     rw z (ap (λ b. b && ltb (g .node) k) (sym (and-true (leb (g .test) 2))))
+
+-- the tests of one update before its guards are looked at
+below-shift : (m k : ℕ) → m / 2 ^ k ≡ 0 → m < 2 ^ k
+below-shift m k e = let h = div-lt-iff-lt-mul {k = 2 ^ k} {x = m} {y = 1} (pow-pos k) .0 (omega arith) in omega arith
+
+shift-below : (m k : ℕ) → m < 2 ^ k → m / 2 ^ k ≡ 0
+shift-below m k h = div-eq-of-lt h
+
+module _ (u k : ℕ) where
+  abbrev Off : Bool
+  Off = leb 3 (u / 4096) || not (eqb (bitAnd u 0x0fff / 2 ^ k) 0)
+
+  pub update-off : (x : Bool) → Off ≡ true → false ≡ constantKeeps u && countersThere k u && x
+  update-off x h = or-cases (leb 3 (u / 4096)) (not (eqb (bitAnd u 0x0fff / 2 ^ k) 0)) h
+      (λ e. let z : ltb (u / 4096) 3 ≡ false = le-ltb (u / 4096) 3 (leb-true 3 (u / 4096) e) in rw z refl)
+      (λ e. let n = eqb-false (bitAnd u 0x0fff / 2 ^ k) 0 (not-false (eqb (bitAnd u 0x0fff / 2 ^ k) 0) e) in
+      let z : ltb (u % 4096) (2 ^ k) ≡ false = not-true (ltb (u % 4096) (2 ^ k)) (λ l.
+      n (ap (λ m. m / 2 ^ k) (masked u) ∙ shift-below (u % 4096) k (ltb-true (u % 4096) (2 ^ k) l))) in
+      rw z (rw (and-false (ltb (u / 4096) 3)) refl))
+
+  pub update-on : Off ≡ false → (constantKeeps u ≡ true) × (countersThere k u ≡ true)
+  update-on h =
+      let a = or-false-l (leb 3 (u / 4096)) (not (eqb (bitAnd u 0x0fff / 2 ^ k) 0)) h in
+      let b = or-false-r (leb 3 (u / 4096)) (not (eqb (bitAnd u 0x0fff / 2 ^ k) 0)) h in
+      let z = eqb-true (bitAnd u 0x0fff / 2 ^ k) 0 (unnot (eqb (bitAnd u 0x0fff / 2 ^ k) 0) b) in (
+        lt-ltb (u / 4096) 3 (omega (arith, leb-false 3 (u / 4096) a)),
+        lt-ltb (u % 4096) (2 ^ k) (below-shift (u % 4096) k (ap (λ m. m / 2 ^ k) (sym (masked u)) ∙ z)),
+      )

@@ -1,53 +1,68 @@
+-- `falls` meets its contract: where a guard asks for 2, the sum is enough; else the counters that are added are counted.
+use Prim.Native.Nat.{_+_, _/_, _≤_}
+use mathlib.Core.Path.{_≡_, _∙_, ap}
+use mathlib.Core.Bool.{true, false, _||_}
+use native.Mathlib.Omega.{arith}
+use lib.Bits.{bitAnd}
+use lib.Count.{ones-le}
+use lib.Dec.{ltb}
 use borrow.Author.Needs.{needs}
+use Rattle.model.specs.Structs.{codeIn}
+use Rattle.update.proofs.Bits.{masked}
+use Rattle.update_layout.specs.Kept.{asks, exclude}
+use Rattle.update_layout.proofs.Least.{Sound, falls-else, falls-never, sound}
 use Rattle.update_layout.proofs.falls.Statement.{statement}
 use Rattle.update_layout.proofs.falls.Tie as tie
-use Rattle.update_layout.proofs.falls.Reads as reads
-use Rattle.update_layout.proofs.falls.Lts as lts
-use Rattle.update.proofs.counters_added.Reads as counters-added-reads
-use Rattle.update_layout.proofs.asks.Reads as asks-reads
-use Rattle.update_layout.proofs.exclude.Reads as exclude-reads
 
--- src/lib.rt:52:8
-exclude-requires : tie.Need-exclude-requires
-exclude-requires c κs = search needs
+first-sound : (c : tie.Start) → Sound (c .args .nodes) (codeIn (c .args .guards .first))
+first-sound c = sound (c .args .nodes) (codeIn (c .args .guards .first)) (c .pre .3 .first)
 
--- src/lib.rt:52:26
+second-sound : (c : tie.Start) → Sound (c .args .nodes) (codeIn (c .args .guards .second))
+second-sound c = sound (c .args .nodes) (codeIn (c .args .guards .second)) (c .pre .3 .second)
+
 asks-requires : tie.Need-asks-requires
-asks-requires c κs = search needs
+asks-requires c κs = let s = c .before .before .before in first-sound s .low (s .pre .0)
 
--- src/lib.rt:52:44
 asks-requires-2 : tie.Need-asks-requires-2
-asks-requires-2 c κs = search needs
+asks-requires-2 c κs = let s = c .before .before .before .before in second-sound s .low (s .pre .0)
 
--- src/lib.rt:53:9
 returns : tie.Need-returns
-returns c = search needs
+returns c =
+    let s = c .before .before .before .before .before .before in
+    let u = s .args .update in
+    let a = codeIn (s .args .guards .first) in
+    let b = codeIn (s .args .guards .second) in
+    let e : exclude a b || asks a u || asks b u ≡ true = cc in
+    falls-never (s .args .nodes) u a b (s .pre .0) (s .pre .1) (s .pre .2) (first-sound s) (second-sound s) e
 
--- src/lib.rt:55:5
-counters-added-requires : tie.Need-counters-added-requires
-counters-added-requires c κs = search needs
-
--- src/lib.rt:55:39
-cast-result : tie.Need-cast-result
-cast-result c = search needs
-
--- src/lib.rt:55:5
 add-result : tie.Need-add-result
-add-result c = search needs
+add-result c =
+    let u = c .before .before .before .before .before .before .before .args .update in
+    let m = masked u in
+    let few = ones-le 12 (bitAnd u 0x0fff) (omega arith) in
+    let e = c .counters-added .ensures .0 in
+    let fits = c .before .before .before .before .before .before .before .fits .update in
+    omega arith
 
--- src/lib.rt:45:1
 returns-2 : tie.Need-returns-2
-returns-2 c = search needs
+returns-2 c =
+    let s = c .before .before .before .before .before .before .before in
+    let u = s .args .update in
+    let a = codeIn (s .args .guards .first) in
+    let b = codeIn (s .args .guards .second) in
+    let e : exclude a b || asks a u || asks b u ≡ false = cc in
+    ap (λ n. ltb (n + u / 4096) 2) (c .counters-added .ensures .1)
+    ∙ falls-else (s .args .nodes) u a b (s .pre .0) (s .pre .1) (s .pre .2) (first-sound s) (second-sound s) e
 
 pub falls-spec : {M : Type 1} → statement M
-falls-spec =
+falls-spec = 
     tie.close
     (tie.spec
-    exclude-requires
+    (λ c κs. search needs)
     asks-requires
     asks-requires-2
     returns
-    counters-added-requires
-    cast-result
+    (λ c κs. search needs)
+    (λ c. search needs)
     add-result
     returns-2)

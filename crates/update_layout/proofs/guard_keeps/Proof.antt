@@ -5,10 +5,13 @@ use Rattle.update_layout.proofs.guard_keeps.Statement.{statement}
 use Rattle.update_layout.proofs.guard_keeps.Tie as tie
 
 returns : tie.Need-returns
-returns c = guard-none (c .before .args .nodes) (codeIn (c .before .args .guard)) (c .if1 .taken)
+returns c =
+    let a = c .before .before .before .args in guard-none (a .nodes) (codeIn (a .guard)) (c .before .if1 .taken)
 
 returns-2 : tie.Need-returns-2
-returns-2 c = guard-some (c .before .args .nodes) (codeIn (c .before .args .guard)) (c .if1 .left)
+returns-2 c =
+    let a = c .before .before .before .before .args in
+    guard-some (a .nodes) (codeIn (a .guard)) (c .before .before .if1 .left)
 
 pub guard-keeps-spec : {M : Type 1} → statement M
 guard-keeps-spec = tie.close (tie.spec returns returns-2)

@@ -1,25 +1,35 @@
+-- `update_keeps` meets its contract: first its constant and its counters, then what it gives.
+use mathlib.Core.Path.{_∙_, ap, sym}
+use mathlib.Core.Bool.{_&&_, not}
 use borrow.Author.Needs.{needs}
+use Rattle.model.specs.Layout.{constantKeeps, couldFall, countersThere}
+use Rattle.model.proofs.lists.Logic.{and-both}
+use Rattle.update_layout.specs.Kept.{codesIn}
+use Rattle.update_layout.proofs.Least.{update-off, update-on}
 use Rattle.update_layout.proofs.update_keeps.Statement.{statement}
 use Rattle.update_layout.proofs.update_keeps.Tie as tie
-use Rattle.update_layout.proofs.update_keeps.Reads as reads
-use Rattle.update_layout.proofs.update_keeps.Lts as lts
-use Rattle.update_layout.proofs.falls.Reads as falls-reads
 
--- src/lib.rt:63:32
-shr-if1 : tie.Need-shr-if1
-shr-if1 c = search needs
-
--- src/lib.rt:64:9
 returns : tie.Need-returns
-returns c = search needs
+returns c =
+    let a = c .before .args in
+    update-off (a .update) (a .nodes) (not (couldFall (a .nodes) (codesIn (a .guards)) (a .update))) (c .if1 .taken)
 
--- src/lib.rt:66:6
 falls-requires : tie.Need-falls-requires
-falls-requires c κs = search needs
+falls-requires c κs =
+    let s = c .before in
+    let o = update-on (s .args .update) (s .args .nodes) (c .if1 .left) in
+    (s .pre .0, o .0, o .1, s .pre .1)
 
--- src/lib.rt:59:1
 returns-2 : tie.Need-returns-2
-returns-2 c = search needs
+returns-2 c =
+    let s = c .before .before in
+    let u = s .args .update in
+    let o = update-on u (s .args .nodes) (c .before .if1 .left) in
+    let k = s .args .nodes in
+    ap not (c .falls .ensures)
+    ∙ sym (ap (λ b. b && not (couldFall k (codesIn (s .args .guards)) u))
+    (and-both (constantKeeps u) (countersThere k u) (o .0) (o .1)))
 
 pub update-keeps-spec : {M : Type 1} → statement M
-update-keeps-spec = tie.close (tie.spec shr-if1 returns falls-requires returns-2)
+update-keeps-spec = 
+    tie.close (tie.spec (λ c. search needs) returns falls-requires returns-2)
