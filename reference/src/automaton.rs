@@ -1,7 +1,7 @@
 //! The automaton read back from the bytes of the two tables.
 
 use crate::fold::Counters;
-use crate::records::{Guard, Record, EDGE, LOCATION, NODES, NO_GUARD, ONE, RECORD, TWO_OR_MORE};
+use crate::records::{branch_byte, Guard, Record, EDGE, LOCATION, NODES, NO_GUARD, ONE, RECORD, TWO_OR_MORE};
 
 /// An edge as its record tells it.
 #[derive(Clone, Copy, PartialEq, Eq, Debug)]
@@ -47,6 +47,22 @@ pub fn decode_edge(record: &Record) -> Edge {
         guards: [first, second],
         updates,
     }
+}
+
+/// The E record with these fields.
+pub fn encode_edge(edge: &Edge) -> Record {
+    let [first, second] = edge.guards;
+    let mut record = [0; RECORD];
+    record[0] = EDGE;
+    record[1] = branch_byte(edge.branch, second);
+    record[2..4].copy_from_slice(&(edge.from as u16).to_le_bytes());
+    record[4..6].copy_from_slice(&(edge.to as u16).to_le_bytes());
+    record[6] = first.kind;
+    record[7] = first.node as u8;
+    for (bytes, update) in record[8..].chunks_exact_mut(2).zip(edge.updates) {
+        bytes.copy_from_slice(&update.to_le_bytes());
+    }
+    record
 }
 
 fn read_edge(record: &Record) -> Result<Edge, String> {

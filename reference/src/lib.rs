@@ -36,6 +36,7 @@ mod text;
 mod translate;
 mod unfold;
 mod walk;
+pub mod walk_damage;
 
 pub use calls::{fold, step, unfold, Folded, Stepped};
 pub use clause::Clause;

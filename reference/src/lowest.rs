@@ -83,9 +83,10 @@ mod tests {
                 }
             }
         }
-        // Of 24 updates, 5 without guards: none added with -1 or 0, and one
-        // with -1. With a guard on a node, = 1 leaves 5 and >= 2 leaves 4.
-        assert!(below > 0 && below < 49 * 5, "{below}");
+        // Of the 24 updates 5 are low: none added with -1 or 0, and one with
+        // -1. A guard >= 2 takes one away, and guards that exclude each other
+        // take all.
+        assert_eq!(below, 16 * 5 + 18 * 4 + 3 * 4 + 6 * 3);
     }
 
     #[test]

@@ -93,14 +93,14 @@ pub fn configuration_fits(locations: &[u8], location_count: usize, configuration
 
 /// Tables that keep the layout, as far as moves need them: how many nodes each
 /// location has, and the edges.
-struct Tables {
+pub struct Tables {
     nodes: Vec<usize>,
     edges: Vec<Edge>,
 }
 
 impl Tables {
     /// Reads tables, unless they break the layout.
-    fn read(locations: &[u8], edges: &[u8], location_count: usize, edge_count: usize) -> Option<Tables> {
+    pub fn read(locations: &[u8], edges: &[u8], location_count: usize, edge_count: usize) -> Option<Tables> {
         if broken_clause(locations, edges, location_count, edge_count).is_some() {
             return None;
         }
@@ -111,7 +111,7 @@ impl Tables {
     }
 
     /// Takes an edge from a configuration that fits.
-    fn take(&self, at: &Configuration, number: usize) -> Result<Configuration, Refusal> {
+    pub fn take(&self, at: &Configuration, number: usize) -> Result<Configuration, Refusal> {
         let edge = self.edges.get(number).ok_or(NO_MOVE)?;
         let leaves = edge.from == at.location as usize;
         if !leaves || !edge.guards.iter().all(|guard| holds(guard, &at.counters)) {
