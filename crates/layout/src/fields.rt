@@ -110,9 +110,9 @@ pub fn targets_ok(n: usize, rec: &[u8]) -> bool
 
 // ---- H records
 
-// Bytes 0 to 3: the tag, statement 0, fault 0 and at most twelve nodes.
-pub fn head_ok(tag: u8, statement: u8, fault: u8, k: u8) -> bool
-    ensures { λ r. ⌜ r ≡ headH tag statement fault k ⌝ }
+// Bytes 0 to 2: the tag, statement 0 and fault 0.
+pub fn head_ok(tag: u8, statement: u8, fault: u8) -> bool
+    ensures { λ r. ⌜ r ≡ headH tag statement fault ⌝ }
 {
-    (tag == 0x48) & (statement == 0) & (fault == 0) & ((k as usize) <= model::MOST_NODES)
+    (tag == 0x48) & (statement == 0) & (fault == 0)
 }

@@ -2,8 +2,8 @@
 use mathlib.Core.Path.{ap}
 use lib.Dec.{leb}
 use borrow.Author.Needs.{needs}
-use Rattle.part.proofs.in_places.Statement.{statement}
-use Rattle.part.proofs.in_places.Tie as tie
+use Rattle.location_table.proofs.in_places.Statement.{statement}
+use Rattle.location_table.proofs.in_places.Tie as tie
 
 returns : tie.Need-returns
 returns c = ap (leb (c .before .args .count)) (c .places .ensures)
