@@ -12,6 +12,7 @@ pub mod Runs
 pub mod Structs
 pub mod Layout
 pub mod Walking
+pub mod Walks
 pub mod Notions
 pub mod Listings
 pub mod Bench

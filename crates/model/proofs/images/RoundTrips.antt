@@ -84,8 +84,8 @@ sum-filled [] (suc m) = omega (arith, sum-filled [] m)
 sum-filled (c ∷ cs) m = ap (λ x. c + x) (sum-filled cs m)
 
 -- counters with zeros after the first k are the first k, filled up
-filled-back : (k : ℕ) (vs : List ℕ) → length vs ≡ 12 → k ≤ 12 → all isZero (drop k vs) ≡ true → filled 12 (take k vs)
-    ≡ vs
+pub filled-back : (k : ℕ) (vs : List ℕ) → length vs ≡ 12 → k ≤ 12 → all isZero (drop k vs) ≡ true
+    → filled 12 (take k vs) ≡ vs
 filled-back k vs l h z =
     let e : 12 - length (take k vs) ≡ length (drop k vs) =
     omega (arith, length-take-le k vs (omega arith), length-drop k vs) in

@@ -44,7 +44,7 @@ applied-mono u cs ds h = let p = added-mono (u % 4096) cs ds h in omega arith
 
 module _ (k : ℕ) (gs : List GuardCode) where
   pub least-length : length (leastCounters k gs) ≡ k
-  least-length = length-map (numbers 0 k) (λ i. cond (asksMore gs i) 2 1) ∙ length-numbers 0 k
+  least-length = length-map (numbers 0 k) _ ∙ length-numbers 0 k
 
   pub least-at : (i : ℕ) → i < k → getD (leastCounters k gs) i 0 ≡ cond (asksMore gs i) 2 1
   least-at i h = map-number (λ j. cond (asksMore gs j) 2 1) k i 0 h

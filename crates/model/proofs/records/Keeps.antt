@@ -14,7 +14,7 @@ use Rattle.model.specs.Layout.{addedOnce, addsOld, bytesKeep, constantKe
 use Rattle.model.specs.Listings.{WritableLoc}
 use Rattle.model.specs.Machine.{atNull, atUndef, leak}
 use Rattle.model.specs.Notions.{AddApart, In, Pairs, SmallEdge, statementOf}
-use Rattle.model.specs.Records.{GuardCode, byte, edgeRecord, guardCode, isZero, locRecord, testNumber, updateCode, word}
+use Rattle.model.specs.Records.{GuardCode, byte, edgeRecord, guardCode, isZero, locRecord, testNumber, updateCode}
 use Rattle.model.specs.Runs.{guardsOf, updatesOf}
 use Rattle.model.proofs.lists.Lists.{all-map, count-once, pairs-map, pairs-mono-in}
 use Rattle.model.proofs.lists.Logic.{and-both, and-five, or-r}
@@ -116,6 +116,5 @@ module _ (from to k : ℕ) (e : Edge) (few : k ≤ 12) (S : SmallEdge k e) where
       → edgeKeeps n k kt R ≡ true
   edge-keeps n f t A P = and-five (endsKeep n R) (bytesKeep kt R) (nodesKeep k kt R) (addedOnce (updatesOf kt R))
       (all (λ u. not (couldFall k (guardsOf R) u)) (updatesOf kt R))
-      (and-both (ltb (word R 2) n) (ltb (word R 4) n)
-      (lt-ltb (word R 2) n (rw (edge-from from to e) f)) (lt-ltb (word R 4) n (rw (edge-to from to e) t)))
+      (simp (edge-from from to e, edge-to from to e, lt-ltb from n f, lt-ltb to n t))
       bytes-keep nodes-keep (added-once A) (none-falls P)

@@ -1,8 +1,9 @@
 -- What tables that keep the layout have: the clauses of the layout read out, record by record.
-use Prim.Native.Nat.{_*_, _+_, _<_, _≤_, ℕ}
+use Prim.Native.Nat.{_*_, _+_, _/_, _<_, _≤_, ℕ}
 use mathlib.Core.Path.{_≡_, refl}
 use mathlib.Core.Bool.{Bool, _&&_, cond, false, not, true}
 use mathlib.Core.List.{List, [], _∷_}
+use native.Mathlib.Nat.{min-le-right}
 use native.Mathlib.Omega.{arith}
 use lib.Dec.{eqb, leb, ltb}
 use lib.ListN.{drop, getD, length, length-drop, length-take, take}
@@ -19,7 +20,6 @@ use Rattle.model.proofs.lists.Lists.{all-in}
 use Rattle.model.proofs.records.Falls.{could-fall-is}
 use Rattle.model.proofs.lists.Logic.{and-l, and-r, bool-case, clash, not-false}
 use Rattle.model.proofs.lists.Numbers.{numbers-in}
-use Rattle.model.proofs.listings.Outcomes.{places-most}
 
 -- ---- the tables
 
@@ -81,7 +81,7 @@ layout-whole t k i h =
     let n = length (t .locBytes) in
     let c = leb-true (t .locCount) (places 1024 n) (and-l (inPlaces 1024 (t .locCount) n)
     (inPlaces 2048 (t .edgeCount) (length (t .edgeBytes))) (layout-counts t k)) in
-    let p = places-most 1024 n in
+    let p = min-le-right 1024 (n / 32) in
     simp (length-take, length-drop) (omega arith)
 
 -- ---- an edge

@@ -1,5 +1,5 @@
 -- Moves one after the other, and when a walk is these: a move more in front, a list cut in two, one walk after another.
-use Prim.Native.Nat.{_+_, _<_, _≤_, suc, zero, ℕ}
+use Prim.Native.Nat.{_<_, _≤_, suc, zero, ℕ}
 use mathlib.Core.Path.{_∙_, _≡_, ap, refl, sym}
 use mathlib.Core.Bool.{and-false, cond, false, true}
 use mathlib.Core.List.{List, [], _++_, _∷_}
@@ -9,19 +9,12 @@ use lib.ListN.{length}
 use borrow.Author.Tests.{le-leb, lt-leb}
 use Rattle.model.specs.Translate.{Tables}
 use Rattle.model.specs.Walking.{keeps, moved, movesAlong, walked, walkedTo}
+use Rattle.model.specs.Walks.{madeBefore, thenWalk}
 use Rattle.model.specs.declared.Configuration.{Configuration}
 use Rattle.model.specs.declared.Moved.{Moved}
 use Rattle.model.specs.declared.Walked.{Walked}
 use Rattle.model.proofs.lists.Logic.{bool-case}
 use Rattle.model.proofs.runs.OneMove.{moved-broken}
-
--- a walk before which m moves were made
-abbrev pub madeBefore : ℕ → Walked → Walked
-madeBefore m w = walkedTo (w .refusal) (m + w .made) (w .configuration)
-
--- one walk after another: where the first is not refused the second goes on from its configuration
-abbrev pub thenWalk : Walked → (Configuration → Walked) → Walked
-thenWalk w f = elim (w .refusal) [ zero ↦ madeBefore (w .made) (f (w .configuration)) | suc x ↦ w ]
 
 -- a number is 0 or comes after another
 pub number-case {ℓ} : {C : Type ℓ} (x : ℕ) → (x ≡ 0 → C) → ((y : ℕ) → x ≡ suc y → C) → C

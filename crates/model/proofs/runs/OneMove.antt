@@ -1,21 +1,23 @@
 -- One move of the automaton in tables that keep the layout: it leaves a configuration that keeps it, and each refusal
 -- says exactly what happened.
-use Prim.Native.Nat.{ℕ}
+use Prim.Native.Nat.{_-_, _^_, suc, zero, ℕ}
 use mathlib.Core.Path.{_∙_, _≡_, ap, refl, subst, sym}
-use mathlib.Core.Logic.{_↔_, _⊎_, inl, inr}
+use mathlib.Core.Logic.{inl, inr}
 use mathlib.Core.Option.{Option, none, some}
 use mathlib.Core.Bool.{Bool, false, true}
+use mathlib.Core.List.{List, [], _++_, _∷_}
 use native.Mathlib.Omega.{arith}
-use lib.ListN.{length}
+use lib.Dec.{ltb}
+use lib.ListN.{length, replicate}
 use Rattle.model.specs.Layout.{keepsLayout}
 use Rattle.model.specs.Runs.{Advance, Config, moveOf}
 use Rattle.model.specs.Translate.{Tables}
 use Rattle.model.specs.Walking.{configurationKeeps, configurationOf, inAutomaton, inCounters, keeps, moved, staysWith}
+use Rattle.model.specs.Walks.{MakesNone, MakesOne, MoveTold}
 use Rattle.model.specs.declared.Configuration.{Configuration}
 use Rattle.model.specs.declared.Moved.{Moved}
 use Rattle.model.proofs.lists.Lists.{some-inj, some-none}
-use Rattle.model.proofs.lists.Logic.{and-l, bool-case, clash}
-
+use Rattle.model.proofs.lists.Logic.{and-both, and-l, and-r, bool-case, clash}
 use Rattle.model.proofs.runs.Stands.{keeps-stands, stands-back, stands-keeps, stands-length, stands-move}
 
 -- ---- what a move is, case by case
@@ -63,22 +65,6 @@ move-case t c n = bool-case (keeps t c)
 
 -- ---- when a move is done, and when it is refused
 
--- the automaton makes a move whose counters are all below 2 ^ 32, or not; or it makes none
-abbrev pub MakesOne : Bool → Tables → Configuration → ℕ → Type 0
-MakesOne small t c n = (y : Advance Config) × (keeps t c ≡ true) × (moveOf t (inAutomaton t c) n ≡ some y)
-    × (inCounters (y .after .values) ≡ small)
-
-abbrev pub MakesNone : Tables → Configuration → ℕ → Type 0
-MakesNone t c n = (keeps t c ≡ false) ⊎ (moveOf t (inAutomaton t c) n ≡ none)
-
--- exactly what each answer says
-pub record MoveTold (t : Tables) (c : Configuration) (n : ℕ) (m : Moved) : Type 0 where
-  pub isDone : (m .refusal ≡ 0) ↔ MakesOne true t c n
-  pub isOver : (m .refusal ≡ 21) ↔ MakesOne false t c n
-  pub isNone : (m .refusal ≡ 20) ↔ MakesNone t c n
-  pub oneOf : (m .refusal ≡ 0) ⊎ (m .refusal ≡ 20) ⊎ (m .refusal ≡ 21)
-  pub stays : (m .refusal ≡ 0 → ⊥) → m .configuration ≡ c
-
 not-both : (t : Tables) (c : Configuration) (n : ℕ) (b : Bool) → MakesOne b t c n → MakesNone t c n → ⊥
 not-both t c n b x (inl k) = clash (x .1) k
 not-both t c n b x (inr e) = some-none (sym e ∙ x .2)
@@ -121,7 +107,16 @@ move-told t c n = told (moved t c n) (move-case t c n)
       stays = λ x. absurd (x refl);
     }
 
--- What a done move leaves: the configuration of the automaton's move, which keeps the layout and has twelve counters.
+-- counters of 32 bits with zeros after them
+fits-filled : (vs : List ℕ) (m : ℕ) → inCounters vs ≡ true → inCounters (vs ++ replicate m 0) ≡ true
+fits-filled [] zero h = refl
+fits-filled [] (suc m) h = fits-filled [] m refl
+fits-filled (v ∷ vs) m h =
+    and-both (ltb v (2 ^ 32)) (inCounters (vs ++ replicate m 0)) (and-l (ltb v (2 ^ 32)) (inCounters vs) h)
+    (fits-filled vs m (and-r (ltb v (2 ^ 32)) (inCounters vs) h))
+
+-- What a done move leaves: the configuration of the automaton's move, which keeps the layout and has twelve counters
+-- of 32 bits.
 pub record MoveDone (t : Tables) (c : Configuration) (n : ℕ) (d : Configuration) : Type 0 where
   pub advance : Advance Config
   pub before : keeps t c ≡ true
@@ -131,6 +126,7 @@ pub record MoveDone (t : Tables) (c : Configuration) (n : ℕ) (d : Configuratio
   pub isAfter : inAutomaton t d ≡ advance .after
   pub keepsOn : keeps t d ≡ true
   pub twelve : length (d .counters) ≡ 12
+  pub fits : inCounters (d .counters) ≡ true
 
 module _ (t : Tables) (c : Configuration) (n : ℕ) (l : length (c .counters) ≡ 12) where
   pub move-done : moved t c n .refusal ≡ 0 → MoveDone t c n (moved t c n .configuration)
@@ -148,6 +144,7 @@ module _ (t : Tables) (c : Configuration) (n : ℕ) (l : length (c .counters) �
         isAfter = stands-back t k (y .after) s;
         keepsOn = stands-keeps t k (y .after) s;
         twelve = stands-length t k (y .after) s;
+        fits = fits-filled (y .after .values) (12 - length (y .after .values)) (h .3);
       })
 
   -- a done move leaves a configuration that keeps the layout

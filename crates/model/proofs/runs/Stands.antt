@@ -1,15 +1,16 @@
 -- Configurations of the automaton that stand in the tables, and configurations that keep the layout: the one is the
 -- other without zeros past the last node. The automaton's moves lead from what stands to what stands.
 use Prim.Native.Nat.{_*_, _+_, _-_, _<_, _≤_, ℕ}
-use mathlib.Core.Path.{_∙_, _≡_, ap, subst, sym}
-use mathlib.Core.Option.{none, some}
-use mathlib.Core.Bool.{_&&_, true}
+use mathlib.Core.Path.{_∙_, _≡_, ap, refl, subst, sym}
+use mathlib.Core.Logic.{_↔_, inl, inr}
+use mathlib.Core.Option.{Option, none, some}
+use mathlib.Core.Bool.{_&&_, cond, true}
 use mathlib.Core.List.{List, _++_, map}
 use native.Mathlib.Omega.{arith}
 use lib.Dec.{eqb, leb, ltb}
 use lib.ListN.{drop, length, length-map, replicate, take}
 use lib.Seq.{drop-at, length-take-le, take-at}
-use borrow.Author.Tests.{eqb-true, le-leb, lt-ltb, ltb-true}
+use borrow.Author.Tests.{eq-eqb, eqb-true, le-leb, lt-ltb, ltb-false, ltb-true}
 use Rattle.model.specs.Base.{all, numbers}
 use Rattle.model.specs.Image.{countersOf}
 use Rattle.model.specs.Layout.{keepsLayout}
@@ -18,18 +19,14 @@ use Rattle.model.specs.Records.{isZero, recordAt, word}
 use Rattle.model.specs.Runs.{Advance, Config, applied, enabled, guardsHold, guardsOf, moveOf, nodesAt, taken, updatesOf}
 use Rattle.model.specs.Translate.{Tables}
 use Rattle.model.specs.Walking.{configurationKeeps, configurationOf, inAutomaton, keeps}
+use Rattle.model.specs.Walks.{NotEnabled, Stands}
 use Rattle.model.specs.declared.Configuration.{Configuration}
 use Rattle.model.proofs.lists.Lists.{all-of, in-map, some-inj, some-none}
-use Rattle.model.proofs.lists.Logic.{and-both, and-l, and-r, bool-case}
+use Rattle.model.proofs.lists.Logic.{and-both, and-l, and-r, bool-case, clash}
 use Rattle.model.proofs.lists.Numbers.{length-numbers}
+use Rattle.model.proofs.images.RoundTrips.{filled-back}
 use Rattle.model.proofs.records.Bytes.{filled-length, zeros-pass}
 use Rattle.model.proofs.records.LayoutFacts.{could-keeps, layout-kept, layout-nodes}
-
--- a location in use, and a counter of 1 or more for each of its nodes
-pub record Stands (t : Tables) (a : Config) : Type 0 where
-  pub isLocation : a .loc < t .locCount
-  pub oneEach : length (a .values) ≡ nodesAt t (a .loc)
-  pub positive : all (leb 1) (a .values) ≡ true
 
 -- one update for each node of the target
 updates-number : (j : ℕ) (r : List ℕ) → length (updatesOf j r) ≡ j
@@ -53,6 +50,34 @@ move-enabled t a n y m = bool-case (enabled t a n)
       sym (some-inj z),
     ))
     (λ e. let z : none ≡ some y = rw e at m in some-none z)
+
+-- no move is made exactly where the edge isn't in the table, doesn't leave the location or isn't enabled
+pub no-move-is : (t : Tables) (a : Config) (n : ℕ) → (moveOf t a n ≡ none) ↔ NotEnabled t a n
+no-move-is t a n = (none-why, why-none)
+  where
+    none-why : moveOf t a n ≡ none → NotEnabled t a n
+    none-why m =
+        let r = recordAt (t .edgeBytes) n in
+        let p = ltb n (t .edgeCount) in
+        let q = eqb (word r 2) (a .loc) in
+        let g = guardsHold (a .values) (guardsOf r) in
+        bool-case p
+        (λ x. bool-case q
+        (λ y. bool-case g
+        (λ z. let e : enabled t a n ≡ true = and-both (p && q) g (and-both p q x y) z in
+        some-none (sym m ∙ ap (λ b. cond b (some (taken t a r)) none) e))
+        (λ z. inr (inr z)))
+        (λ y. inr (inl (λ e. clash (eq-eqb (word r 2) (a .loc) e) y))))
+        (λ x. inl (ltb-false n (t .edgeCount) x))
+
+    why-none : NotEnabled t a n → moveOf t a n ≡ none
+    why-none w = made-none w (moveOf t a n) refl
+      where
+        made-none : NotEnabled t a n → (o : Option (Advance Config)) → moveOf t a n ≡ o → moveOf t a n ≡ none
+        made-none w none m = m
+        made-none (inl h) (some y) m = absurd (omega (arith, move-enabled t a n y m .0))
+        made-none (inr (inl h)) (some y) m = absurd (h (move-enabled t a n y m .1))
+        made-none (inr (inr h)) (some y) m = clash (move-enabled t a n y m .2) h
 
 module _ (t : Tables) (k : keepsLayout t ≡ true) where
   -- the automaton's moves lead from what stands to what stands
@@ -92,6 +117,18 @@ keeps-stands t c h l =
       oneEach = length-take-le j (c .counters) (omega arith);
       positive = and-l (all (leb 1) (take j (c .counters))) (all isZero (drop j (c .counters))) (and-r p q g);
     }
+
+-- and is the configuration of what stands there
+pub keeps-back : (t : Tables) (c : Configuration) → keeps t c ≡ true → length (c .counters) ≡ 12
+    → configurationOf (inAutomaton t c) ≡ c
+keeps-back t c h l =
+    let j = nodesAt t (c .location) in
+    let k = and-l (keepsLayout t) (configurationKeeps t c) h in
+    let q = and-r (ltb (c .location) (t .locCount)) (countersOf j (c .counters))
+    (and-r (keepsLayout t) (configurationKeeps t c) h) in
+    let f = layout-nodes t k (c .location) (keeps-stands t c h l .isLocation) in
+    ap (λ vs. record { location = c .location; counters = vs }) (filled-back j (c .counters) l f
+    (and-r (all (leb 1) (take j (c .counters))) (all isZero (drop j (c .counters))) q))
 
 module _ (t : Tables) (k : keepsLayout t ≡ true) (a : Config) (s : Stands t a) where
   abbrev zeros : List ℕ

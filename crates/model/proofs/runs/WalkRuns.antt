@@ -2,12 +2,12 @@
 -- off, by demand 3.
 use Prim.Native.Nat.{_<_, _≤_, ℕ}
 use mathlib.Core.Path.{_∙_, _≡_, ap, sym}
-use mathlib.Core.Option.{none, some}
-use mathlib.Core.Bool.{false, true}
+use mathlib.Core.Option.{some}
+use mathlib.Core.Bool.{true}
 use mathlib.Core.List.{List}
 use native.Mathlib.Omega.{arith}
 use lib.Dec.{leb}
-use lib.ListN.{drop, getD, getElem?, length, length-drop, length-map, take}
+use lib.ListN.{drop, getElem?, length, length-drop, length-map, take}
 use lib.Seq.{length-take-le}
 use borrow.Author.Tests.{le-leb}
 use Rattle.model.specs.Base.{all}
@@ -15,18 +15,17 @@ use Rattle.model.specs.Heap.{Heap, holds}
 use Rattle.model.specs.Layout.{keepsLayout}
 use Rattle.model.specs.Machine.{Stmt}
 use Rattle.model.specs.Records.{byte, isAccepted, recordAt, shapeOf, valOf}
-use Rattle.model.specs.Runs.{Advance, Config, Demand3, Describes, Matched, Matching, State, Supply, fed, final, moveOf, running, stepOf, trace}
+use Rattle.model.specs.Runs.{Config, Demand3, Describes, Matching, State, final, running}
 use Rattle.model.specs.Shape.{counters, segments, size}
 use Rattle.model.specs.Translate.{Routine, Tables, check, good, translate}
-use Rattle.model.specs.Walking.{configurationOf, inAutomaton, keeps, walked}
-use Rattle.model.specs.declared.Walked.{Walked}
+use Rattle.model.specs.Walking.{configurationOf, walked}
+use Rattle.model.specs.Walks.{Stands, WalkRun, edgesTaken}
 use Rattle.model.proofs.expansion.Facts.{heap-closed, heap-kept}
 use Rattle.model.proofs.lists.Lists.{all-of, in-map}
 use Rattle.model.proofs.records.LayoutFacts.{layout-nodes, layout-whole}
 use Rattle.model.proofs.listings.Layouts.{translation-keeps}
 use Rattle.model.proofs.runs.Demand.{demand-three}
-use Rattle.model.proofs.runs.OneMove.{MakesOne}
-use Rattle.model.proofs.runs.Stands.{Stands, stands-back, stands-keeps, stands-length}
+use Rattle.model.proofs.runs.Stands.{stands-back, stands-keeps, stands-length}
 use Rattle.model.proofs.ways.Ways.{count-length}
 use Rattle.model.proofs.runs.Walks.{walk-made, walk-stops-none, walk-stops-over}
 
@@ -56,28 +55,6 @@ describes-stands t k i b cs h d =
     }
 
 -- ---- walks from where whole lists are matched
-
--- the edges taken along the first m of ns
-abbrev pub edgesTaken : Tables → Config → ℕ → List ℕ → List (Advance Config)
-edgesTaken t a m ns = trace (moveOf t) a (take m ns)
-
--- The walk along ns from the automaton's configuration a, w, is a run of the routine from q: each move made is an edge
--- taken, and these pair off with steps of the routine, on any cells that are not in use at their turn, of which there
--- are always enough. It stops with 20 only where the automaton makes no move, and with 21 only where it makes one whose
--- counters pass 32 bits.
-pub record WalkRun (sts : List Stmt) (t : Tables) (q : State) (a : Config) (ns : List ℕ) (w : Walked) : Type 0 where
-  pub begins : keeps t (configurationOf a) ≡ true
-  pub isStart : inAutomaton t (configurationOf a) ≡ a
-  pub taken : length (edgesTaken t a (w .made) ns) ≡ w .made
-  pub reaches : final a (edgesTaken t a (w .made) ns) ≡ inAutomaton t (w .configuration)
-  pub supply : (us : List ℕ) × Supply sts q (edgesTaken t a (w .made) ns) us
-  pub matches : (us : List ℕ) → Supply sts q (edgesTaken t a (w .made) ns) us
-      → Matched sts t q a (trace (stepOf sts) q (fed (edgesTaken t a (w .made) ns) us)) (edgesTaken t a (w .made) ns)
-  pub whole : w .refusal ≡ 0 → w .made ≡ length ns
-  pub stopsNone : length ns ≤ 4096 → w .refusal ≡ 20 → (w .made < length ns)
-      × (moveOf t (inAutomaton t (w .configuration)) (getD ns (w .made) 0) ≡ none)
-  pub stopsOver : length ns ≤ 4096 → w .refusal ≡ 21 → (w .made < length ns)
-      × MakesOne false t (w .configuration) (getD ns (w .made) 0)
 
 pub matching-walks : (sts : List Stmt) (t : Tables) (q : State) (a : Config) → keepsLayout t ≡ true
     → Stands t a → Matching sts t q a → (ns : List ℕ) → WalkRun sts t q a ns (walked t (configurationOf a) ns)

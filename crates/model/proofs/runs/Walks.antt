@@ -8,28 +8,32 @@ use mathlib.Core.List.{List, [], _++_, _∷_}
 use native.Mathlib.Omega.{arith}
 use lib.Dec.{leb}
 use lib.ListN.{getD, length, length-append, take}
+use lib.Seq.{length-take-le}
 use borrow.Author.Tests.{leb-false, leb-true}
 use Rattle.model.specs.Runs.{final, moveOf, trace}
 use Rattle.model.specs.Translate.{Tables}
-use Rattle.model.specs.Walking.{inAutomaton, keeps, moved, movesAlong, walked, walkedTo}
+use Rattle.model.specs.Walking.{inAutomaton, inCounters, keeps, moved, movesAlong, walked, walkedTo}
+use Rattle.model.specs.Walks.{MakesNone, MakesOne, edgesTaken, madeBefore, thenWalk}
 use Rattle.model.specs.declared.Configuration.{Configuration}
 use Rattle.model.specs.declared.Walked.{Walked}
 use Rattle.model.proofs.lists.Logic.{bool-case, clash}
-
-use Rattle.model.proofs.runs.OneMove.{MakesNone, MakesOne, MoveDone, move-done, move-told}
-use Rattle.model.proofs.runs.Along.{along-cut, along-done, along-more, along-refused, madeBefore, number-case, then-same, thenWalk, walk-broken, walk-kept, walk-long}
+use Rattle.model.proofs.runs.OneMove.{MoveDone, move-done, move-told}
+use Rattle.model.proofs.runs.Along.{along-cut, along-done, along-more, along-refused, number-case, then-same, walk-broken, walk-kept, walk-long}
 
 -- ---- the moves made
 
--- What moves along ns from c gave: how many were made, and the automaton's configuration after these; why it stopped.
+-- What moves along ns from c gave: how many were made, and the automaton's configuration after these, which those moves
+-- alone give too; why it stopped.
 pub record Went (t : Tables) (c : Configuration) (ns : List ℕ) (w : Walked) : Type 0 where
   pub most : w .made ≤ length ns
   pub whole : w .refusal ≡ 0 → w .made ≡ length ns
   pub keepsOn : keeps t (w .configuration) ≡ true
   pub twelve : length (w .configuration .counters) ≡ 12
-  pub traced : length (trace (moveOf t) (inAutomaton t c) (take (w .made) ns)) ≡ w .made
-  pub reaches : final (inAutomaton t c) (trace (moveOf t) (inAutomaton t c) (take (w .made) ns))
+  pub traced : length (edgesTaken t (inAutomaton t c) (w .made) ns) ≡ w .made
+  pub reaches : final (inAutomaton t c) (edgesTaken t (inAutomaton t c) (w .made) ns)
       ≡ inAutomaton t (w .configuration)
+  pub before : movesAlong t 0 c (take (w .made) ns) ≡ walkedTo 0 (w .made) (w .configuration)
+  pub fits : inCounters (c .counters) ≡ true → inCounters (w .configuration .counters) ≡ true
   pub oneOf : (w .refusal ≡ 0) ⊎ (w .refusal ≡ 20) ⊎ (w .refusal ≡ 21)
   pub stopped : (w .refusal ≡ 0 → ⊥) → (w .made < length ns)
       × (moved t (w .configuration) (getD ns (w .made) 0) .refusal ≡ w .refusal)
@@ -45,9 +49,10 @@ trace-more t c d n ns M m =
     ap (λ k. trace (moveOf t) (inAutomaton t c) (take k (n ∷ ns))) s ∙ e
     ∙ ap (λ a. M .advance ∷ trace (moveOf t) a (take m ns)) (sym (M .isAfter))
 
-went-more : (t : Tables) (c d : Configuration) (n : ℕ) (ns : List ℕ) → MoveDone t c n d → (w : Walked) → Went t d ns w
+went-more : (t : Tables) (c d : Configuration) (n : ℕ) (ns : List ℕ) → MoveDone t c n d
+    → ((ms : List ℕ) → movesAlong t 0 c (n ∷ ms) ≡ madeBefore 1 (movesAlong t 0 d ms)) → (w : Walked) → Went t d ns w
     → Went t c (n ∷ ns) (madeBefore 1 w)
-went-more t c d n ns M w W = record {
+went-more t c d n ns M A w W = record {
   most = omega (arith, W .most);
   whole = λ e. omega (arith, W .whole e);
   keepsOn = W .keepsOn;
@@ -55,6 +60,9 @@ went-more t c d n ns M w W = record {
   traced = ap length (trace-more t c d n ns M (w .made)) ∙ omega (arith, W .traced);
   reaches = ap (final (inAutomaton t c)) (trace-more t c d n ns M (w .made))
       ∙ ap (λ a. final a (trace (moveOf t) (inAutomaton t d) (take (w .made) ns))) (sym (M .isAfter)) ∙ W .reaches;
+  before = let s : 1 + w .made ≡ suc (w .made) = omega arith in
+      ap (λ k. movesAlong t 0 c (take k (n ∷ ns))) s ∙ A (take (w .made) ns) ∙ ap (madeBefore 1) (W .before);
+  fits = λ _. W .fits (M .fits);
   oneOf = W .oneOf;
   stopped = λ f. let r = W .stopped f in
       let s : 1 + w .made ≡ suc (w .made) = omega arith in
@@ -71,15 +79,19 @@ module _ (t : Tables) where
     twelve = l;
     traced = refl;
     reaches = refl;
+    before = refl;
+    fits = λ f. f;
     oneOf = inl refl;
     stopped = λ f. absurd (f refl);
   }
   went (n ∷ ns) c k l = number-case (moved t c n .refusal)
-      (λ e. let M = move-done t c n l e in
-      subst (Went t c (n ∷ ns)) (sym (along-done t 0 c n ns e ∙ along-more t 1 (moved t c n .configuration) ns))
-      (went-more t c (moved t c n .configuration) n ns M
-      (movesAlong t 0 (moved t c n .configuration) ns)
-      (went ns (moved t c n .configuration) (M .keepsOn) (M .twelve))))
+      (λ e.
+      let M = move-done t c n l e in
+      let d = moved t c n .configuration in
+      let A : (ms : List ℕ) → movesAlong t 0 c (n ∷ ms) ≡ madeBefore 1 (movesAlong t 0 d ms) =
+      λ ms. along-done t 0 c n ms e ∙ along-more t 1 d ms in
+      subst (Went t c (n ∷ ns)) (sym (A ns))
+      (went-more t c d n ns M A (movesAlong t 0 d ns) (went ns d (M .keepsOn) (M .twelve))))
       (λ x e. subst (Went t c (n ∷ ns)) (sym (along-refused t 0 c n ns x e)) (record {
         most = omega arith;
         whole = λ z. absurd (omega arith);
@@ -87,6 +99,8 @@ module _ (t : Tables) where
         twelve = l;
         traced = refl;
         reaches = refl;
+        before = refl;
+        fits = λ f. f;
         oneOf = subst (λ y. (y ≡ 0) ⊎ (y ≡ 20) ⊎ (y ≡ 21)) e (move-told t c n .oneOf);
         stopped = λ f. (omega arith, e);
       }))
@@ -99,9 +113,10 @@ pub record WalkMade (t : Tables) (c : Configuration) (ns : List ℕ) (w : Walked
   pub whole : w .refusal ≡ 0 → (keeps t c ≡ true) × (w .made ≡ length ns) × (keeps t (w .configuration) ≡ true)
   pub twelve : length (w .configuration .counters) ≡ 12
   pub keepsOn : keeps t c ≡ true → keeps t (w .configuration) ≡ true
-  pub traced : keeps t c ≡ true → length (trace (moveOf t) (inAutomaton t c) (take (w .made) ns)) ≡ w .made
-  pub reaches : keeps t c ≡ true → final (inAutomaton t c) (trace (moveOf t) (inAutomaton t c) (take (w .made) ns))
+  pub traced : keeps t c ≡ true → length (edgesTaken t (inAutomaton t c) (w .made) ns) ≡ w .made
+  pub reaches : keeps t c ≡ true → final (inAutomaton t c) (edgesTaken t (inAutomaton t c) (w .made) ns)
       ≡ inAutomaton t (w .configuration)
+  pub fits : inCounters (c .counters) ≡ true → inCounters (w .configuration .counters) ≡ true
 
 no-move : (t : Tables) (c : Configuration) (n : ℕ) → keeps t c ≡ true → MakesNone t c n
     → moveOf t (inAutomaton t c) n ≡ none
@@ -119,12 +134,22 @@ walk-none-made t c ns l = record {
   keepsOn = λ k. k;
   traced = λ k. refl;
   reaches = λ k. refl;
+  fits = λ f. f;
 }
 
 module _ (t : Tables) (c : Configuration) (l : length (c .counters) ≡ 12) where
   -- a walk that is short enough, from a configuration that keeps the layout
   pub walk-went : (ns : List ℕ) → length ns ≤ 4096 → keeps t c ≡ true → Went t c ns (walked t c ns)
   walk-went ns h k = subst (Went t c ns) (sym (walk-kept t c ns h k)) (went t ns c k l)
+
+  -- the moves before a refusal, alone
+  pub walk-before : (ns : List ℕ) → length ns ≤ 4096 → keeps t c ≡ true → let w = walked t c ns in
+      walked t c (take (w .made) ns) ≡ walkedTo 0 (w .made) (w .configuration)
+  walk-before ns h k =
+      let w = walked t c ns in
+      let W = walk-went ns h k in
+      let e = length-take-le (w .made) ns (W .most) in
+      walk-kept t c (take (w .made) ns) (omega (arith, W .most)) k ∙ W .before
 
   pub walk-made : (ns : List ℕ) → WalkMade t c ns (walked t c ns)
   walk-made ns = bool-case (keeps t c)
@@ -137,6 +162,7 @@ module _ (t : Tables) (c : Configuration) (l : length (c .counters) ≡ 12) wher
         keepsOn = λ _. W .keepsOn;
         traced = λ _. W .traced;
         reaches = λ _. W .reaches;
+        fits = W .fits;
       })
       (λ h. subst (WalkMade t c ns) (sym (walk-long t c ns (leb-false (length ns) 4096 h))) (walk-none-made t c ns l)))
       (λ k. subst (WalkMade t c ns) (sym (walk-broken t c ns k)) (walk-none-made t c ns l))
