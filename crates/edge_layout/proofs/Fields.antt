@@ -7,7 +7,6 @@ use mathlib.Core.Logic.{inl, inr}
 use native.Mathlib.Omega.{arith}
 use lib.Dec.{eqb, leb, ltb}
 use lib.ListN.{drop, getD}
-use lib.Seq.{getD-drop, getD-take}
 use borrow.Author.Tests.{eq-eqb, eqb-false, eqb-true, leb-true, lt-ltb, ltb-false, ltb-true, leb-false, not-false as unnot}
 use Rattle.model.specs.Base.{all}
 use Rattle.model.specs.Layout.{addedOnce, bytesKeep, constantKeeps, couldFall, countersThere, edgeKeeps, endsKeep, guardKeeps, guardThere, nodesKeep}
@@ -18,10 +17,6 @@ use Rattle.model.proofs.lists.Lists.{all-in, all-of}
 use Rattle.model.proofs.lists.Logic.{and-both, and-l, and-r, and-five, bool-ext, clash, not-false, not-true, or-cases, or-false-l, or-false-r}
 use Rattle.model.proofs.records.LayoutFacts.{EdgeKept, edge-kept}
 use Rattle.update_layout.specs.Kept.{guardOk, updateKeeps}
-
--- a byte of a record in its table
-pub record-byte : (t : List ℕ) (i j : ℕ) → j < 32 → byte (recordAt t i) j ≡ getD t (32 * i + j) 0
-record-byte t i j lt = rw (getD-take, getD-drop)
 
 module _ (n ks kt : ℕ) (r : List ℕ) where
   abbrev pub Kept : Bool

@@ -10,22 +10,29 @@ use lib.Seq.{take-all}
 use Rattle.model.specs.Base.{all, numbers}
 use Rattle.model.specs.Records.{filled, word}
 use Rattle.model.specs.Runs.{applied, updatesOf}
-use Rattle.model.specs.Walking.{inCounters}
+use Rattle.model.specs.Walking.{inCounters, staysWith}
+use Rattle.model.specs.declared.Configuration.{Configuration}
 use Rattle.model.proofs.lists.Loops.{test-end, test-fail, test-pass}
 use Rattle.model.proofs.lists.Numbers.{length-numbers, map-number}
 use Rattle.model.proofs.lists.Slices.{map-end, map-fill, map-step}
+use Rattle.moving.specs.Advanced.{advanced}
 
-drop-zeros : (n m : ℕ) → drop n (replicate m 0) ≡ replicate (m - n) 0
-drop-zeros zero m = let e : m - 0 ≡ m = omega arith in ap (λ k. replicate k 0) (sym e)
-drop-zeros (suc n) zero = let e : 0 - suc n ≡ 0 = omega arith in rw e
-drop-zeros (suc n) (suc m) = drop-zeros n m ∙ ap (λ k. replicate k 0) (let e : m - n ≡ suc m - suc n = omega arith in e)
+-- a counter of 32 bits
+abbrev pub fits : ℕ → Bool
+fits v = ltb v (2 ^ 32)
+
+zeros : ℕ → List ℕ
+zeros n = replicate n 0
+
+drop-zeros : (n m : ℕ) → drop n (zeros m) ≡ zeros (m - n)
+unfolding zeros
+drop-zeros zero m = let e : m - 0 ≡ m = omega arith in ap zeros (sym e)
+drop-zeros (suc n) zero = let e : 0 - suc n ≡ 0 = omega arith in ap zeros (sym e)
+drop-zeros (suc n) (suc m) = drop-zeros n m ∙ ap zeros (let e : m - n ≡ suc m - suc n = omega arith in e)
 
 module _ (r cs : List ℕ) (n : ℕ) where
   abbrev us : List ℕ
   us = updatesOf n r
-
-  abbrev pub fits : ℕ → Bool
-  fits v = ltb v (2 ^ 32)
 
   us-length : length us ≡ n
   us-length = length-map (numbers 0 n) (λ i. word r (8 + 2 * i)) ∙ length-numbers 0 n
@@ -69,7 +76,23 @@ module _ (r cs : List ℕ) (n : ℕ) where
 
   -- twelve zeros before
   pub put-filled : n ≤ 12 → map (applied cs) us ++ drop n (replicate 12 0) ≡ filled 12 (map (applied cs) us)
+  unfolding zeros
   put-filled h =
       let vs = map (applied cs) us in
       let l : length vs ≡ n = length-map us (applied cs) ∙ us-length in
-      ap (λ z. vs ++ z) (drop-zeros n 12 ∙ ap (λ m. replicate (12 - m) 0) (sym l))
+      ap (λ z. vs ++ z) (drop-zeros n 12 ∙ ap (λ m. zeros (12 - m)) (sym l))
+
+-- a move along an edge that leads on, from what was put
+pub advanced-over : (r : List ℕ) (k m : ℕ) (c : Configuration) → m ≡ k
+    → inCounters (map (applied (c .counters)) (updatesOf m r)) ≡ false → staysWith 21 c ≡ advanced r k c
+advanced-over r k m c e h =
+    let g = ap (λ n. inCounters (map (applied (c .counters)) (updatesOf n r))) (sym e) ∙ h in rw (g, advanced)
+
+pub advanced-done : (r : List ℕ) (k m to : ℕ) (c : Configuration) (next : List ℕ) → m ≡ k → m ≤ 12 → to ≡ word r 4
+    → inCounters (map (applied (c .counters)) (updatesOf m r)) ≡ true
+    → next ≡ map (applied (c .counters)) (updatesOf m r) ++ drop m (replicate 12 0)
+    → staysWith 0 (record { location = to; counters = next }) ≡ advanced r k c
+advanced-done r k m to c next e few t h p =
+    let g = ap (λ n. inCounters (map (applied (c .counters)) (updatesOf n r))) (sym e) ∙ h in
+    rw (g, advanced) (ap₂ (λ l cs. staysWith 0 (record { location = l; counters = cs })) t
+    (p ∙ put-filled r (c .counters) m few ∙ ap (λ n. filled 12 (map (applied (c .counters)) (updatesOf n r))) e))

@@ -22,7 +22,7 @@ use Rattle.model.specs.declared.Configuration.{Configuration}
 use Rattle.model.specs.declared.Moved.{Moved}
 use Rattle.model.proofs.lists.Lists.{all-in, all-of, map-same}
 use Rattle.model.proofs.lists.Logic.{and-both, and-l, and-r, and-true, bool-case}
-use Rattle.model.proofs.records.LayoutFacts.{EdgeKept, layout-kept, layout-nodes}
+use Rattle.model.proofs.records.LayoutFacts.{EdgeKept, layout-kept, layout-nodes, layout-room}
 use Rattle.model.proofs.runs.OneMove.{moved-done, moved-none, moved-over}
 use Rattle.moving.specs.Advanced.{advanced}
 
@@ -99,7 +99,7 @@ module _ (t : Tables) (c : Configuration) (n : ℕ) (k : keeps t c ≡ true) whe
       (and-r (ltb (c .location) (t .locCount)) (countersOf m cs) stands)
 
   -- what is asked of a number below the count
-  abbrev Leads : Bool
+  abbrev pub Leads : Bool
   Leads = eqb (word r 2) (c .location) && guardsHold cs (guardsOf r)
 
   kept : n < t .edgeCount → EdgeKept (t .locCount) (nodesAt t (word r 2)) (nodesAt t (word r 4)) r
@@ -159,5 +159,9 @@ module _ (t : Tables) (c : Configuration) (n : ℕ) (k : keeps t c ≡ true) whe
   pub target-few : n < t .edgeCount → nodesAt t (word r 4) ≤ 12
   target-few lt = layout-nodes t layout (word r 4) (kept lt .target)
 
-  pub target-there : n < t .edgeCount → word r 4 < t .locCount
-  target-there lt = kept lt .target
+  -- the record of an edge, and that of its target, are within their tables
+  pub in-table : n < t .edgeCount → 32 * n + 32 ≤ length (t .edgeBytes)
+  in-table lt = let m = layout-room t layout in omega arith
+
+  pub target-in : n < t .edgeCount → 32 * word r 4 + 32 ≤ length (t .locBytes)
+  target-in lt = let m = layout-room t layout in omega (arith, kept lt .target)

@@ -10,13 +10,12 @@ use lib.ListN.{drop, take}
 use borrow.Author.Tests.{eq-eqb, le-leb, le-ltb, leb-false, leb-true, lt-leb, lt-ltb, ltb-false, ltb-true, ne-eqb, not-false as unnot}
 use Rattle.model.specs.Base.{all, numbers}
 use Rattle.model.specs.Layout.{edgeKeepsIn, keepsLayout, locationKeeps}
-use Rattle.model.specs.Part.{countsInPlaces, inPlaces}
+use Rattle.model.specs.Part.{countsInPlaces}
 use Rattle.model.specs.Records.{byte, isZero, recordAt, shapeFields}
-use Rattle.model.specs.Translate.{Tables, places}
+use Rattle.model.specs.Translate.{Tables}
 use Rattle.model.proofs.lists.Lists.{all-in}
 use Rattle.model.proofs.lists.Logic.{and-both, bool-case, not-false}
 use Rattle.model.proofs.lists.Numbers.{numbers-in}
-use Rattle.model.proofs.listings.Outcomes.{places-most}
 use Rattle.model.proofs.records.LayoutFacts.{location-few}
 
 -- the numbers from i on
@@ -28,10 +27,6 @@ numbers-end i n h = let e : n - i ≡ 0 = omega arith in rw e
 
 pub numbers-all : (n : ℕ) → numbers 0 (n - 0) ≡ numbers 0 n
 numbers-all n = let e : n - 0 ≡ n = omega arith in rw e
-
--- the part of a table that is record i
-pub record-part : (t : List ℕ) (i : ℕ) → take (32 * i + 32 - 32 * i) (drop (32 * i) t) ≡ recordAt t i
-record-part t i = let e : 32 * i + 32 - 32 * i ≡ 32 = omega arith in rw e
 
 none-of : (a b c : Bool) → not a || not b || not c ≡ not (a && b && c)
 none-of true true c = refl
@@ -74,11 +69,6 @@ module _ (r : List ℕ) where
   pub location-fault : Off ≡ false → (byte r 2 ≡ 0 → ⊥) → all isZero (drop 3 r) ≡ locationKeeps r
   location-fault h e = sym (ap (λ b. b && rest) (head-is h) ∙ ap (λ b. cond b (shapeFields r) (all isZero (drop 3 r)))
       (ne-eqb (byte r 2) 0 e))
-
--- a count within its table's places
-pub places-hold : (most n bytes : ℕ) → inPlaces most n bytes ≡ true → 32 * n ≤ bytes
-places-hold most n bytes h =
-    let p = places-most most bytes in let l = leb-true n (places most bytes) h in omega arith
 
 -- the three parts of the layout, in their order
 module _ (t : Tables) where

@@ -2,7 +2,7 @@
 use mathlib.Core.Path.{sym}
 use native.Mathlib.Omega.{arith}
 use borrow.Author.Needs.{needs}
-use Rattle.edge_layout.proofs.Fields.{record-byte}
+use Rattle.model.proofs.records.Bytes.{record-byte}
 use Rattle.edge_layout.proofs.nodes_at.Statement.{statement}
 use Rattle.edge_layout.proofs.nodes_at.Tie as tie
 

@@ -8,7 +8,7 @@ use native.Mathlib.Nat.{add-mul-mod-self-left, div-div-eq-div-mul, div-one, mod-
 use native.Mathlib.Omega.{arith}
 use lib.Dec.{eqb}
 use lib.ListN.{drop, getD, length, length-append, length-replicate, replicate, replicate-append-replicate, take}
-use lib.Seq.{drop-append-add, drop-at, take-append-add, take-at}
+use lib.Seq.{drop-append-add, drop-at, getD-drop, getD-take, take-append-add, take-at}
 use borrow.Author.Tests.{eqb-true, ne-eqb}
 use Rattle.model.specs.Base.{all, joined}
 use Rattle.model.specs.Bench.{cutTo}
@@ -140,6 +140,13 @@ joined-record (r ∷ rs) z (suc i) h k =
     ap₂ (λ n s. take 32 (drop n s)) e (append-assoc r (joined rs) z)
     ∙ ap (take 32) (drop-append-add r (joined rs ++ z) (32 * i)) ∙ joined-record rs z i (λ x q. h x (inr q))
     (omega arith)
+
+-- a byte of record i in its table, and the part of the table that is the record
+pub record-byte : (t : List ℕ) (i j : ℕ) → j < 32 → getD (recordAt t i) j 0 ≡ getD t (32 * i + j) 0
+record-byte t i j lt = rw (getD-take, getD-drop)
+
+pub record-part : (t : List ℕ) (i : ℕ) → take (32 * i + 32 - 32 * i) (drop (32 * i) t) ≡ recordAt t i
+record-part t i = let e : 32 * i + 32 - 32 * i ≡ 32 = omega arith in rw e
 
 -- record i of a table is the one that was written at place i
 pub table-record : (n : ℕ) (rs : List (List ℕ)) (i : ℕ) → ((r : List ℕ) → In r rs → length r ≡ 32) → i < length rs

@@ -74,15 +74,24 @@ location-few r h = bool-case (isZero (byte r 2))
 pub layout-nodes : (t : Tables) → keepsLayout t ≡ true → (i : ℕ) → i < t .locCount → nodesAt t i ≤ 12
 layout-nodes t k i h = location-few (recordAt (t .locBytes) i) (layout-location t k i h)
 
--- the records of locations in use are whole
+-- a count within its table's places
+pub places-hold : (most n bytes : ℕ) → inPlaces most n bytes ≡ true → 32 * n ≤ bytes
+places-hold most n bytes h =
+    let p = min-le-right most (bytes / 32) in let l = leb-true n (places most bytes) h in omega arith
+
+-- the records in use are within their tables
+pub layout-room : (t : Tables) → keepsLayout t ≡ true
+    → (32 * t .locCount ≤ length (t .locBytes)) × (32 * t .edgeCount ≤ length (t .edgeBytes))
+layout-room t k =
+    let p = inPlaces 1024 (t .locCount) (length (t .locBytes)) in
+    let q = inPlaces 2048 (t .edgeCount) (length (t .edgeBytes)) in (
+      places-hold 1024 (t .locCount) (length (t .locBytes)) (and-l p q (layout-counts t k)),
+      places-hold 2048 (t .edgeCount) (length (t .edgeBytes)) (and-r p q (layout-counts t k)),
+    )
+
 pub layout-whole : (t : Tables) → keepsLayout t ≡ true → (i : ℕ) → i < t .locCount
     → length (recordAt (t .locBytes) i) ≡ 32
-layout-whole t k i h =
-    let n = length (t .locBytes) in
-    let c = leb-true (t .locCount) (places 1024 n) (and-l (inPlaces 1024 (t .locCount) n)
-    (inPlaces 2048 (t .edgeCount) (length (t .edgeBytes))) (layout-counts t k)) in
-    let p = min-le-right 1024 (n / 32) in
-    simp (length-take, length-drop) (omega arith)
+layout-whole t k i h = let r = layout-room t k in simp (length-take, length-drop) (omega arith)
 
 -- ---- an edge
 

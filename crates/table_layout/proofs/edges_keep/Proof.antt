@@ -9,7 +9,8 @@ use Rattle.model.specs.Layout.{edgeKeepsIn}
 use Rattle.model.specs.Records.{recordAt}
 use Rattle.model.specs.Structs.{tablesIn}
 use Rattle.model.proofs.lists.Loops.{test-end, test-fail, test-pass}
-use Rattle.table_layout.proofs.Records.{numbers-all, numbers-end, numbers-next, record-part}
+use Rattle.model.proofs.records.Bytes.{record-part}
+use Rattle.table_layout.proofs.Records.{numbers-all, numbers-end, numbers-next}
 use Rattle.table_layout.proofs.edges_keep.Statement.{statement}
 use Rattle.table_layout.proofs.edges_keep.Tie as tie
 

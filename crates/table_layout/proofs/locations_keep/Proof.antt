@@ -8,7 +8,8 @@ use Rattle.model.specs.Base.{all, numbers}
 use Rattle.model.specs.Layout.{locationKeeps}
 use Rattle.model.specs.Records.{recordAt}
 use Rattle.model.proofs.lists.Loops.{test-end, test-fail, test-pass}
-use Rattle.table_layout.proofs.Records.{numbers-all, numbers-end, numbers-next, record-part}
+use Rattle.model.proofs.records.Bytes.{record-part}
+use Rattle.table_layout.proofs.Records.{numbers-all, numbers-end, numbers-next}
 use Rattle.table_layout.proofs.locations_keep.Statement.{statement}
 use Rattle.table_layout.proofs.locations_keep.Tie as tie
 

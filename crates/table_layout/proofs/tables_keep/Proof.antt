@@ -9,7 +9,8 @@ use Rattle.model.specs.Part.{countsInPlaces, inPlaces}
 use Rattle.model.specs.Structs.{tablesIn}
 use Rattle.model.specs.Translate.{Tables}
 use Rattle.model.proofs.lists.Logic.{and-l, and-r}
-use Rattle.table_layout.proofs.Records.{counts-off, edges-decide, locations-few, locations-off, places-hold}
+use Rattle.model.proofs.records.LayoutFacts.{places-hold}
+use Rattle.table_layout.proofs.Records.{counts-off, edges-decide, locations-few, locations-off}
 use Rattle.table_layout.proofs.tables_keep.Statement.{statement}
 use Rattle.table_layout.proofs.tables_keep.Tie as tie
 
