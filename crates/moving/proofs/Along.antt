@@ -7,7 +7,7 @@ use mathlib.Core.Logic.{inl, inr}
 use mathlib.Core.Option.{none, some}
 use native.Mathlib.Omega.{arith}
 use lib.Dec.{eqb, leb, ltb}
-use lib.ListN.{drop, getD, length, take}
+use lib.ListN.{drop, getD, length, length-drop, length-take, take}
 use lib.Seq.{getD-take}
 use borrow.Author.Tests.{eq-eqb, eqb-true, le-ltb, lt-ltb, ltb-true, ne-eqb}
 use Rattle.model.specs.Base.{all}
@@ -24,7 +24,7 @@ use Rattle.model.proofs.lists.Lists.{all-in, all-of, map-same}
 use Rattle.model.proofs.lists.Logic.{and-both, and-l, and-r, and-true, bool-case}
 use Rattle.model.proofs.records.LayoutFacts.{EdgeKept, layout-kept, layout-nodes, layout-room}
 use Rattle.model.proofs.runs.OneMove.{moved-done, moved-none, moved-over}
-use Rattle.moving.specs.Advanced.{advanced}
+use Rattle.moving.specs.Advanced.{Ready, advanced, standing}
 
 -- ---- a guard on a counter
 
@@ -133,15 +133,14 @@ module _ (t : Tables) (c : Configuration) (n : ℕ) (k : keeps t c ≡ true) whe
       let m : moveOf t a n ≡ some (taken t a r) =
       ap (λ b. cond b (some (taken t a r)) none) (enabled-is lt ∙ e) in
       bool-case (inCounters vs)
-      (λ i. rw (i, advanced) (ap (λ l. staysWith 0 (record { location = word r 4; counters = filled 12 l })) (sym values-are)
+      (λ i. rw (i, advanced) (ap (λ l. staysWith 0 (standing (word r 4) (filled 12 l))) (sym values-are)
       ∙ sym (moved-done t c n (taken t a r) k m (ap inCounters values-are ∙ i))))
       (λ i. rw (i, advanced) (sym (moved-over t c n (taken t a r) k m (ap inCounters values-are ∙ i))))
 
   -- what the code asks for
-  pub source-few : nodesAt t (c .location) ≤ 12
-  source-few = layout-nodes t layout (c .location)
-      (ltb-true (c .location) (t .locCount) (and-l (ltb (c .location) (t .locCount)) (countersOf (nodesAt t (c .location))
-      cs) stands))
+  source-there : c .location < t .locCount
+  source-there = ltb-true (c .location) (t .locCount)
+      (and-l (ltb (c .location) (t .locCount)) (countersOf (nodesAt t (c .location)) cs) stands)
 
   pub guard-nodes : n < t .edgeCount → (g : GuardCode) → In g (guardsOf r) → g .node < 12
   guard-nodes lt g i =
@@ -156,12 +155,19 @@ module _ (t : Tables) (c : Configuration) (n : ℕ) (k : keeps t c ≡ true) whe
       (λ z. let l : ltb (g .node) (nodesAt t (word r 2)) ≡ true = rw z at there in
       omega (arith, ltb-true (g .node) (nodesAt t (word r 2)) l))
 
-  pub target-few : n < t .edgeCount → nodesAt t (word r 4) ≤ 12
-  target-few lt = layout-nodes t layout (word r 4) (kept lt .target)
-
-  -- the record of an edge, and that of its target, are within their tables
   pub in-table : n < t .edgeCount → 32 * n + 32 ≤ length (t .edgeBytes)
   in-table lt = let m = layout-room t layout in omega arith
 
-  pub target-in : n < t .edgeCount → 32 * word r 4 + 32 ≤ length (t .locBytes)
-  target-in lt = let m = layout-room t layout in omega (arith, kept lt .target)
+  pub ready : n < t .edgeCount → length cs ≡ 12 → Ready r (t .locBytes) (c .location) cs
+  ready lt l =
+      let m = layout-room t layout in
+      let K = kept lt in
+      let i = in-table lt in
+      record {
+        whole = simp (length-take, length-drop) (omega arith);
+        target = omega (arith, K .target);
+        few = layout-nodes t layout (word r 4) (K .target);
+        source = omega (arith, source-there);
+        twelve = l;
+        zeros = zeros;
+      }

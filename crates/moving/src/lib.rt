@@ -1,10 +1,9 @@
-// One move along an edge, by value, in tables and a configuration that keep the layout.
+// One move along an edge, in tables and a configuration that keep the layout.
 use edge_layout::guards_of;
 use edge_layout::nodes_at;
-use model::Configuration;
 use model::Counts;
 use model::Guard;
-use model::Moved;
+use model::Node;
 ghost use mathlib.Core.Path.{_≡_};
 ghost use mathlib.Core.Bool.{true, _&&_};
 ghost use mathlib.Core.List.{map, _++_};
@@ -16,17 +15,13 @@ ghost use Rattle.model.specs.Notions.{In};
 ghost use Rattle.model.specs.Records.{GuardCode, byte, recordAt, word};
 ghost use Rattle.model.specs.Runs.{applied, guardHolds, guardsHold, guardsOf, updatesOf};
 ghost use Rattle.model.specs.Structs.{tablesIn};
-ghost use Rattle.model.specs.Walking.{inCounters, keeps, moved, staysWith};
-ghost use Rattle.moving.specs.Advanced.{advanced};
+ghost use Rattle.model.specs.Walking.{inCounters, keeps, moved};
+ghost use Rattle.moving.specs.Advanced.{Carries, Ready, Replaced, advanced, movedBy, standing};
 
-// A configuration with a refusal, 0 for none.
-pub fn with_refusal(refusal: u8, configuration: Configuration) -> Moved
-    ensures { λ r. ⌜ r ≡ staysWith refusal configuration ⌝ }
-{
-    Moved {
-        refusal: refusal,
-        configuration: configuration,
-    }
+// Where a move leads, and a refusal, 0 for none; a refused one leads nowhere else.
+pub struct Taken {
+    pub refusal: u8,
+    pub location: u32,
 }
 
 // Whether a guard holds of its node's counter.
@@ -94,49 +89,93 @@ fn put_counters(rec: &[u8], nodes: usize, counters: &[u32], next: &mut [u32]) ->
     true
 }
 
-// The move along an edge that leads on.
-fn advance(rec: &[u8], locations: &[u8], configuration: Configuration) -> Moved
-    requires { ⌜ (length (now rec) ≡ recordSize)
-        × (recordSize * word (now rec) 4 + recordSize ≤ length (now locations))
-        × (byte (recordAt (now locations) (word (now rec) 4)) 3 ≤ mostNodes) ⌝ }
-    ensures { λ r. ⌜ r ≡ advanced (now (rec .entry))
-        (byte (recordAt (now (locations .entry)) (word (now (rec .entry)) 4)) 3) configuration ⌝ }
+// Whether an edge between locations of so many nodes carries each counter as it is.
+fn carries(rec: &[u8], old: u8, new: u8) -> bool
+    requires { ⌜ (length (now rec) ≡ recordSize) × (new ≤ mostNodes) ⌝ }
+    ensures { λ r. ⌜ (r ≡ true → (old ≡ new) × Carries (now (rec .entry)) new) ⌝ }
 {
-    let to = word::two(rec, 4);
-    let nodes = nodes_at(locations, to as usize) as usize;
-    let counters = configuration.counters;
-    let mut next = [0u32; 12];
-    if !put_counters(rec, nodes, &counters, &mut next) {
-        return with_refusal(21, configuration);
+    if old != new {
+        return false;
     }
-    with_refusal(
-        0,
-        Configuration {
-            location: to as u32,
-            counters: next,
-        },
-    )
+    let mut j: u8 = 0;
+    while j < new {
+        if word::two(rec, 8 + 2 * j as usize) != 0x1000 + update::flag(Node(j)) {
+            return false;
+        }
+        j += 1;
+    }
+    true
 }
 
-// What a move gives in tables and a configuration that keep the layout.
-pub fn move_kept(
-    configuration: Configuration,
+// The new counters in place of the old ones, where each has 32 bits.
+fn replace_counters(rec: &[u8], nodes: usize, counters: &mut [u32]) -> bool
+    requires { ⌜ (length (now rec) ≡ recordSize) × (nodes ≤ mostNodes) × (length (now counters) ≡ mostNodes) ⌝ }
+    ensures { λ r. ⌜ Replaced (map (applied (now (counters .entry))) (updatesOf nodes (now (rec .entry))))
+        r (now (counters .entry)) (now (counters .exit)) ⌝ }
+{
+    let mut next = [0u32; 12];
+    if !put_counters(rec, nodes, counters, &mut next) {
+        return false;
+    }
+    answers::lay_counters(&next, counters);
+    true
+}
+
+// The move along an edge that leads on. Most edges carry every counter, and leave them where they are.
+fn advance(rec: &[u8], locations: &[u8], location: u32, counters: &mut [u32]) -> Taken
+    requires { ⌜ Ready (now rec) (now locations) location (now counters) ⌝ }
+    ensures { λ r. ⌜ movedBy r (now (counters .exit)) ≡ advanced (now (rec .entry))
+        (byte (recordAt (now (locations .entry)) (word (now (rec .entry)) 4)) 3)
+        (standing location (now (counters .entry))) ⌝ }
+{
+    let to = word::two(rec, 4);
+    let nodes = nodes_at(locations, to as usize);
+    if carries(rec, nodes_at(locations, location as usize), nodes) {
+        return Taken {
+            refusal: 0,
+            location: to as u32,
+        };
+    }
+    if !replace_counters(rec, nodes as usize, counters) {
+        return Taken {
+            refusal: 21,
+            location: location,
+        };
+    }
+    Taken {
+        refusal: 0,
+        location: to as u32,
+    }
+}
+
+// A move in tables and a configuration that keep the layout, whose counters are lent.
+pub fn take_edge(
+    location: u32,
+    counters: &mut [u32],
     locations: &[u8],
     edges: &[u8],
     counts: Counts,
     number: usize,
-) -> Moved
-    requires { ⌜ keeps (tablesIn (now locations) (now edges) counts) configuration ≡ true ⌝ }
-    ensures { λ r. ⌜ r ≡ moved (tablesIn (now (locations .entry)) (now (edges .entry)) counts) configuration number ⌝ }
+) -> Taken
+    requires { ⌜ (keeps (tablesIn (now locations) (now edges) counts) (standing location (now counters)) ≡ true)
+        × (length (now counters) ≡ mostNodes) ⌝ }
+    ensures { λ r. ⌜ movedBy r (now (counters .exit))
+        ≡ moved (tablesIn (now (locations .entry)) (now (edges .entry)) counts)
+        (standing location (now (counters .entry))) number ⌝ }
 {
     if counts.edges <= number {
-        return with_refusal(20, configuration);
+        return Taken {
+            refusal: 20,
+            location: location,
+        };
     }
     let at = model::RECORD * number;
     let end = at + model::RECORD;
-    let counters = configuration.counters;
-    if !leads(&edges[at..end], configuration.location, &counters) {
-        return with_refusal(20, configuration);
+    if !leads(&edges[at..end], location, counters) {
+        return Taken {
+            refusal: 20,
+            location: location,
+        };
     }
-    advance(&edges[at..end], locations, configuration)
+    advance(&edges[at..end], locations, location, counters)
 }

@@ -13,7 +13,7 @@ use Rattle.model.specs.declared.Moved.{Moved}
 use Rattle.model.specs.declared.Walked.{Walked}
 use Rattle.model.proofs.lists.Slices.{drop-step}
 use Rattle.model.proofs.runs.Along.{along-done, along-refused, number-case}
-use Rattle.model.proofs.runs.OneMove.{move-done}
+use Rattle.model.proofs.runs.OneMove.{move-done, move-told}
 
 -- after i moves from c₀ the walk stands at c, which keeps the layout, and the rest of the path decides
 pub record Standing (t : Tables) (c₀ : Configuration) (ns : List ℕ) (i : ℕ) (c : Configuration) : Type 0 where
@@ -38,6 +38,12 @@ module _ (t : Tables) (c₀ : Configuration) (ns : List ℕ) (i : ℕ) (c : Conf
   refused-there h = number-case (m .refusal) (λ z. absurd (h z)) (λ x z.
       ap (λ n. walkedTo n i c) z
       ∙ sym (next ∙ along-refused t i c (getD ns i 0) (drop (i + 1) ns) x (sym refusal-is ∙ z)))
+
+  -- and nothing was changed there
+  pub refused-same : (m .refusal ≡ 0 → ⊥) → m .configuration .counters ≡ c .counters
+  refused-same h = ap (λ (x : Moved). x .configuration .counters) e
+      ∙ ap (λ (d : Configuration). d .counters)
+      (move-told t c (getD ns i 0) .stays (λ z. h (refusal-is ∙ z)))
 
   pub moved-on : m .refusal ≡ 0 → Standing t c₀ ns (i + 1) (m .configuration)
   moved-on z =

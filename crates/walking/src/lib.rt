@@ -6,14 +6,14 @@ use model::Configuration;
 use model::Counts;
 use model::Moved;
 use model::Walked;
-use moving::move_kept;
-use moving::with_refusal;
+use moving::take_edge;
 use table_layout::tables_keep;
 ghost use mathlib.Core.Path.{_≡_};
 ghost use mathlib.Core.Bool.{true};
 ghost use Rattle.model.specs.Layout.{keepsLayout};
 ghost use Rattle.model.specs.Structs.{tablesIn};
-ghost use Rattle.model.specs.Walking.{configurationKeeps, keeps, moved, movesAlong, walked, walkedTo};
+ghost use Rattle.model.specs.Walking.{configurationKeeps, keeps, moved, movesAlong, staysWith, walked, walkedTo};
+ghost use Rattle.moving.specs.Advanced.{standing};
 
 // Whether a configuration keeps the layout, where the tables do.
 fn configuration_keeps(locations: &[u8], edges: &[u8], counts: Counts, configuration: Configuration) -> bool
@@ -39,6 +39,19 @@ fn keeps(locations: &[u8], edges: &[u8], counts: Counts, configuration: Configur
     configuration_keeps(locations, edges, counts, configuration)
 }
 
+// A configuration with a refusal, 0 for none.
+fn gives(refusal: u8, location: u32, counters: [u32; 12]) -> Moved
+    ensures { λ r. ⌜ r ≡ staysWith refusal (standing location counters) ⌝ }
+{
+    Moved {
+        refusal: refusal,
+        configuration: Configuration {
+            location: location,
+            counters: counters,
+        },
+    }
+}
+
 // What a move gives.
 pub fn make_move(
     configuration: Configuration,
@@ -55,20 +68,33 @@ pub fn make_move(
         locations: location_count,
         edges: edge_count,
     };
+    let location = configuration.location;
+    let mut counters = configuration.counters;
     if !keeps(locations, edges, counts, configuration) {
-        return with_refusal(20, configuration);
+        return gives(20, location, counters);
     }
-    move_kept(configuration, locations, edges, counts, number)
+    let taken = take_edge(
+        location,
+        &mut counters,
+        locations,
+        edges,
+        counts,
+        number,
+    );
+    gives(taken.refusal, taken.location, counters)
 }
 
 // A walk that ended, with a refusal, 0 for none, and the number of moves made.
-fn ended(refusal: u8, made: usize, configuration: Configuration) -> Walked
-    ensures { λ r. ⌜ r ≡ walkedTo refusal made configuration ⌝ }
+fn ended(refusal: u8, made: usize, location: u32, counters: [u32; 12]) -> Walked
+    ensures { λ r. ⌜ r ≡ walkedTo refusal made (standing location counters) ⌝ }
 {
     Walked {
         refusal: refusal,
         made: made,
-        configuration: configuration,
+        configuration: Configuration {
+            location: location,
+            counters: counters,
+        },
     }
 }
 
@@ -84,17 +110,25 @@ fn walk_kept(
     ensures { λ r. ⌜ r ≡ movesAlong (tablesIn (now (locations .entry)) (now (edges .entry)) counts) 0 configuration
         (now (path .entry)) ⌝ }
 {
-    let mut reached = configuration;
+    let mut location = configuration.location;
+    let mut counters = configuration.counters;
     let mut i = 0;
     while i < path.len() {
-        let next = move_kept(reached, locations, edges, counts, path[i] as usize);
-        if next.refusal != 0 {
-            return ended(next.refusal, i, reached);
+        let taken = take_edge(
+            location,
+            &mut counters,
+            locations,
+            edges,
+            counts,
+            path[i] as usize,
+        );
+        if taken.refusal != 0 {
+            return ended(taken.refusal, i, location, counters);
         }
-        reached = next.configuration;
+        location = taken.location;
         i += 1;
     }
-    ended(0, i, reached)
+    ended(0, i, location, counters)
 }
 
 // What a walk gives.
@@ -113,11 +147,13 @@ pub fn make_walk(
         locations: location_count,
         edges: edge_count,
     };
+    let location = configuration.location;
+    let counters = configuration.counters;
     if model::MOST_MOVES < path.len() {
-        return ended(20, 0, configuration);
+        return ended(20, 0, location, counters);
     }
     if !keeps(locations, edges, counts, configuration) {
-        return ended(20, 0, configuration);
+        return ended(20, 0, location, counters);
     }
     walk_kept(configuration, locations, edges, counts, path)
 }

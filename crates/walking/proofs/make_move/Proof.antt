@@ -1,4 +1,4 @@
--- `make_move` meets its contract: what breaks the layout is refused, and else the move is made.
+-- `make_move` meets its contract: what breaks the layout is refused, and else the edge is taken.
 use mathlib.Core.Path.{_≡_, _∙_, sym}
 use borrow.Author.Needs.{needs}
 use borrow.Author.Tests.{not-false, not-true}
@@ -14,20 +14,23 @@ tables c = tablesIn (c .args .locations .now) (c .args .edges .now)
 
 returns : tie.Need-returns
 returns c =
-    let s = c .before .before .before .before .before in
-    c .with-refusal .ensures
+    let k = c .before .before in
+    let s = k .before .before .before .before in
+    c .gives .ensures
     ∙ sym (moved-broken (tables s) (s .args .configuration) (s .args .number)
-    (sym (c .before .before .keeps .ensures) ∙ not-true _ (c .before .if1 .taken)))
+    (sym (k .keeps .ensures) ∙ not-true _ (c .before .if1 .taken)))
 
-move-kept-requires : tie.Need-move-kept-requires
-move-kept-requires c κs = sym (c .before .keeps .ensures) ∙ not-false _ (c .if1 .left)
+take-edge-requires : tie.Need-take-edge-requires
+take-edge-requires c κs = let e = c .before in (sym (e .before .keeps .ensures) ∙ not-false _ (e .if1 .left), search needs)
 
 pub make-move-spec : {M : Type 1} → statement M
-make-move-spec = 
+make-move-spec =
     tie.close
     (tie.spec
     (λ c κs. search needs)
     (λ c κs. search needs)
     returns
-    move-kept-requires
-    (λ c. c .move-kept .ensures))
+    (λ c. search needs)
+    take-edge-requires
+    (λ c κs. search needs)
+    (λ c. c .gives2 .ensures ∙ c .before .before .take-edge .ensures))

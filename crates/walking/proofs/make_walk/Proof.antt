@@ -14,14 +14,14 @@ tables c = tablesIn (c .args .locations .now) (c .args .edges .now)
 
 returns : tie.Need-returns
 returns c =
-    let s = c .before .before .before .before .before in
+    let s = c .before .before .before .before .before .before in
     c .ended .ensures
     ∙ sym (walk-long (tables s) (s .args .configuration) (s .args .path .now) (c .before .if1 .taken))
 
 returns-2 : tie.Need-returns-2
 returns-2 c =
     let e = c .before .before .before in
-    let s = e .before .before .before .before in
+    let s = e .before .before .before .before .before in
     c .ended2 .ensures
     ∙ sym (walk-broken (tables s) (s .args .configuration) (s .args .path .now)
     (sym (c .before .before .keeps .ensures) ∙ not-true _ (c .before .if2 .taken)))
@@ -33,7 +33,7 @@ returns-3 : tie.Need-returns-3
 returns-3 c =
     let d = c .before in
     let e = d .before .before in
-    let s = e .before .before .before .before in
+    let s = e .before .before .before .before .before in
     c .walk-kept .ensures
     ∙ sym (walk-kept (tables s) (s .args .configuration) (s .args .path .now) (e .if1 .left)
     (sym (d .before .keeps .ensures) ∙ not-false _ (d .if2 .left)))
