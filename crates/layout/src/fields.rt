@@ -7,18 +7,17 @@ ghost use Rattle.model.specs.Records.{isZero, usesU, usesW, usesFirst, usesSeco
 ghost use Rattle.model.specs.Records.{pointerField, targetBelow, fieldsS, targetsS};
 ghost use Rattle.layout.specs.Checked.{headH};
 
-// Whether all bytes are zero.
+// Whether all bytes are zero: their bits are gathered, without a branch for each.
 pub fn all_zero(bytes: &[u8]) -> bool
     ensures { λ r. ⌜ r ≡ all isZero (now (bytes .entry)) ⌝ }
 {
+    let mut met: u8 = 0;
     let mut i = 0;
     while i < bytes.len() {
-        if bytes[i] != 0 {
-            return false;
-        }
+        met |= bytes[i];
         i += 1;
     }
-    true
+    met == 0
 }
 
 // Whether a byte is a node below k, null or undefined.
