@@ -30,7 +30,8 @@ module _ (n ks kt : ℕ) (r : List ℕ) where
   ends-off h = sym (not-true Kept (λ k.
       let K = edge-kept n ks kt r k in
       or-cases (leb n (word r 2)) (leb n (word r 4)) h
-      (λ e. omega (arith, leb-true n (word r 2) e, K .source)) (λ e. omega (arith, leb-true n (word r 4) e, K .target))))
+      (λ e. omega (arith, leb-true n (word r 2) e, K .source))
+      (λ e. omega (arith, leb-true n (word r 4) e, K .target))))
 
   pub ends-on : leb n (word r 2) || leb n (word r 4) ≡ false → endsKeep n r ≡ true
   ends-on h = and-both (ltb (word r 2) n) (ltb (word r 4) n)

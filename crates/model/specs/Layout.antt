@@ -60,8 +60,8 @@ addsOld i u = eqb (u / 2 ^ i % 2) 1
 abbrev pub addedOnce : List ℕ → Bool
 addedOnce us = all (λ i. leb (count (addsOld i) us) 1) (numbers 0 mostNodes)
 
--- "an update that could give less than 1 from counters of 1 or more under its guards": there are such counters of k
--- nodes. What `applied` cuts off where subtraction stops at 0 is less than 1 as well.
+-- "a present node's update that could give less than 1 from counters of 1 or more under its guards": there are such
+-- counters of k nodes. What `applied` cuts off where subtraction stops at 0 is less than 1 as well.
 abbrev pub CouldFall : ℕ → List GuardCode → ℕ → Type 0
 CouldFall k gs u = (cs : List ℕ) × (length cs ≡ k) × (all (leb 1) cs ≡ true) × (guardsHold cs gs ≡ true)
     × (applied cs u < 1)

@@ -154,4 +154,5 @@ module _ (r cs : List ℕ) (k : ℕ) (few : k ≤ 12) (l : length cs ≡ 12) (C 
       let e : length (drop k cs) ≡ 12 - length (take k cs) =
       omega (arith, length-drop k cs, length-take-le k cs (omega arith)) in
       sym (ap (filled 12) carried-all
-      ∙ ap (λ m. take k cs ++ m) (ap (λ n. replicate n 0) (sym e) ∙ sym (all-zero (drop k cs) z)) ∙ take-append-drop k cs)
+      ∙ ap (λ m. take k cs ++ m) (ap (λ n. replicate n 0) (sym e) ∙ sym (all-zero (drop k cs) z))
+      ∙ take-append-drop k cs)

@@ -40,7 +40,8 @@ more-guard t c z o = sym (rw (ne-eqb t 0 z, ne-eqb t 1 o))
 pub both-hold : (cs : List ℕ) (a b : GuardCode) {gs : List GuardCode} → a ∷ b ∷ [] ≡ gs
     → guardHolds (a .test) (getD cs (a .node) 0) && guardHolds (b .test) (getD cs (b .node) 0) ≡ guardsHold cs gs
 both-hold cs a b e =
-    ap (λ x. guardHolds (a .test) (getD cs (a .node) 0) && x) (sym (and-true (guardHolds (b .test) (getD cs (b .node) 0))))
+    ap (λ x. guardHolds (a .test) (getD cs (a .node) 0) && x)
+    (sym (and-true (guardHolds (b .test) (getD cs (b .node) 0))))
     ∙ ap (guardsHold cs) e
 
 -- ---- counters of the nodes alone, and with the zeros past them

@@ -67,8 +67,7 @@ pub fn tables_keep(locations: &[u8], edges: &[u8], counts: Counts) -> bool
     ensures { λ r. ⌜ r ≡ keepsLayout (tablesIn (now (locations .entry)) (now (edges .entry)) counts) ⌝ }
 {
     if !(in_places(model::MOST_LOCATIONS, counts.locations, locations.len())
-        & in_places(model::MOST_EDGES, counts.edges, edges.len()))
-    {
+        & in_places(model::MOST_EDGES, counts.edges, edges.len())) {
         return false;
     }
     if !locations_keep(locations, counts.locations) {

@@ -1,12 +1,13 @@
 -- The least counters that pass an edge's guards, and what an update gives of them.
-use Prim.Native.Nat.{ℕ, zero, suc, _+_, _-_, _/_, _%_, _^_, _≤_, _<_}
+use Prim.Native.Nat.{ℕ, zero, suc, _+_, _-_, _*_, _/_, _%_, _^_, _≤_, _<_}
 use mathlib.Core.Path.{_≡_, refl, sym, ap, ap₂, subst, _∙_}
 use mathlib.Core.Bool.{Bool, true, false, _&&_, _||_, and-false, cond, not}
 use mathlib.Core.List.{List, [], _∷_}
 use mathlib.Core.Logic.{inl, inr}
-use native.Mathlib.Nat.{div-eq-of-lt, div-lt-iff-lt-mul}
+use native.Mathlib.Nat.{div-eq-of-lt, div-lt-iff-lt-mul, pow-suc}
 use native.Mathlib.Omega.{arith}
 use lib.Bits.{bitAnd}
+use lib.Count.{ones, ones-step}
 use lib.Dec.{eqb, leb, ltb}
 use lib.Pow.{pow-pos}
 use lib.ListN.{getD, length, length-map, replicate, length-replicate, getD-replicate}
@@ -17,11 +18,11 @@ use Rattle.model.specs.Notions.{In}
 use Rattle.model.specs.Records.{GuardCode, isZero}
 use Rattle.model.specs.Runs.{added, applied, guardsHold}
 use Rattle.model.proofs.lists.Lists.{any-find, any-in, getD-map}
-use Rattle.model.proofs.lists.Logic.{and-both, and-l, and-r, and-true, bool-ext, clash, eqb-same, eqb-sym, not-false, not-true, or-cases, or-false-l, or-false-r}
+use Rattle.model.proofs.lists.Logic.{and-both, and-l, and-r, and-true, bool-case, bool-ext, clash, eqb-same, eqb-sym, not-false, not-true, or-cases, or-false-l, or-false-r}
 use Rattle.model.proofs.lists.Numbers.{at-number, length-numbers}
 use Rattle.model.proofs.records.Falls.{least-at, least-length}
 use Rattle.update.specs.Counted.{addedCount}
-use Rattle.update.proofs.Bits.{counted-added, masked}
+use Rattle.update.proofs.Bits.{added-counted, counted-added, masked}
 use Rattle.update_layout.specs.Kept.{asks, exclude, guardOk}
 use Rattle.update_layout.proofs.Disjoint.{low-bit}
 use Rattle.update_layout.proofs.Sums.{added-at, added-past, added-same}
@@ -47,6 +48,16 @@ sound k g h = by (g .test) (g .node) h
         let lt = ltb-true n k (and-r (leb (suc t) 2 && true) (ltb n k) s) in
         let few = leb-true (suc t) 2 (and-l (leb (suc t) 2) true (and-l (leb (suc t) 2 && true) (ltb n k) s)) in
         record { known = few; there = λ p. lt; low = λ l. omega arith }
+
+-- a number that is not 0 has a set bit
+not-none : (d n : ℕ) → n < 2 ^ d → 0 < n → 1 ≤ ones n
+not-none zero n h p = absurd (omega arith)
+not-none (suc d) n h p =
+    let h' : n < 2 ^ d * 2 = rw pow-suc at h in
+    let s = ones-step n in
+    bool-case (eqb (n % 2) 0)
+    (λ e. let z = eqb-true (n % 2) 0 e in omega (arith, not-none d (n / 2) (omega arith) (omega arith)))
+    (λ e. omega (arith, eqb-false (n % 2) 0 e))
 
 one-or-more : (b : Bool) → eqb (cond (b || false) 2 1) 1 && true ≡ not b
 one-or-more true = refl
@@ -74,8 +85,11 @@ least-pass k a b A B = by (a .test) (a .node) (b .test) (b .node) (A .known) (A 
         rw (least-at k (code 0 n ∷ code 2 m ∷ []) m (w (omega arith)), eqb-same m)
     by (suc zero) n zero m p q r w = rw (least-at k (code 1 n ∷ code 0 m ∷ []) n (q (omega arith)))
     by (suc zero) n (suc zero) m p q r w =
-        rw (least-at k (code 1 n ∷ code 1 m ∷ []) n (q (omega arith)), least-at k (code 1 n ∷ code 1 m ∷ []) m
-        (w (omega arith)))
+        rw (
+          least-at k (code 1 n ∷ code 1 m ∷ []) n (q (omega arith)),
+          least-at k (code 1 n ∷ code 1 m ∷ []) m
+              (w (omega arith)),
+        )
     by (suc zero) n (suc (suc zero)) m p q r w =
         let gs : List GuardCode = code 1 n ∷ code 2 m ∷ [] in
         rw (least-at k gs n (q (omega arith)), least-at k gs m (w (omega arith)), eqb-same m, eqb-sym m n)
@@ -98,7 +112,8 @@ ltb-pred : (n : ℕ) → ltb (n - 1) 1 ≡ ltb n 2
 ltb-pred zero = refl
 ltb-pred (suc zero) = refl
 ltb-pred (suc (suc n)) = bool-ext (ltb (suc (suc n) - 1) 1) (ltb (suc (suc n)) 2)
-    (λ h. absurd (omega (arith, ltb-true (suc (suc n) - 1) 1 h))) (λ h. absurd (omega (arith, ltb-true (suc (suc n)) 2 h)))
+    (λ h. absurd (omega (arith, ltb-true (suc (suc n) - 1) 1 h)))
+    (λ h. absurd (omega (arith, ltb-true (suc (suc n)) 2 h)))
 
 -- an update of a constant of -1, 0 or 1 and of counters of the source, under two guards that keep the layout
 module _ (k u : ℕ) (a b : GuardCode) (few : k ≤ 12) (small : constantKeeps u ≡ true) (there : countersThere k u ≡ true)
@@ -119,7 +134,8 @@ module _ (k u : ℕ) (a b : GuardCode) (few : k ≤ 12) (small : constantKeeps u
       let t = eqb-true (g .test) 2 (and-l (eqb (g .test) 2) (addsOld (g .node) u) h) in
       let bit = eqb-true (u / 2 ^ g .node % 2) 1 (and-r (eqb (g .test) 2) (addsOld (g .node) u) h) in
       let lt : g .node < k = G .there (omega arith) in
-      let m : asksMore gs (g .node) ≡ true = any-in (λ (x : GuardCode). eqb (x .test) 2 && eqb (x .node) (g .node)) gs g i
+      let m : asksMore gs (g .node) ≡ true =
+      any-in (λ (x : GuardCode). eqb (x .test) 2 && eqb (x .node) (g .node)) gs g i
       (and-both (eqb (g .test) 2) (eqb (g .node) (g .node)) (eq-eqb (g .test) 2 t) (eqb-same (g .node))) in
       let two : getD least (g .node) 0 ≡ 2 = least-at k gs (g .node) lt ∙ ap (λ c. cond c 2 1) m in
       let s = added-at (u % 4096) least (g .node) (omega (arith, least-length k gs))
@@ -170,6 +186,15 @@ module _ (k u : ℕ) (a b : GuardCode) (few : k ≤ 12) (small : constantKeeps u
       let g = or-false-l (exclude a b || asks a u) (asks b u) h in
       falls-counted (or-false-l (exclude a b) (asks a u) g) (or-false-r (exclude a b) (asks a u) g)
       (or-false-r (exclude a b || asks a u) (asks b u) h)
+
+  -- a counter that is added without a constant is enough
+  pub falls-plain : 4096 < u → u < 8192 → couldFall k gs u ≡ false
+  falls-plain low high = bool-case (exclude a b || asks a u || asks b u)
+      (λ h. sym (falls-never h))
+      (λ h.
+      let some : 1 ≤ ones (u % 4096) = not-none 12 (u % 4096) (omega arith) (omega arith) in
+      let e = sym (added-counted u) ∙ ap ones (masked u) in
+      sym (falls-else h) ∙ le-ltb (addedCount u + u / 4096) 2 (omega arith))
 
 -- a guard's own test
 pub guard-none : (k : ℕ) (g : GuardCode) → g .test ≡ 0 → isZero (g .node) ≡ guardOk k g

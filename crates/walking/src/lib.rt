@@ -16,7 +16,12 @@ ghost use Rattle.model.specs.Walking.{configurationKeeps, keeps, moved, movesAl
 ghost use Rattle.moving.specs.Advanced.{standing};
 
 // Whether a configuration keeps the layout, where the tables do.
-fn configuration_keeps(locations: &[u8], edges: &[u8], counts: Counts, configuration: Configuration) -> bool
+fn configuration_keeps(
+    locations: &[u8],
+    edges: &[u8],
+    counts: Counts,
+    configuration: Configuration,
+) -> bool
     requires { ⌜ keepsLayout (tablesIn (now locations) (now edges) counts) ≡ true ⌝ }
     ensures { λ r. ⌜ r ≡ configurationKeeps (tablesIn (now (locations .entry)) (now (edges .entry)) counts)
         configuration ⌝ }
@@ -73,14 +78,7 @@ pub fn make_move(
     if !keeps(locations, edges, counts, configuration) {
         return gives(20, location, counters);
     }
-    let taken = take_edge(
-        location,
-        &mut counters,
-        locations,
-        edges,
-        counts,
-        number,
-    );
+    let taken = take_edge(location, &mut counters, locations, edges, counts, number);
     gives(taken.refusal, taken.location, counters)
 }
 

@@ -49,7 +49,8 @@ returns c =
     sym (c .before .before .nodes-at2 .ensures) ∙ h .0 ∙ nodes-are d in
     let z = subst (λ n. all isZero (drop n cs) ≡ true) old (s .pre .zeros) in
     advanced-done r k (standing (a .location) cs) (d .before .two .result) cs (d .before .two .ensures)
-    (carried-fits r cs k (s .pre .few) (s .pre .twelve) C (λ i. d .before .before .slice-known .given i .fits)) (carried-filled r cs k (s .pre .few) (s .pre .twelve) C z)
+    (carried-fits r cs k (s .pre .few) (s .pre .twelve) C (λ i. d .before .before .slice-known .given i .fits))
+    (carried-filled r cs k (s .pre .few) (s .pre .twelve) C z)
 
 replace-counters-requires : tie.Need-replace-counters-requires
 replace-counters-requires c κs =
@@ -61,7 +62,8 @@ replace-counters-requires c κs =
 told : (c : tie.After-replace-counters) → let d = c .before .before .before .before .before in
     let a = d .before .before .before .before .before .args in
     inCounters (map (applied (a .counters .now))
-    (updatesOf (byte (recordAt (a .locations .now) (word (a .rec .now) 4)) 3) (a .rec .now))) ≡ c .replace-counters .result
+    (updatesOf (byte (recordAt (a .locations .now) (word (a .rec .now) 4)) 3) (a .rec .now)))
+    ≡ c .replace-counters .result
 told c =
     let d = c .before .before .before .before .before in
     let a = d .before .before .before .before .before .args in

@@ -21,8 +21,7 @@ loop-again c =
     let l = c .before .before .before .before in
     let r = l .before .before .before .args .rec .now in
     let w = c .before .before .two .ensures in
-    let f = c .before .flag .ensures .0 in
-    (
+    let f = c .before .flag .ensures .0 in (
       omega arith,
       below-more (λ j. word r (8 + 2 * j) ≡ 4096 + 2 ^ j) (l .loop .j) (l .loop .inv .1)
           (sym w ∙ c .if2 .left ∙ ap (λ n. 4096 + n) f),

@@ -22,7 +22,7 @@ returns-3 c =
     (c .before .if2 .left)
 
 pub holds-spec : {M : Type 1} → statement M
-holds-spec = 
+holds-spec =
     tie.close
     (tie.spec
     (λ c. search needs)

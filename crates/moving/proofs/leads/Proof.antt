@@ -23,8 +23,7 @@ returns c =
 holds-requires : tie.Need-holds-requires
 holds-requires c κs =
     let s = c .before .before .before .before .before .before .before in
-    let g = c .before .before .guards-of in
-    (
+    let g = c .before .before .guards-of in (
       s .pre .1,
       s .pre .2 (codeIn (g .result .first)) (subst (In (codeIn (g .result .first))) (g .ensures) (inl refl)),
     )
@@ -32,8 +31,7 @@ holds-requires c κs =
 holds-requires-2 : tie.Need-holds-requires-2
 holds-requires-2 c κs =
     let s = c .before .before .before .before .before .before .before .before in
-    let g = c .before .before .before .guards-of in
-    (
+    let g = c .before .before .before .guards-of in (
       s .pre .1,
       s .pre .2 (codeIn (g .result .second)) (subst (In (codeIn (g .result .second))) (g .ensures) (inr (inl refl))),
     )
@@ -50,7 +48,7 @@ returns-2 c =
     (ap (λ n. eqb n (a .location)) (sym (e .before .two .ensures)) ∙ eq-eqb _ _ (e .if1 .left)))
 
 pub leads-spec : {M : Type 1} → statement M
-leads-spec = 
+leads-spec =
     tie.close
     (tie.spec
     (λ c κs. search needs)

@@ -13,8 +13,7 @@ use Rattle.moving.proofs.put_counter.Tie as tie
 
 returns : tie.Need-returns
 returns c =
-    let v = c .before .apply .ensures in
-    (
+    let v = c .before .apply .ensures in (
       sym (ap (λ n. ltb n (2 ^ 32)) (sym v) ∙ le-ltb (c .before .apply .result) (2 ^ 32) (omega arith)),
       (λ e. clash e refl),
       refl,
@@ -23,15 +22,14 @@ returns c =
 returns-2 : tie.Need-returns-2
 returns-2 c =
     let a = c .before .before .before .before .args in
-    let v = c .before .apply .ensures in
-    (
+    let v = c .before .apply .ensures in (
       sym (ap (λ n. ltb n (2 ^ 32)) (sym v) ∙ lt-ltb (c .before .apply .result) (2 ^ 32) (omega arith)),
       (λ e. ap (set (a .next .now) (a .j)) v),
       length-set (a .next .now) (a .j) (c .before .apply .result),
     )
 
 pub put-counter-spec : {M : Type 1} → statement M
-put-counter-spec = 
+put-counter-spec =
     tie.close
     (tie.spec
     (λ c κs. search needs)

@@ -32,8 +32,7 @@ returns : tie.Need-returns Inv-loop μ-loop
 returns c =
     let p = c .before .before .before in
     let l = p .before .before .before .before in
-    let a = l .before .before .before .before .args in
-    (
+    let a = l .before .before .before .before .args in (
       put-over (a .rec .now) (a .counters .now) (a .nodes) (a .next .now) (l .loop .next) (l .loop .j) (l .loop .inv .1)
           (p .before .before .before .loop-test .taken) (sym (told p) ∙ not-true _ (c .if1 .taken)),
       λ e. clash e refl,
@@ -46,8 +45,7 @@ loop-again c =
     let a = l .before .before .before .before .args in
     let yes = not-false _ (c .if1 .left) in
     let e = p .put-counter .ensures .1 yes ∙ ap (λ u. set (l .loop .next) (l .loop .j) (applied (a .counters .now) u))
-    (p .before .before .two .ensures) in
-    (
+    (p .before .before .two .ensures) in (
       p .put-counter .ensures .2 ∙ l .loop .inv .0,
       put-one (a .rec .now) (a .counters .now) (a .nodes) (a .next .now) (l .loop .next) (l .loop .j) (l .loop .inv .1)
           (p .before .before .before .loop-test .taken) (omega arith) (sym (told p) ∙ yes) e,
@@ -62,13 +60,16 @@ returns-2 c =
     (f .0, λ e. f .1)
 
 pub put-counters-spec : {M : Type 1} → statement M
-put-counters-spec = 
+put-counters-spec =
     tie.close
     (tie.spec
     Inv-loop
     μ-loop
-    (λ c. (refl, put-none (c .before .before .before .args .rec .now) (c .before .before .before .args .counters .now)
-    (c .before .before .before .args .nodes) (c .before .before .before .args .next .now)))
+    (λ c. (
+      refl,
+      put-none (c .before .before .before .args .rec .now) (c .before .before .before .args .counters .now)
+          (c .before .before .before .args .nodes) (c .before .before .before .args .next .now),
+    ))
     (λ c. search needs)
     (λ c. search needs)
     (λ c κs. search needs)

@@ -41,8 +41,7 @@ inside c =
 leads-requires : tie.Need-leads-requires
 leads-requires c κs =
     let e = c .before .before in
-    let s = e .before .before .before .before .before in
-    (
+    let s = e .before .before .before .before .before in (
       search needs,
       s .pre .1,
       subst (λ l. (g : GuardCode) → In g (guardsOf l) → g .node < 12) (sym (record-part (s .args .edges .now)

@@ -25,8 +25,7 @@ abbrev μ-loop : tie.MeasureT-loop
 loop-holds : tie.Need-loop-holds Inv-loop μ-loop
 loop-holds c =
     let a = c .before .before .args in
-    let t = tablesIn (a .locations .now) (a .edges .now) (a .counts) in
-    (
+    let t = tablesIn (a .locations .now) (a .edges .now) (a .counts) in (
       omega arith,
       ap (all (λ n. edgeKeepsIn t (recordAt (a .edges .now) n))) (sym (numbers-all (a .counts .edges))),
     )
@@ -75,7 +74,7 @@ returns-2 c =
     (l .loop .inv .1) (numbers-end (l .loop .i) (a .counts .edges) (c .if1 .left))
 
 pub edges-keep-spec : {M : Type 1} → statement M
-edges-keep-spec = 
+edges-keep-spec =
     tie.close
     (tie.spec
     Inv-loop

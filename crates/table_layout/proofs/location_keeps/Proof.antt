@@ -25,7 +25,7 @@ returns-3 c =
     ∙ location-fault r (e .if1 .left) (c .before .before .if2 .left)
 
 pub location-keeps-spec : {M : Type 1} → statement M
-location-keeps-spec = 
+location-keeps-spec =
     tie.close
     (tie.spec
     (λ c. search needs)

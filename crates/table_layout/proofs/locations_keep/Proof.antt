@@ -59,7 +59,7 @@ returns-2 c =
     (numbers-end (l .loop .i) (a .count) (c .loop-test .left))
 
 pub locations-keep-spec : {M : Type 1} → statement M
-locations-keep-spec = 
+locations-keep-spec =
     tie.close
     (tie.spec
     Inv-loop

@@ -1,4 +1,5 @@
--- `falls` meets its contract: where a guard asks for 2, the sum is enough; else the counters that are added are counted.
+-- `falls` meets its contract: a guard that asks for 2 is enough; else the counters that are added
+-- are counted.
 use Prim.Native.Nat.{_+_, _/_, _≤_}
 use mathlib.Core.Path.{_≡_, _∙_, ap}
 use mathlib.Core.Bool.{true, false, _||_}
@@ -55,7 +56,7 @@ returns-2 c =
     ∙ falls-else (s .args .nodes) u a b (s .pre .0) (s .pre .1) (s .pre .2) (first-sound s) (second-sound s) e
 
 pub falls-spec : {M : Type 1} → statement M
-falls-spec = 
+falls-spec =
     tie.close
     (tie.spec
     (λ c κs. search needs)

@@ -72,7 +72,7 @@ returns-2 c =
     (c .loop-test .left)
 
 pub updates-keep-spec : {M : Type 1} → statement M
-updates-keep-spec = 
+updates-keep-spec =
     tie.close
     (tie.spec
     Inv-loop

@@ -53,7 +53,7 @@ returns-2 c =
     ∙ sym (ap (λ b. b && countersOf ks (g .counters)) (lt-ltb (g .location) (a .counts .locations) (there e)))
 
 pub configuration-keeps-spec : {M : Type 1} → statement M
-configuration-keeps-spec = 
+configuration-keeps-spec =
     tie.close
     (tie.spec
     (λ c. search needs)

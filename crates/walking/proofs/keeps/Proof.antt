@@ -30,7 +30,7 @@ returns-2 c =
     (sym (e .before .tables-keep .ensures) ∙ not-false _ (e .if1 .left)))
 
 pub keeps-spec : {M : Type 1} → statement M
-keeps-spec = 
+keeps-spec =
     tie.close
     (tie.spec
     (λ c κs. search needs)

@@ -21,7 +21,8 @@ returns c =
     (sym (k .keeps .ensures) ∙ not-true _ (c .before .if1 .taken)))
 
 take-edge-requires : tie.Need-take-edge-requires
-take-edge-requires c κs = let e = c .before in (sym (e .before .keeps .ensures) ∙ not-false _ (e .if1 .left), search needs)
+take-edge-requires c κs =
+    let e = c .before in (sym (e .before .keeps .ensures) ∙ not-false _ (e .if1 .left), search needs)
 
 pub make-move-spec : {M : Type 1} → statement M
 make-move-spec =
