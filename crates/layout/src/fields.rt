@@ -27,18 +27,17 @@ pub fn value_byte(k: u8, b: u8) -> bool
     (b < k) | (b == 0xfe) | (b == 0xff)
 }
 
-// Whether all bytes are values in a shape of k nodes.
+// Whether all bytes are values in a shape of k nodes, without a branch for each.
 pub fn all_values(bytes: &[u8], k: u8) -> bool
     ensures { λ r. ⌜ r ≡ all (valueByte k) (now (bytes .entry)) ⌝ }
 {
+    let mut good = true;
     let mut i = 0;
     while i < bytes.len() {
-        if !value_byte(k, bytes[i]) {
-            return false;
-        }
+        good = good & value_byte(k, bytes[i]);
         i += 1;
     }
-    true
+    good
 }
 
 // ---- S records: which fields an op uses, and what stands in them

@@ -1,7 +1,7 @@
 -- `all_zero` meets its contract: the bits gathered so far and the bytes from i on decide.
 use Prim.Native.Nat.{ℕ, _+_, _-_, _≤_}
 use mathlib.Core.Path.{_≡_, _∙_, ap, refl, sym}
-use mathlib.Core.Bool.{Bool, true, false, _&&_}
+use mathlib.Core.Bool.{_&&_}
 use native.Mathlib.Omega.{arith}
 use lib.Bits.{and-le-l, and-le-r, bitOr, or-add-and}
 use lib.Dec.{eqb}
@@ -12,6 +12,7 @@ use Rattle.model.specs.Base.{all}
 use Rattle.model.specs.Records.{isZero}
 use Rattle.model.proofs.lists.Logic.{and-both, and-l, and-r, and-true, bool-ext}
 use Rattle.model.proofs.lists.Slices.{drop-step}
+use Rattle.layout.proofs.Tests.{regroup}
 use Rattle.layout.proofs.fields.all_zero.Statement.{statement}
 use Rattle.layout.proofs.fields.all_zero.Tie as tie
 
@@ -35,10 +36,6 @@ or-none a b = bool-ext (isZero (bitOr a b)) (isZero a && isZero b)
     let y = eqb-true b 0 (and-r (isZero a) (isZero b) h) in
     let s = or-add-and a b in
     eq-eqb (bitOr a b) 0 (omega arith))
-
-regroup : (a b c : Bool) → a && (b && c) ≡ a && b && c
-regroup true b c = refl
-regroup false b c = refl
 
 loop-again : tie.Need-loop-again Inv-loop μ-loop
 loop-again c =
