@@ -1,5 +1,6 @@
-/* The controller bench: translates routines into tables for 128 locations and 256 edges, folds and unfolds heaps, and
- * steps them. All that it answers comes from the library; it decides only what it can read. Nothing is allocated. */
+/* The controller bench: translates routines into tables for 128 locations and 256 edges and walks in these, folds and
+ * unfolds heaps, and steps them. All that it answers comes from the library; it decides only what it can read. Nothing
+ * is allocated. */
 #include "bench.h"
 #include "digits.h"
 
@@ -12,6 +13,9 @@ static struct bench bench;
 
 static const char usage[] =
     "usage: bench translate [FILE]                       the listing of a routine in records, or its refusal\n"
+    "       bench walk FILE LOCATION COUNTERS [PATH]     a walk along edges of the listing, from a location with\n"
+    "                                                    these counters: moves made, location and counters then\n"
+    "       bench move FILE LOCATION COUNTERS [PATH]     the same edges in single moves, with each configuration\n"
     "       bench fold POINTERS CELLS                    the shape of a heap, and its counters\n"
     "       bench unfold SHAPE COUNTERS CELLS            the heap of a shape, in so many cells\n"
     "       bench step POINTERS CELLS STATEMENT [PICK [CELL]]\n"
@@ -22,8 +26,9 @@ static const char usage[] =
     "FILE holds records of 32 bytes; without it, or as -, it is standard input; 4,096 bytes are read of it.\n"
     "POINTERS, CELLS, SHAPE and STATEMENT are hex digits, two for a byte, - for none: six pointers; a byte for\n"
     "each cell, the next cell's number, fe null, ff undefined, fd for a cell that is not in use; records of 32\n"
-    "bytes. COUNTERS and PICKS are numbers with commas between. A refusal is printed as 'refused', its number\n"
-    "and its place, and for 9, 18 and 19 the node. Exit status: 0 for an answer, a refusal too; 2 for bad use.\n";
+    "bytes. COUNTERS, PATH and PICKS are numbers with commas between; counters that are left out are 0. A refusal\n"
+    "is printed as 'refused', its number and its place, and for 9, 18 and 19 the node. Exit status: 0 for an\n"
+    "answer, a refusal too; 2 for bad use.\n";
 
 static int bad_use(const char *what)
 {
@@ -87,6 +92,99 @@ static int translate_command(int count, char **words)
     return 0;
 }
 
+/* ---- the automaton of a listing */
+
+/* Twelve counters from a list of at most as many, zeros after it. */
+static int read_counters(const char *list, uint32_t *counters)
+{
+    size_t number;
+    for (size_t i = 0; i < CURRANTPLANE_MOST_NODES; i++) {
+        int next = next_number(&list, UINT32_MAX, &number);
+        if (next < 0) return 0;
+        counters[i] = next ? (uint32_t)number : 0;
+    }
+    return *list == 0;
+}
+
+static void print_counters(const uint32_t *counters)
+{
+    for (size_t i = 0; i < CURRANTPLANE_MOST_NODES; i++)
+        printf("%lu%c", (unsigned long)counters[i], i + 1 < CURRANTPLANE_MOST_NODES ? ' ' : '\n');
+}
+
+static int read_path(struct bench *b, const char *list)
+{
+    size_t number;
+    int next;
+    for (b->path_length = 0; (next = next_number(&list, UINT32_MAX, &number)) == 1; b->path_length++) {
+        if (b->path_length == BENCH_PATH) return 0;
+        b->path[b->path_length] = (uint32_t)number;
+    }
+    return next == 0;
+}
+
+static int read_configuration(char **words, struct currantplane_configuration *configuration)
+{
+    size_t location;
+    if (!read_number(words[0], UINT32_MAX, &location)) return 0;
+    configuration->location = (uint32_t)location;
+    return read_counters(words[1], configuration->counters);
+}
+
+static void print_configuration(const struct currantplane_configuration *configuration)
+{
+    printf("location %lu\n", (unsigned long)configuration->location);
+    print_counters(configuration->counters);
+}
+
+uint8_t move(struct bench *b, size_t number)
+{
+    return currantplane_move(&b->configuration, b->locations, sizeof b->locations, b->edges, sizeof b->edges,
+                             b->answer[CURRANTPLANE_LOCATION_COUNT], b->answer[CURRANTPLANE_EDGE_COUNT], number);
+}
+
+uint8_t walk(struct bench *b, size_t *made)
+{
+    return currantplane_walk(&b->configuration, b->locations, sizeof b->locations, b->edges, sizeof b->edges,
+                             b->answer[CURRANTPLANE_LOCATION_COUNT], b->answer[CURRANTPLANE_EDGE_COUNT], b->path,
+                             b->path_length, made);
+}
+
+/* In one call: where the moves lead that are made, after a refusal too. */
+static int go_in_one(struct bench *b)
+{
+    size_t made;
+    uint8_t refusal = walk(b, &made);
+    if (refusal != CURRANTPLANE_ACCEPTED) print_refusal(refusal, 0, 0);
+    printf("made %zu\n", made);
+    print_configuration(&b->configuration);
+    return 0;
+}
+
+static int go_by_moves(struct bench *b)
+{
+    for (size_t i = 0; i < b->path_length; i++) {
+        printf("edge %lu: ", (unsigned long)b->path[i]);
+        uint8_t refusal = move(b, b->path[i]);
+        if (refusal != CURRANTPLANE_ACCEPTED) return print_refusal(refusal, 0, 0);
+        print_configuration(&b->configuration);
+    }
+    return 0;
+}
+
+static int go(int count, char **words, int (*along)(struct bench *))
+{
+    if (count < 3 || count > 4 || !read_configuration(words + 1, &bench.configuration)
+        || !read_path(&bench, count == 4 ? words[3] : ""))
+        return bad_use("walk and move take a file, a location, at most twelve counters and at most 4,097 edges");
+    if (!read_routine(&bench, words[0])) return bad_use("the routine cannot be read");
+    uint8_t refusal = translate(&bench);
+    return refusal == CURRANTPLANE_ACCEPTED ? along(&bench) : print_translation_refusal(&bench, refusal);
+}
+
+static int walk_command(int count, char **words) { return go(count, words, go_in_one); }
+static int move_command(int count, char **words) { return go(count, words, go_by_moves); }
+
 /* ---- heaps */
 
 /* Pointers and cells from two words. More than the heap has room for are bad use, not a refusal. */
@@ -119,8 +217,7 @@ static int print_fold(const struct heap *heap)
                                         sizeof shape, counters, CURRANTPLANE_MOST_NODES, &place);
     if (refusal != CURRANTPLANE_ACCEPTED) return print_refusal(refusal, place, 0);
     print_digits(shape, sizeof shape, 0);
-    for (size_t i = 0; i < CURRANTPLANE_MOST_NODES; i++)
-        printf("%lu%c", (unsigned long)counters[i], i + 1 < CURRANTPLANE_MOST_NODES ? ' ' : '\n');
+    print_counters(counters);
     return 0;
 }
 
@@ -129,18 +226,6 @@ static int fold_command(int count, char **words)
     struct heap heap;
     if (count != 2 || !read_heap(words, &heap)) return bad_use("fold takes six pointers and at most 240 cells");
     return print_fold(&heap);
-}
-
-/* Twelve counters from a list of at most as many, zeros after it. */
-static int read_counters(const char *list, uint32_t *counters)
-{
-    size_t number;
-    for (size_t i = 0; i < CURRANTPLANE_MOST_NODES; i++) {
-        int next = next_number(&list, UINT32_MAX, &number);
-        if (next < 0) return 0;
-        counters[i] = next ? (uint32_t)number : 0;
-    }
-    return *list == 0;
 }
 
 static int unfold_command(int count, char **words)
@@ -241,8 +326,9 @@ int main(int count, char **words)
     static const struct {
         const char *name;
         int (*command)(int, char **);
-    } commands[] = {{"translate", translate_command}, {"fold", fold_command}, {"unfold", unfold_command},
-                    {"step", step_command},           {"run", run_command},   {"size", size_command}};
+    } commands[] = {{"translate", translate_command}, {"walk", walk_command},     {"move", move_command},
+                    {"fold", fold_command},           {"unfold", unfold_command}, {"step", step_command},
+                    {"run", run_command},             {"size", size_command}};
     if (count < 2) return bad_use("it is told what to do by a word");
     for (size_t i = 0; i < sizeof commands / sizeof commands[0]; i++)
         if (strcmp(words[1], commands[i].name) == 0) return commands[i].command(count - 2, words + 2);

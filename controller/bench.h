@@ -7,7 +7,8 @@
 enum {
     BENCH_LOCATIONS = 128,
     BENCH_EDGES = 256,
-    BENCH_INPUT = 4096 /* what is read of a routine, as the program `translate` reads it */
+    BENCH_INPUT = 4096, /* what is read of a routine, as the program `translate` reads it */
+    BENCH_PATH = CURRANTPLANE_MOST_MOVES + 1 /* one more than a walk may have, which the library is to refuse */
 };
 
 /* The bench has one routine and one listing at a time, in memory that is set aside once. */
@@ -15,8 +16,10 @@ struct bench {
     uint8_t input[BENCH_INPUT];
     uint8_t locations[CURRANTPLANE_RECORD * BENCH_LOCATIONS];
     uint8_t edges[CURRANTPLANE_RECORD * BENCH_EDGES];
-    size_t input_length;
+    uint32_t path[BENCH_PATH];
+    size_t input_length, path_length;
     size_t answer[CURRANTPLANE_ANSWER];
+    struct currantplane_configuration configuration; /* where the automaton of the listing stands */
 };
 
 struct heap {
@@ -30,6 +33,12 @@ int read_routine(struct bench *bench, const char *name);
 
 /* Translates it into the bench's tables; the refusal's number. */
 uint8_t translate(struct bench *bench);
+
+/* Advances the configuration along one edge of the listing; the refusal's number. */
+uint8_t move(struct bench *bench, size_t number);
+
+/* The same along the path, and how many moves were made. */
+uint8_t walk(struct bench *bench, size_t *made);
 
 /* The lowest cell that is not in use, the number of cells if there is none. */
 size_t free_cell(const struct heap *heap);

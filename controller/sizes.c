@@ -10,8 +10,8 @@
 #error "controller/build measures code and data and gives them"
 #endif
 
-enum { TRANSLATE, RECORD, FOLD, UNFOLD, STEP, CALLS };
-static const char *const names_of[CALLS] = {"translate", "record", "fold", "unfold", "step"};
+enum { TRANSLATE, RECORD, FOLD, UNFOLD, STEP, MOVE, WALK, CALLS };
+static const char *const names_of[CALLS] = {"translate", "record", "fold", "unfold", "step", "move", "walk"};
 
 /* a call with all that it is given */
 struct measured {
@@ -20,6 +20,7 @@ struct measured {
     const uint8_t *statement;
     uint8_t shape[CURRANTPLANE_RECORD];
     uint32_t counters[CURRANTPLANE_MOST_NODES];
+    size_t number; /* of an edge */
     size_t routines, locations;
 };
 
@@ -66,8 +67,45 @@ static void call_step(void *m)
                       CURRANTPLANE_RECORD, 1, free_cell(&c->heap), answer, sizeof answer, &place);
 }
 
+static void call_move(void *m)
+{
+    struct measured *c = m;
+    move(c->bench, c->number);
+}
+
+static void call_walk(void *m)
+{
+    size_t made;
+    walk(((struct measured *)m)->bench, &made);
+}
+
+/* the configuration at a location with all its counters so large */
+static struct currantplane_configuration stand(const struct bench *b, size_t number, uint32_t counter)
+{
+    struct currantplane_configuration at = {(uint32_t)number, {0}};
+    size_t nodes = currantplane_nodes(currantplane_at(b->locations, number));
+    for (size_t i = 0; i < nodes; i++) at.counters[i] = counter;
+    return at;
+}
+
+/* every edge of the location is tried in a move, and as the first of a walk along all edges */
+static void measure_moves(struct measured *m, size_t number, uint32_t counter)
+{
+    struct bench *b = m->bench;
+    size_t edges = b->answer[CURRANTPLANE_EDGE_COUNT];
+    for (m->number = 0; m->number < edges; m->number++) {
+        if (currantplane_from(currantplane_at(b->edges, m->number)) != number) continue;
+        b->configuration = stand(b, number, counter);
+        call_on(&stacks[MOVE], call_move, m);
+        b->path_length = edges - m->number;
+        for (size_t i = 0; i < b->path_length; i++) b->path[i] = (uint32_t)(m->number + i);
+        b->configuration = stand(b, number, counter);
+        call_on(&stacks[WALK], call_walk, m);
+    }
+}
+
 /* a heap of the location's shape, with segments of so many cells, is unfolded, folded and stepped */
-static void measure_location(struct measured *m, const uint8_t *location, uint32_t cells)
+static void measure_heap(struct measured *m, const uint8_t *location, uint32_t cells)
 {
     memcpy(m->shape, location, sizeof m->shape);
     m->shape[0] = CURRANTPLANE_RECORD_H;
@@ -87,8 +125,10 @@ static void measure_routine(struct measured *m)
     for (size_t i = 0; i < m->bench->answer[CURRANTPLANE_LOCATION_COUNT]; i++) {
         const uint8_t *location = currantplane_at(m->bench->locations, i);
         if (currantplane_fault(location) != CURRANTPLANE_NO_FAULT) continue;
-        measure_location(m, location, 1);
-        measure_location(m, location, 16);
+        measure_heap(m, location, 1);
+        measure_heap(m, location, 16);
+        measure_moves(m, i, 1);
+        measure_moves(m, i, UINT32_MAX);
         m->locations++;
     }
 }
@@ -102,9 +142,10 @@ static void print_all(const struct measured *m)
     for (int i = 0; i < CALLS; i++)
         if (depth[i] > depth[deepest]) deepest = i;
     printf("code   %6d bytes: the library %d, the bench %d\n", LIBRARY_CODE + BENCH_CODE, LIBRARY_CODE, BENCH_CODE);
-    printf("data   %6d bytes: the library %d, the bench %d, of which %zu for %d locations, %zu for %d edges\n",
-           LIBRARY_DATA + BENCH_DATA, LIBRARY_DATA, BENCH_DATA, sizeof b->locations, BENCH_LOCATIONS,
-           sizeof b->edges, BENCH_EDGES);
+    printf("data   %6d bytes: the library %d, the bench %d, of which %zu for %d locations, %zu for %d edges, "
+           "%zu for a path\n",
+           LIBRARY_DATA + BENCH_DATA, LIBRARY_DATA, BENCH_DATA, sizeof b->locations, BENCH_LOCATIONS, sizeof b->edges,
+           BENCH_EDGES, sizeof b->path);
     printf("stack  %6zu bytes in the deepest call, %s:", depth[deepest], names_of[deepest]);
     for (int i = 0; i < CALLS; i++) printf(" %s %zu%s", names_of[i], depth[i], i + 1 < CALLS ? "," : "\n");
     printf("       measured over %zu routines and %zu locations\n", m->routines, m->locations);

@@ -1,4 +1,5 @@
-/* Currantplane: routines over linked lists, translated into counter automata; heaps folded, unfolded and stepped.
+/* Currantplane: routines over linked lists, translated into counter automata, which are walked; heaps folded, unfolded
+ * and stepped.
  *
  * C99 and later, and C++. Link with libcurrantplane.a (x86-64); it wants memcpy and memset and nothing else.
  *
@@ -6,14 +7,15 @@
  * answers and every byte that it writes is proved, for every input. What a caller owes:
  *   - A pointer with a length points to so many bytes, or to so many numbers, aligned as their type asks. With
  *     length 0 it may be null. Bytes may stand at any address.
- *   - A pointer without a length (`place`, `node`) points to one size_t, or one byte, and is not null.
+ *   - A pointer without a length (`place`, `node`, `made`, `configuration`) points to one of what its type says,
+ *     aligned as that asks, and is not null.
  *   - Nothing that a call writes overlaps with anything else that it is given. What is only read may overlap.
  * Nothing is kept after a call, nothing is allocated and nothing is locked: there is no state between calls, and
  * calls that write to buffers of their own may run at the same time. No call was seen to use 1 KB of stack.
  *
  * Each call answers the number of the refusal, 0 for none (enum currantplane_refusal), and tells its place, 0 where
- * nothing is refused. Refusals 9, 18 and 19 are about a node of a shape: translate and unfold tell its number, 0 to
- * 11, and 0 with every other refusal and with none.
+ * nothing is refused; move and walk do not tell it, since it is always 0. Refusals 9, 18 and 19 are about a node of a
+ * shape: translate and unfold tell its number, 0 to 11, and 0 with every other refusal and with none.
  */
 #ifndef CURRANTPLANE_H
 #define CURRANTPLANE_H
@@ -36,6 +38,7 @@ enum {
     CURRANTPLANE_MOST_SHAPES = 16,      /* its H records */
     CURRANTPLANE_MOST_LOCATIONS = 1024, /* the places of a table of locations that are used, however long it is */
     CURRANTPLANE_MOST_EDGES = 2048,     /* and of a table of edges */
+    CURRANTPLANE_MOST_MOVES = 4096,     /* the edge numbers of a walk */
     CURRANTPLANE_MOST_INPUT = 32 * (64 + 16), /* the bytes of the longest routine that passes the checks */
     CURRANTPLANE_ANSWER = 4,            /* the numbers that currantplane_translate tells */
     CURRANTPLANE_RECORD_ANSWER = 3,     /* the numbers that currantplane_record tells */
@@ -113,8 +116,12 @@ enum currantplane_refusal {
     /* translate and unfold; looked at right after 9, with its place */
     CURRANTPLANE_NOT_CORE = 18,      /* all nodes are reachable, and one is held by no pointer and by the next of one
                                       * node alone; told with the first such node */
-    CURRANTPLANE_BAD_NUMBERING = 19  /* all nodes are reachable and core, and one has another number than the walk
+    CURRANTPLANE_BAD_NUMBERING = 19, /* all nodes are reachable and core, and one has another number than the walk
                                       * gives it; told with the first such node */
+    /* move and walk; the place is 0, and is not told */
+    CURRANTPLANE_NO_MOVE = 20,       /* the tables or the configuration break the layout, a walk is longer than 4,096,
+                                      * or an edge is not in the table, does not leave the location or is not enabled */
+    CURRANTPLANE_TOO_LARGE = 21      /* a counter would pass 32 bits */
 };
 
 /* whether a refusal is about a node of a shape, which is then told with it */
@@ -225,6 +232,57 @@ uint8_t currantplane_step(uint8_t *pointers, size_t pointers_length,
 
 /* The places of the four bytes in the answer of a step. */
 enum { CURRANTPLANE_FAULT = 0, CURRANTPLANE_STOPPED = 1, CURRANTPLANE_BRANCH = 2, CURRANTPLANE_NEXT = 3 };
+
+/* Where an automaton stands. It stays with the caller, and moves and walks advance it where it lies. */
+struct currantplane_configuration {
+    uint32_t location;                          /* the number of a location */
+    uint32_t counters[CURRANTPLANE_MOST_NODES]; /* 1 or more for each of its nodes, 0 past them; a fault has none */
+};
+
+/* Moves along one edge of an automaton.
+ *
+ * configuration                where the automaton stands; advanced where the move is made
+ * locations, edges             the tables; they are only read, and what stands past the counts is not looked at
+ * location_count, edge_count   the counts in use
+ * number                       the number of the edge
+ *
+ * Accepted (0): the location is the edge's target, each counter of a node there is its update's constant plus the old
+ * counters that it adds, and all others are 0. Refused (20, 21, looked at in this order): 20, where the tables or the
+ * configuration break the layout, or the edge is not below the count, does not leave the location or is not enabled;
+ * 21, where a new counter would be 2^32 or more. The configuration is then left as it is.
+ *
+ * The tables break the layout where a count exceeds its table's places (length / 32, rounded down, 1,024 or 2,048 at
+ * most), or a record in use
+ *   - has a byte that its kind does not allow: a statement of 64 or more, for one, or a fault above 3;
+ *   - is an edge with an end that is not below location_count;
+ *   - names a node that its shape lacks: a value of a location, a guard's node, an old counter that is added;
+ *   - adds an old counter in two updates;
+ *   - has an update of a present node that could give less than 1, from counters of 1 or more for which both guards
+ *     hold.
+ * Shapes need not be canonical or different. What an accepted translation wrote keeps the layout, with its two counts.
+ * The configuration breaks it where its location is not below location_count, or a counter is 0 below the location's
+ * k or not 0 past it. After a move it keeps it. */
+uint8_t currantplane_move(struct currantplane_configuration *configuration,
+                          const uint8_t *locations, size_t locations_length,
+                          const uint8_t *edges, size_t edges_length,
+                          size_t location_count, size_t edge_count, size_t number);
+
+/* Moves along one edge after the other, and looks at the tables once.
+ *
+ * configuration, locations, edges, location_count, edge_count   as in currantplane_move
+ * path                         the numbers of the edges, at most 4,096
+ * made                         how many moves were made
+ *
+ * Accepted (0): all moves of the path are made, each as currantplane_move makes it from where the one before led; none
+ * where the path is empty. Refused: 20, where the tables or the configuration break the layout, also where the path is
+ * empty, or the path is longer than 4,096, and no move is then made; or 20 or 21, as the first move that is refused
+ * says, with the moves before it made and no other. The configuration is as the moves made leave it, and `made` is
+ * written in every case: the edge that is refused is the one at that place of the path, from 0. */
+uint8_t currantplane_walk(struct currantplane_configuration *configuration,
+                          const uint8_t *locations, size_t locations_length,
+                          const uint8_t *edges, size_t edges_length,
+                          size_t location_count, size_t edge_count,
+                          const uint32_t *path, size_t path_length, size_t *made);
 
 /* ---- reading records
  *

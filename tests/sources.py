@@ -124,4 +124,5 @@ def refusals():
     image, counters, step = ([int(n) for n in re.findall(r"unless (\d+)", checks[name])] for name in ("checksImage", "checkCounters", "checksStep"))
     return {"input": lists["numbersInput"][:4], "S record": lists["numbersS"], "H record": lists["numbersH"],
             "tables": lists["numbersTranslate"][-2:], "heap image": image, "unfolding": counters, "plain step": step,
-            "one record out of the tables": numbers(re.search(r"refusal (\d+)", spec("Part"))[1])}
+            "one record out of the tables": numbers(re.search(r"refusal (\d+)", spec("Part"))[1]),
+            "moves and walks": sorted({int(n) for n in re.findall(r"staysWith (\d\d)", spec("Walking"))})}

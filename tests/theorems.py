@@ -8,7 +8,7 @@ ACCEPTED = [0, 0, 0]  # no number, place or node
 HEAD = '''-- Comparisons of the definitions with the second translator.
 use Prim.Native.Nat.{ℕ, zero, suc, _-_, _/_, _%_, _^_}
 use mathlib.Core.Path.{_≡_, refl}
-use mathlib.Core.Bool.{true, _&&_}
+use mathlib.Core.Bool.{true, _&&_, cond}
 use mathlib.Core.List.{List, [], _∷_, _++_, map}
 use lib.Dec.{eqb}
 use lib.ListN.{replicate}
@@ -19,6 +19,9 @@ use Rattle.model.specs.Image.{Folding, Unfolding, Stepping, foldImage, unfoldIm
 use Rattle.model.specs.Part.{partBytes, recordPart}
 use Rattle.model.specs.Answers.{refusalOf, stepNumbers}
 use Rattle.model.specs.Bench.{endsIn, firstUnplaced, translateFull}
+use Rattle.model.specs.Layout.{keepsLayout}
+use Rattle.model.specs.Walking.{moved, walked}
+use Rattle.model.specs.declared.Configuration.{Configuration}
 
 abbrev bytesOf : ℕ → ℕ → List ℕ
 bytesOf zero x = []
@@ -60,6 +63,27 @@ shown ls es l e mark n =
     let t : Tables = record { locBytes = ls; edgeBytes = es; locCount = l; edgeCount = e } in
     let p = recordPart t mark n in
     (ending (refusalOf (p .verdict)) ++ p .begins ∷ p .size ∷ []) ∷ partBytes t mark n ∷ []
+
+-- whether tables keep the layout
+abbrev layoutOf : List ℕ → List ℕ → ℕ → ℕ → List (List ℕ)
+layoutOf ls es l e =
+    let t : Tables = record { locBytes = ls; edgeBytes = es; locCount = l; edgeCount = e } in
+    (cond (keepsLayout t) 1 0 ∷ []) ∷ []
+
+-- a walk, and a move: the refusal, how many moves a walk made, and the location; the counters
+abbrev walkedBy : List ℕ → List ℕ → ℕ → ℕ → ℕ → List ℕ → List ℕ → List (List ℕ)
+walkedBy ls es l e at cs ns =
+    let t : Tables = record { locBytes = ls; edgeBytes = es; locCount = l; edgeCount = e } in
+    let c : Configuration = record { location = at; counters = cs } in
+    let w = walked t c ns in
+    (w .refusal ∷ w .made ∷ w .configuration .location ∷ []) ∷ w .configuration .counters ∷ []
+
+abbrev movedBy : List ℕ → List ℕ → ℕ → ℕ → ℕ → List ℕ → ℕ → List (List ℕ)
+movedBy ls es l e at cs n =
+    let t : Tables = record { locBytes = ls; edgeBytes = es; locCount = l; edgeCount = e } in
+    let c : Configuration = record { location = at; counters = cs } in
+    let m = moved t c n in
+    (m .refusal ∷ m .configuration .location ∷ []) ∷ m .configuration .counters ∷ []
 
 abbrev unfolded : Unfolding → List (List ℕ)
 unfolded u = ending (refusalOf (u .verdict)) ∷ u .ptrBytes ∷ u .cellBytes ∷ []
@@ -113,7 +137,7 @@ def step_call(record, pick, cell, ps, cs):
 def theorem(number, group):
     """That each case of a group, a name, a call and the answer that is expected, has this answer."""
     same = ' && '.join('sameList (sameList eqb) (%s) (%s)' % case[1:] for case in group)
-    shut = 'check listing translate foldImage unfoldImage stepImage recordPart'
+    shut = 'check listing translate foldImage unfoldImage stepImage recordPart keepsLayout moved walked'
     return '-- %s\nc%d : %s ≡ true\nunfolding %s\nc%d = refl\n\n' % (group[0][0], number, same, shut, number)
 
 

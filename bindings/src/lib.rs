@@ -65,6 +65,28 @@ mod raw {
             answer: *mut usize,
             answer_len: usize,
         ) -> u8;
+        pub fn currantplane_move(
+            configuration: *mut super::Configuration,
+            locations: *const u8,
+            locations_len: usize,
+            edges: *const u8,
+            edges_len: usize,
+            location_count: usize,
+            edge_count: usize,
+            number: usize,
+        ) -> u8;
+        pub fn currantplane_walk(
+            configuration: *mut super::Configuration,
+            locations: *const u8,
+            locations_len: usize,
+            edges: *const u8,
+            edges_len: usize,
+            location_count: usize,
+            edge_count: usize,
+            path: *const u32,
+            path_len: usize,
+            made: *mut usize,
+        ) -> u8;
     }
 }
 
@@ -193,4 +215,64 @@ pub fn record<'a>(locations: &'a [u8], edges: &'a [u8], counts: [usize; 2], tabl
     let [place, begins, length] = answer;
     let meant = if table == LOCATIONS { locations } else { edges };
     (Refusal::at(refusal, place), &meant[begins..begins + length])
+}
+
+/// A configuration of the automaton: a location's number and twelve counters, 0 past the location's nodes.
+#[repr(C)]
+#[derive(Clone, Copy, PartialEq, Eq, Debug)]
+pub struct Configuration {
+    pub location: u32,
+    pub counters: [u32; 12],
+}
+
+/// One move along an edge: the refusal's number, 0 for none. The configuration is advanced where it lies; a refused move changes
+/// nothing.
+pub fn make_move(
+    configuration: &mut Configuration,
+    locations: &[u8],
+    edges: &[u8],
+    location_count: usize,
+    edge_count: usize,
+    number: usize,
+) -> u8 {
+    unsafe {
+        raw::currantplane_move(
+            configuration,
+            locations.as_ptr(),
+            locations.len(),
+            edges.as_ptr(),
+            edges.len(),
+            location_count,
+            edge_count,
+            number,
+        )
+    }
+}
+
+/// A walk along edge numbers: the refusal's number, 0 for none, and how many moves were made. The configuration is advanced where it
+/// lies, by the moves made.
+pub fn make_walk(
+    configuration: &mut Configuration,
+    locations: &[u8],
+    edges: &[u8],
+    location_count: usize,
+    edge_count: usize,
+    path: &[u32],
+) -> (u8, usize) {
+    let mut made = usize::MAX;
+    let number = unsafe {
+        raw::currantplane_walk(
+            configuration,
+            locations.as_ptr(),
+            locations.len(),
+            edges.as_ptr(),
+            edges.len(),
+            location_count,
+            edge_count,
+            path.as_ptr(),
+            path.len(),
+            &mut made,
+        )
+    };
+    (number, made)
 }

@@ -1,6 +1,6 @@
 //! The words of the command line.
 
-use crate::source::Failure;
+use crate::source::{bytes, Failure};
 use std::str::FromStr;
 
 /// A command's options: which take a value.
@@ -90,11 +90,31 @@ impl Arguments {
     /// Numbers with commas between them; none where nothing is given.
     pub fn numbers<T: FromStr>(&self, name: &str) -> Result<Vec<T>, Failure> {
         let words = self.value(name).unwrap_or("");
-        let parts = words.split(',').map(str::trim).filter(|_| !words.is_empty());
+        self.read_numbers(name, words.split(',').map(str::trim).filter(|_| !words.is_empty()))
+    }
+
+    /// The same, or for `-` those of standard input, where white space too may stand between them.
+    pub fn numbers_or_input<T: FromStr>(&self, name: &str) -> Result<Vec<T>, Failure> {
+        if self.value(name) != Some("-") {
+            return self.numbers(name);
+        }
+        if self.file == "-" {
+            return Err(wrong(&self.command, format!("FILE and {name} cannot both be standard input")));
+        }
+        let input = bytes("-")?;
+        let words = String::from_utf8_lossy(&input);
+        self.read_numbers(name, words.split(|c: char| c == ',' || c.is_whitespace()).filter(|word| !word.is_empty()))
+    }
+
+    fn read_numbers<'a, T: FromStr>(&self, name: &str, words: impl Iterator<Item = &'a str>) -> Result<Vec<T>, Failure> {
+        let too_large = |word: &str| !word.is_empty() && word.bytes().all(|b| b.is_ascii_digit());
         let read = |word: &str| {
-            word.parse().map_err(|_| wrong(&self.command, format!("{name} takes numbers with commas between them, not `{word}`")))
+            word.parse().map_err(|_| match too_large(word) {
+                true => wrong(&self.command, format!("{name}: {word} is too large")),
+                false => wrong(&self.command, format!("{name} takes numbers with commas between them, not `{word}`")),
+            })
         };
-        parts.map(read).collect()
+        words.map(read).collect()
     }
 
     /// At most one of these may be given.

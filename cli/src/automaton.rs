@@ -17,6 +17,7 @@ pub const ALL_PLACES: Places = Places { locations: MOST_LOCATIONS, edges: MOST_E
 pub use currantplane::{Node, Refusal};
 
 /// The two tables as they were written, one record after the other.
+#[derive(Clone, Debug)]
 pub struct Tables {
     pub locations: Vec<u8>,
     pub edges: Vec<u8>,
@@ -68,7 +69,7 @@ impl Location {
 pub enum Guard {
     IsOne(usize),
     AtLeastTwo(usize),
-    /// What the layout of a record does not have. It never holds.
+    /// What the layout of a record does not have. No move is made in tables with one.
     Damaged,
 }
 
@@ -83,12 +84,11 @@ impl Guard {
         }
     }
 
-    pub fn holds(self, counters: &[u64]) -> bool {
-        let counter = |node: usize| counters.get(node).copied().unwrap_or(0);
+    /// The node that it is on.
+    pub fn node(self) -> Option<usize> {
         match self {
-            Guard::IsOne(node) => counter(node) == 1,
-            Guard::AtLeastTwo(node) => counter(node) >= 2,
-            Guard::Damaged => false,
+            Guard::IsOne(node) | Guard::AtLeastTwo(node) => Some(node),
+            Guard::Damaged => None,
         }
     }
 }
@@ -109,16 +109,11 @@ impl ByteOne {
     }
 }
 
-/// The guards of an edge that leaves a shape with so many nodes, at most two. A second one needs a first.
+/// The guards of an edge that leaves a shape with so many nodes, at most two.
 fn guards(record: &[u8], count: usize) -> Vec<Guard> {
     let ByteOne { kind, node, spare, .. } = ByteOne::read(record[1]);
-    let first = Guard::read(record[6], record[7], count);
-    let second = match (first, Guard::read(kind, node, count)) {
-        (None, Some(_)) => Some(Guard::Damaged),
-        _ if spare => Some(Guard::Damaged),
-        (_, second) => second,
-    };
-    first.into_iter().chain(second).collect()
+    let second = if spare { Some(Guard::Damaged) } else { Guard::read(kind, node, count) };
+    Guard::read(record[6], record[7], count).into_iter().chain(second).collect()
 }
 
 /// A new counter: a constant and the old counters that are added to it.
@@ -135,10 +130,6 @@ impl Update {
 
     pub fn added(self) -> impl Iterator<Item = usize> {
         (0..NODES).filter(move |node| self.added >> node & 1 == 1)
-    }
-
-    pub fn apply(self, counters: &[u64]) -> i64 {
-        self.constant + self.added().map(|node| counters.get(node).copied().unwrap_or(0) as i64).sum::<i64>()
     }
 }
 
@@ -162,23 +153,21 @@ impl Edge {
         let updates = (0..locations[to].shape.count).map(|i| Update::read(pair(8 + 2 * i))).collect();
         Edge { branch: ByteOne::read(record[1]).branch, from, to, guards, updates }
     }
-
-    pub fn enabled(&self, counters: &[u64]) -> bool {
-        self.guards.iter().all(|guard| guard.holds(counters))
-    }
 }
 
+/// The tables, in which moves are made, and what stands in them.
 #[derive(Clone, Debug)]
 pub struct Automaton {
+    pub tables: Tables,
     pub locations: Vec<Location>,
     pub edges: Vec<Edge>,
 }
 
 impl Automaton {
-    pub fn read(tables: &Tables) -> Automaton {
+    pub fn read(tables: Tables) -> Automaton {
         let locations: Vec<Location> = tables.locations.chunks_exact(SIZE).map(Location::read).collect();
         let edges = tables.edges.chunks_exact(SIZE).map(|record| Edge::read(record, &locations)).collect();
-        Automaton { locations, edges }
+        Automaton { tables, locations, edges }
     }
 
     /// The edges that leave a location, with their numbers.

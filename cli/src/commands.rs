@@ -1,7 +1,7 @@
 //! What each command does: a result to be written, or a failure with nothing written.
 
 use crate::arguments::{wrong, Arguments};
-use crate::automaton::{check, tables, Automaton, Places, Refusal, ALL_PLACES, MOST_EDGES, MOST_LOCATIONS};
+use crate::automaton::{check, tables, Places, Refusal, ALL_PLACES, MOST_EDGES, MOST_LOCATIONS};
 use crate::bench;
 use crate::graph;
 use crate::help;
@@ -13,6 +13,7 @@ use crate::show::{Kind, Show};
 use crate::source::{bytes, is_records, Failure, Source, REFUSED};
 use crate::style::Style;
 use crate::text;
+use crate::walk::{self, Walk};
 
 /// The program `translate` reads no more of its input.
 const MOST_READ: usize = 4096;
@@ -53,6 +54,7 @@ pub fn perform(words: &[String], screen: Screen) -> Result<Done, Failure> {
         "disassemble" => disassemble(rest),
         "translate" => translate(rest, screen),
         "run" => run(rest, screen),
+        "walk" => walk(rest, screen),
         "show" => show(rest, screen),
         _ => Err(Failure::bad_use(format!("there is no command `{command}`\n{}", help::usage().trim_end()))),
     }
@@ -160,6 +162,23 @@ fn run(words: &[String], screen: Screen) -> Result<Done, Failure> {
     Ok(Done { output: ran.text.into_bytes(), file: None, status: if ran.matched { 0 } else { REFUSED } })
 }
 
+fn walk(words: &[String], screen: Screen) -> Result<Done, Failure> {
+    let given = Arguments::read("walk", words, &[("--heap", true), ("--shape", true), ("--edges", true)])?;
+    let options = walk::Options {
+        heap: given.numbers("--heap")?,
+        shape: given.number("--shape", 0, 15)?,
+        edges: given.numbers_or_input("--edges")?,
+    };
+    let source = Source::open(&given.file)?;
+    let refused = |r: Refusal| refusal::failure(r, &source, ALL_PLACES);
+    let automaton = source.automaton(ALL_PLACES).map_err(refused)?;
+    let routine = source.routine().map_err(refused)?;
+    let listing = Listing { source: &source, routine: &routine, automaton: &automaton, style: screen.style };
+    let went = Walk { listing }.go(&options)?;
+    let fine = went.walked.refusal == 0 && went.agreed;
+    Ok(Done { output: went.text.into_bytes(), file: None, status: if fine { 0 } else { REFUSED } })
+}
+
 fn show(words: &[String], screen: Screen) -> Result<Done, Failure> {
     let given = Arguments::read_words("show", words, &[], &["location|edge", "NUMBER"])?;
     let [kind, number] = [&given.words[0], &given.words[1]];
@@ -167,9 +186,8 @@ fn show(words: &[String], screen: Screen) -> Result<Done, Failure> {
     let number = number.parse().map_err(|_| wrong("show", format!("NUMBER is a number from 0 on, not `{number}`")))?;
     let source = Source::open(&given.file)?;
     let refused = |r: Refusal| refusal::failure(r, &source, ALL_PLACES);
-    let tables = tables(&source.records, ALL_PLACES).map_err(refused)?;
+    let automaton = source.automaton(ALL_PLACES).map_err(refused)?;
     let routine = source.routine().map_err(refused)?;
-    let automaton = Automaton::read(&tables);
     let listing = Listing { source: &source, routine: &routine, automaton: &automaton, style: screen.style };
-    Ok(Done::printed(Show { tables: &tables, listing }.record(kind, number)?))
+    Ok(Done::printed(Show { listing }.record(kind, number)?))
 }

@@ -1,9 +1,9 @@
 //! Help texts.
 
 const PROVED: &str = "\
-What is proved: every translation, in `show` the record, and in `run` every unfolded heap, plain
-step and folded shape, comes from the proved library. What is not proved: this tool, which reads
-text, takes the edges of the automaton in `run`, and prints.
+What is proved: every translation, in `show` the record, in `run` every unfolded heap, plain step
+and folded shape, and in `run` and `walk` every move, comes from the proved library.
+What is not proved: this tool, which reads text, chooses the edges in `run`, and prints.
 ";
 
 const TOP: &str = "\
@@ -15,6 +15,7 @@ currantplane: translates list routines into counter automata, for people
   currantplane show FILE location 17
                                   one location or edge, by its number, in hex and in words
   currantplane run FILE           the routine on a heap and the automaton beside it, step by step
+  currantplane walk FILE          the automaton by itself, along edges by their numbers
   currantplane assemble FILE      a text to records
   currantplane disassemble FILE   records to a text
   currantplane help COMMAND       more on a command
@@ -76,6 +77,24 @@ heap's shape and counters with the location and the automaton's counters.
 `new` takes the lowest cell that is not in use. `drop` says how many cells went, if any did.
 ";
 
+const WALK: &str = "\
+currantplane walk FILE [--heap N,N,..] [--shape I] [--edges E,E,..]
+
+Walks the automaton by itself: from a starting shape, along the edges with these numbers. A line
+for each move has its edge, when that is taken, the location that it leads to and the counters
+there. Then comes the location where the walk stands, with the edges that leave it.
+
+  --heap N,N,..    the counter of each node of the starting shape. No heap is made, so each may be
+                   up to 4294967295, which are 32 bits
+  --shape I        the starting shape, counted from 0; without it, 0
+  --edges E,E,..   the edges by their numbers in the listing, at most 4,096; `-` reads them from
+                   standard input. Without it, or with none, the walk stays at its start
+
+A walk stops at an edge that is not in the table, does not leave the location or whose guards do
+not hold (20), and where a counter would pass 32 bits (21). The moves before it are shown, and why
+the next one is refused. All moves are made in one call, and again one by one to show them.
+";
+
 const ASSEMBLE: &str = "\
 currantplane assemble FILE [-o OUT]
 
@@ -100,6 +119,7 @@ pub fn of(command: Option<&str>) -> Option<String> {
         Some("translate") => TRANSLATE,
         Some("show") => SHOW,
         Some("run") => RUN,
+        Some("walk") => WALK,
         Some("assemble") => ASSEMBLE,
         Some("disassemble") => DISASSEMBLE,
         Some(_) => return None,
@@ -109,5 +129,5 @@ pub fn of(command: Option<&str>) -> Option<String> {
 
 /// For a wrong use.
 pub fn usage() -> String {
-    "usage: currantplane translate|show|run|assemble|disassemble FILE [OPTIONS]\nTry `currantplane help`.\n".into()
+    "usage: currantplane translate|show|run|walk|assemble|disassemble FILE [OPTIONS]\nTry `currantplane help`.\n".into()
 }

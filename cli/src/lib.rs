@@ -1,6 +1,6 @@
-//! The command-line tool over the proved library. What is translated, folded, unfolded and stepped is so by proved code.
-//! What stands here is not proved: reading text and printing, following the automaton's edges beside a run, and saying of a
-//! refused shape what is wrong with it.
+//! The command-line tool over the proved library. What is translated, folded, unfolded, stepped and moved is so by proved
+//! code. What stands here is not proved: reading text and printing, choosing the automaton's edge beside a step of a run, and
+//! saying of a refused shape or move what is wrong with it.
 
 pub mod arguments;
 pub mod automaton;
@@ -12,6 +12,7 @@ pub mod graph;
 pub mod help;
 pub mod listing;
 pub mod machine;
+pub mod moves;
 pub mod names;
 pub mod nodes;
 pub mod record;
@@ -21,3 +22,4 @@ pub mod show;
 pub mod source;
 pub mod style;
 pub mod text;
+pub mod walk;

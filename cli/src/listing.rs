@@ -85,7 +85,8 @@ impl Listing<'_> {
         self.leads(&format!("{}from location {}  {condition}{gap}", self.style.strong(&lead), edge.from), edge)
     }
 
-    fn condition(&self, edge: &Edge) -> String {
+    /// When an edge is taken.
+    pub fn condition(&self, edge: &Edge) -> String {
         let [from, to] = self.ends(edge);
         names::condition(edge, &self.routine.statements[from.statement], to)
     }

@@ -1,7 +1,8 @@
-//! The routine on a heap, and the automaton beside it: one proved step of the one, one edge of the other.
+//! The routine on a heap, by proved steps, and whether the automaton beside it describes that heap.
 
 use crate::automaton::{Automaton, Refusal};
-use crate::record::{Record, NODES, POINTERS};
+use crate::moves::Configuration;
+use crate::record::{Record, Shape, NODES, POINTERS};
 
 /// As many cells as a heap image has.
 pub const CELLS: usize = 240;
@@ -57,34 +58,9 @@ impl Machine {
     }
 }
 
-/// The automaton's place: a location and its counters.
-#[derive(Clone, PartialEq, Eq, Debug)]
-pub struct Configuration {
-    pub location: usize,
-    pub counters: Vec<u64>,
-}
-
-impl Configuration {
-    /// Takes the enabled edge of this branch and gives its number; there must be exactly one.
-    pub fn follow(&mut self, automaton: &Automaton, branch: u8) -> Result<usize, String> {
-        let enabled: Vec<_> =
-            automaton.leaving(self.location).filter(|(_, e)| e.branch == branch && e.enabled(&self.counters)).collect();
-        let [(number, edge)] = enabled[..] else {
-            return Err(format!("{} edges of branch {branch} are enabled at location {}", enabled.len(), self.location));
-        };
-        let new: Vec<i64> = edge.updates.iter().map(|u| u.apply(&self.counters)).collect();
-        self.location = edge.to;
-        self.counters = new
-            .iter()
-            .map(|&c| u64::try_from(c).map_err(|_| format!("edge {number} makes a counter {c}")))
-            .collect::<Result<_, _>>()?;
-        Ok(number)
-    }
-}
-
 /// Whether the location with its counters describes the heap, which the proved library folds; the message says how not.
 pub fn compare(automaton: &Automaton, at: &Configuration, machine: &Machine) -> Result<(), String> {
-    let location = &automaton.locations[at.location];
+    let location = &automaton.locations[at.location as usize];
     if (location.statement, location.fault) != (machine.statement, machine.fault) {
         return Err(format!(
             "the location has statement {} and fault {}, the routine statement {} and fault {}",
@@ -98,13 +74,12 @@ pub fn compare(automaton: &Automaton, at: &Configuration, machine: &Machine) -> 
     if refusal.number != 0 {
         return Err(format!("the heap is no heap image: refusal {}", refusal.number));
     }
-    if location.shape != crate::record::Shape::read(&record) {
+    if location.shape != Shape::read(&record) {
         return Err("the heap has another shape than the location".into());
     }
-    let count = location.shape.count;
-    let folded: Vec<u64> = counters[..count].iter().map(|&c| u64::from(c)).collect();
-    if folded != at.counters {
-        return Err(format!("the heap's counters are {folded:?}, the automaton's {:?}", at.counters));
+    if counters != at.counters {
+        let folded = &counters[..location.shape.count];
+        return Err(format!("the heap's counters are {folded:?}, the automaton's {:?}", automaton.counters(at)));
     }
     Ok(())
 }

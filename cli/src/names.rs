@@ -136,13 +136,10 @@ fn guard(guard: Guard) -> String {
     }
 }
 
-/// `if c0 = 1 and c2 >= 2`; nothing where there is no guard.
+/// `c0 = 1 and c2 >= 2`
 pub fn guards(guards: &[Guard]) -> String {
     let each: Vec<String> = guards.iter().map(|&g| guard(g)).collect();
-    match each.len() {
-        0 => String::new(),
-        _ => format!("if {}", each.join(" and ")),
-    }
+    each.join(" and ")
 }
 
 /// When an edge to that location is taken: its guards, or its branch where the statement has two. A test that faults is neither
@@ -153,7 +150,8 @@ pub fn condition(edge: &Edge, s: &Statement, to: &Location) -> String {
         Op::Choose => format!("pick {}", edge.branch),
         Op::TestNull | Op::TestEqual if to.fault != 0 => String::new(),
         Op::TestNull | Op::TestEqual => if edge.branch == 0 { "true" } else { "false" }.into(),
-        _ => guards(&edge.guards),
+        _ if edge.guards.is_empty() => String::new(),
+        _ => format!("if {}", guards(&edge.guards)),
     }
 }
 
@@ -181,6 +179,11 @@ pub fn updates(edge: &Edge, old_count: usize) -> Vec<String> {
         return if old_count == 0 { Vec::new() } else { vec!["counters kept".into()] };
     }
     edge.updates.iter().enumerate().map(|(node, &u)| update(node, u)).collect()
+}
+
+/// `c0 = 3` for each node
+pub fn counters(counters: &[u32]) -> Vec<String> {
+    counters.iter().enumerate().map(|(node, counter)| format!("c{node} = {counter}")).collect()
 }
 
 /// `1 location`, `2 locations`

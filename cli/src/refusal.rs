@@ -7,7 +7,7 @@ use crate::source::{Failure, Source, REFUSED};
 use crate::style::paragraph;
 
 /// What each number from 1 on means, and what to change.
-const MEANINGS: [(&str, &str); 19] = [
+const MEANINGS: [(&str, &str); 21] = [
     (
         "the input is empty, or its length is no multiple of 32 bytes",
         "records have 32 bytes each and no header: complete the last one or cut it off",
@@ -57,6 +57,13 @@ const MEANINGS: [(&str, &str); 19] = [
          and so on",
         "number the nodes as they are visited, or write the shape as text and let `assemble` number it",
     ),
+    (
+        "a move is made along an edge of the table that leaves the location and whose guards hold, from counters of 1 or more, \
+         and a walk has at most 4,096 moves",
+        "name edges as `translate` lists them, each from the location that the one before it leads to, and there with guards \
+         that hold",
+    ),
+    ("a counter has at most 32 bits", "give smaller numbers to --heap, or end the walk before this edge"),
 ];
 
 /// What a number means and what to change.

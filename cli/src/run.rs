@@ -3,9 +3,10 @@
 use crate::automaton::{Automaton, Refusal, ALL_PLACES};
 use crate::drawing::{heap_lines, indented, shape_lines};
 use crate::listing::idle_note;
-use crate::machine::{compare, Configuration, Machine, Stepped};
+use crate::machine::{compare, Machine, Stepped};
+use crate::moves::{configuration, Configuration};
 use crate::names;
-use crate::record::{Op, Routine, Statement};
+use crate::record::{Op, Routine, Shape, Statement};
 use crate::refusal;
 use crate::source::{Failure, Source};
 use crate::style::{fill, paragraph, with_commas, Style};
@@ -74,30 +75,16 @@ impl Run<'_> {
     }
 
     fn start(&self, options: &Options) -> Result<Pair, Failure> {
-        let shape = self.routine.shapes.get(options.shape).ok_or_else(|| {
-            let count = names::count(self.routine.shapes.len(), "starting shape");
-            Failure::bad_use(format!("--shape {}: the routine has {count}, counted from 0", options.shape))
-        })?;
-        if options.heap.len() != shape.count {
-            let drawn = indented(&shape_lines(shape, &self.routine.idle_pointers()), 4);
-            return Err(Failure::bad_use(format!(
-                "--heap gives {}, and starting shape {} needs {}, one for each node:\n{}",
-                names::count(options.heap.len(), "number"),
-                options.shape,
-                shape.count,
-                drawn.trim_end()
-            )));
-        }
+        let shape = starting_shape(self.routine, options.shape, &options.heap)?;
         let refused = |r: Refusal| refusal::failure(r, self.source, ALL_PLACES);
         let machine = Machine::start(&shape.write(), &options.heap).map_err(refused)?;
-        let counters = options.heap.iter().map(|&c| u64::from(c)).collect();
-        Ok(Pair { machine, at: Configuration { location: options.shape, counters } })
+        Ok(Pair { machine, at: configuration(options.shape, &options.heap) })
     }
 
     /// Whether the run is over, for both alike.
     fn at_end(&self, pair: &Pair, last: bool) -> Option<End> {
         let stop = self.routine.statements[pair.machine.statement].op == Op::Stop;
-        let leaves = self.automaton.leaving(pair.at.location).next().is_some();
+        let leaves = self.automaton.leaving(pair.at.location as usize).next().is_some();
         match (pair.machine.fault, stop, leaves) {
             (0, false, false) => Some(End::Mismatch("the routine goes on and no edge leaves the location".into())),
             (0, false, true) => last.then_some(End::NoMoreSteps),
@@ -120,8 +107,8 @@ impl Run<'_> {
         };
         let lead = format!("{:<INDENT$}", format!("step {number}"));
         text.push_str(&format!("\n{}{name}: {}\n", self.style.strong(&lead), names::statement(statement)));
-        let count = pair.at.counters.len();
-        let taken = pair.at.follow(self.automaton, branch);
+        let count = self.automaton.counters(&pair.at).len();
+        let taken = self.automaton.follow(&mut pair.at, branch);
         if let Ok(edge) = taken {
             text.push_str(&self.taken(edge, statement, count));
         }
@@ -176,7 +163,7 @@ impl Run<'_> {
 
     /// The automaton's location and counters, or the fault, as pieces of a line.
     fn place(&self, pair: &Pair) -> Vec<String> {
-        let location = &self.automaton.locations[pair.at.location];
+        let location = &self.automaton.locations[pair.at.location as usize];
         let name = self.source.statement_name(location.statement);
         if location.fault != 0 {
             let statement = &self.routine.statements[location.statement];
@@ -186,7 +173,7 @@ impl Run<'_> {
             return pieces;
         }
         let mut pieces = vec![format!("location {} at {name}", pair.at.location)];
-        pieces.extend(pair.at.counters.iter().enumerate().map(|(node, c)| format!("c{node} = {c}")));
+        pieces.extend(names::counters(self.automaton.counters(&pair.at)));
         with_commas(&pieces)
     }
 
@@ -210,6 +197,24 @@ impl Run<'_> {
         };
         paragraph("", 0, &format!("{so_far} {how}"))
     }
+}
+
+/// The starting shape with this number, if so many counters are one for each of its nodes.
+pub fn starting_shape<'a>(routine: &'a Routine, number: usize, heap: &[u32]) -> Result<&'a Shape, Failure> {
+    let shape = routine.shapes.get(number).ok_or_else(|| {
+        let count = names::count(routine.shapes.len(), "starting shape");
+        Failure::bad_use(format!("--shape {number}: the routine has {count}, counted from 0"))
+    })?;
+    if heap.len() == shape.count {
+        return Ok(shape);
+    }
+    let drawn = indented(&shape_lines(shape, &routine.idle_pointers()), 4);
+    Err(Failure::bad_use(format!(
+        "--heap gives {}, and starting shape {number} needs {}, one for each node:\n{}",
+        names::count(heap.len(), "number"),
+        shape.count,
+        drawn.trim_end()
+    )))
 }
 
 /// The routine's own side of a drop: how many cells went, if any.

@@ -1,6 +1,6 @@
 //! One record of an automaton, as the proved library hands it back out of the two tables: in hex and in words.
 
-use crate::automaton::{ByteOne, Edge, Location, Tables};
+use crate::automaton::{Automaton, ByteOne, Edge, Location, Tables};
 use crate::listing::{idle_note, Listing};
 use crate::refusal;
 use crate::source::{Failure, REFUSED};
@@ -37,39 +37,28 @@ impl Kind {
     }
 }
 
-/// The tables, and the listing of what stands in them for the words.
+/// The listing, for the words; its automaton has the tables.
 pub struct Show<'a> {
-    pub tables: &'a Tables,
     pub listing: Listing<'a>,
 }
 
 impl Show<'_> {
     /// The record with this number, or why there is none.
     pub fn record(&self, kind: Kind, number: usize) -> Result<String, Failure> {
-        let Tables { locations, edges } = self.tables;
-        let source = self.listing.source;
-        let (refused, record) = currantplane::record(locations, edges, self.tables.counts(), kind.mark(), number);
+        let Listing { source, automaton: Automaton { tables, .. }, .. } = self.listing;
+        let in_use = in_use(tables, kind);
+        let (refused, record) = currantplane::record(&tables.locations, &tables.edges, tables.counts(), kind.mark(), number);
         if refused.number != 0 {
-            let message = refusal::explained(refused, source, Some(self.in_use(kind)));
+            let message = refusal::explained(refused, source, Some(in_use));
             return Err(Failure { status: REFUSED, message });
         }
-        let head = format!("{}: {} {number}; {}\n", source.name, kind.name(), self.in_use(kind));
+        let head = format!("{}: {} {number}; {}\n", source.name, kind.name(), in_use);
         let hex = format!("{:<15}{}\n", "record", refusal::hex(record));
         Ok(head + &idle_note(self.listing.routine) + &hex + &self.words(kind, number, record))
     }
 
-    /// `the locations are 0 to 19`
-    fn in_use(&self, kind: Kind) -> String {
-        let name = kind.name();
-        match self.tables.counts()[kind.mark()] {
-            0 => format!("there is no {name}"),
-            1 => format!("the only {name} is 0"),
-            n => format!("the {name}s are 0 to {}", n - 1),
-        }
-    }
-
     fn words(&self, kind: Kind, number: usize, record: &[u8]) -> String {
-        let Show { listing, .. } = self;
+        let Show { listing } = self;
         match kind {
             Kind::Location => listing.location(number, &Location::read(record)) + &listing.edges(number),
             Kind::Edge => {
@@ -80,6 +69,16 @@ impl Show<'_> {
                 byte_one(record[1]) + &listing.edge(number, &edge) + &drawn.collect::<String>()
             }
         }
+    }
+}
+
+/// `the locations are 0 to 19`
+pub fn in_use(tables: &Tables, kind: Kind) -> String {
+    let name = kind.name();
+    match tables.counts()[kind.mark()] {
+        0 => format!("there is no {name}"),
+        1 => format!("the only {name} is 0"),
+        n => format!("the {name}s are 0 to {}", n - 1),
     }
 }
 

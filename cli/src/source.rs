@@ -78,7 +78,7 @@ impl Source {
     }
 
     pub fn automaton(&self, places: Places) -> Result<Automaton, Refusal> {
-        Ok(Automaton::read(&tables(&self.records, places)?))
+        tables(&self.records, places).map(Automaton::read)
     }
 
     /// The label of a statement, if the text gives one.

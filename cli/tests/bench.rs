@@ -36,7 +36,7 @@ fn many_edges(skips: usize) -> String {
 
 /// The full listing, if there is one.
 fn full(records: &[u8]) -> Result<Automaton, Refusal> {
-    tables(records, ALL_PLACES).map(|tables| Automaton::read(&tables))
+    tables(records, ALL_PLACES).map(Automaton::read)
 }
 
 /// What the bench must answer by the full listing. The first edge that finds no place is refused, its target's place first.

@@ -67,6 +67,7 @@ fn help_says_what_is_proved() {
         vec!["help", "assemble"],
         vec!["disassemble", "-h"],
         vec!["help", "show"],
+        vec!["help", "walk"],
     ] {
         let done = tool(&words, b"");
         let said = text(&done.stdout);
@@ -82,6 +83,10 @@ fn help_says_what_is_proved() {
     for option in ["--heap", "--shape", "--picks", "--steps"] {
         assert!(text(&printed(&["help", "run"], b"")).contains(option));
     }
+    for option in ["--heap", "--shape", "--edges"] {
+        assert!(text(&printed(&["walk", "-h"], b"")).contains(option));
+    }
+    assert!(text(&printed(&["help"], b"")).contains("  currantplane walk FILE  "));
     assert!(text(&printed(&["help", "translate"], b"")).contains("The edge of a `drop` has no guard;"));
     assert!(text(&printed(&["help", "run"], b"")).contains("`drop` says how many cells went"));
 }
@@ -124,7 +129,11 @@ fn text_and_records_give_the_same() {
 
 #[test]
 fn no_colours_without_a_terminal() {
-    for words in [vec!["translate", "examples/leak.txt"], vec!["run", "examples/leak.txt", "--heap", "2"]] {
+    for words in [
+        vec!["translate", "examples/leak.txt"],
+        vec!["run", "examples/leak.txt", "--heap", "2"],
+        vec!["walk", "examples/leak.txt", "--heap", "2", "--edges", "0"],
+    ] {
         assert!(!printed(&words, b"").contains(&0x1b));
     }
 }

@@ -13,8 +13,7 @@ use tool::text::assemble;
 fn a_graph_has_every_location_and_edge() {
     for name in common::EXAMPLES {
         let shown = text(&printed(&["translate", &format!("examples/{name}.txt"), "--dot"], b""));
-        let tables = tables(&assemble(&example(name)).unwrap().records, ALL_PLACES).unwrap();
-        let automaton = Automaton::read(&tables);
+        let automaton = tables(&assemble(&example(name)).unwrap().records, ALL_PLACES).map(Automaton::read).unwrap();
         let count = |what: &str| shown.lines().filter(|l| l.contains(what)).count();
         assert_eq!(count("[label=<<B>location "), automaton.locations.len());
         assert_eq!(count(" -> l"), automaton.edges.len());

@@ -3,7 +3,7 @@
 mod common;
 
 use common::{example, printed, text, tool, EXAMPLES};
-use tool::automaton::{tables, Automaton, ALL_PLACES};
+use tool::automaton::ALL_PLACES;
 use tool::listing::Listing;
 use tool::record::SIZE;
 use tool::refusal::hex;
@@ -17,10 +17,10 @@ fn every_record_of_the_examples() {
     let (mut edges, mut two_guards) = (0, 0);
     for name in EXAMPLES {
         let source = Source::of_bytes(name, example(name).into_bytes()).unwrap();
-        let (tables, routine) = (tables(&source.records, ALL_PLACES).unwrap(), source.routine().unwrap());
-        let automaton = Automaton::read(&tables);
+        let (automaton, routine) = (source.automaton(ALL_PLACES).unwrap(), source.routine().unwrap());
+        let tables = &automaton.tables;
         let listing = Listing { source: &source, routine: &routine, automaton: &automaton, style: Style::PLAIN };
-        let (whole, show) = (listing.text(), Show { tables: &tables, listing });
+        let (whole, show) = (listing.text(), Show { listing });
         for (number, record) in tables.locations.chunks(SIZE).enumerate() {
             let shown = show.record(Kind::Location, number).unwrap();
             let (head, words) = shown.split_once(&format!("{}\n", hex(record))).expect("the record in hex");

@@ -4,16 +4,16 @@ mod common;
 
 use common::{example, root, text, tool, Draw};
 use std::collections::HashMap;
-use tool::automaton::{tables, Automaton, Tables, ALL_PLACES};
+use tool::automaton::{Tables, ALL_PLACES};
 use tool::listing::Listing;
 use tool::record::{Op, NULL, SIZE};
 use tool::source::Source;
 use tool::style::Style;
 
 fn listing(source: &Source) -> Option<(String, Tables)> {
-    let tables = tables(&source.records, ALL_PLACES).ok()?;
-    let (routine, automaton) = (source.routine().unwrap(), Automaton::read(&tables));
-    Some((Listing { source, routine: &routine, automaton: &automaton, style: Style::PLAIN }.text(), tables))
+    let (automaton, routine) = (source.automaton(ALL_PLACES).ok()?, source.routine().unwrap());
+    let text = Listing { source, routine: &routine, automaton: &automaton, style: Style::PLAIN }.text();
+    Some((text, automaton.tables))
 }
 
 fn of_text(name: &str) -> Source {

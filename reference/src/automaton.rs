@@ -1,7 +1,7 @@
 //! The automaton read back from the bytes of the two tables.
 
 use crate::fold::Counters;
-use crate::records::{Guard, Record, EDGE, LOCATION, NODES, NO_GUARD, ONE, RECORD, TWO_OR_MORE};
+use crate::records::{branch_byte, Guard, Record, EDGE, LOCATION, NODES, NO_GUARD, ONE, RECORD, TWO_OR_MORE};
 
 /// An edge as its record tells it.
 #[derive(Clone, Copy, PartialEq, Eq, Debug)]
@@ -32,24 +32,45 @@ fn two_bytes(record: &[u8], at: usize) -> u16 {
     u16::from(record[at]) | u16::from(record[at + 1]) << 8
 }
 
-fn read_edge(record: &Record) -> Result<Edge, String> {
+/// The fields of an E record, whatever its bytes are.
+pub fn decode_edge(record: &Record) -> Edge {
     let mut updates = [0; NODES];
     for (number, update) in updates.iter_mut().enumerate() {
         *update = two_bytes(record, 8 + 2 * number);
     }
     let first = Guard { kind: record[6], node: usize::from(record[7]) };
     let second = Guard { kind: record[1] >> 1 & 3, node: usize::from(record[1] >> 3 & 15) };
-    let edge = Edge {
+    Edge {
         branch: record[1] & 1,
         from: usize::from(two_bytes(record, 2)),
         to: usize::from(two_bytes(record, 4)),
         guards: [first, second],
         updates,
-    };
+    }
+}
+
+/// The E record with these fields.
+pub fn encode_edge(edge: &Edge) -> Record {
+    let [first, second] = edge.guards;
+    let mut record = [0; RECORD];
+    record[0] = EDGE;
+    record[1] = branch_byte(edge.branch, second);
+    record[2..4].copy_from_slice(&(edge.from as u16).to_le_bytes());
+    record[4..6].copy_from_slice(&(edge.to as u16).to_le_bytes());
+    record[6] = first.kind;
+    record[7] = first.node as u8;
+    for (bytes, update) in record[8..].chunks_exact_mut(2).zip(edge.updates) {
+        bytes.copy_from_slice(&update.to_le_bytes());
+    }
+    record
+}
+
+fn read_edge(record: &Record) -> Result<Edge, String> {
+    let edge = decode_edge(record);
     let sound = record[0] == EDGE
         && record[1] & 0x80 == 0
         && edge.guards.iter().all(is_guard)
-        && updates.iter().all(|&update| update >> 12 <= 2);
+        && edge.updates.iter().all(|&update| update >> 12 <= 2);
     if sound {
         Ok(edge)
     } else {

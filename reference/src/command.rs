@@ -11,6 +11,7 @@ use crate::refusal::Refusal;
 use crate::selftest;
 use crate::text::{write_counters, write_record, write_values, Lines};
 use crate::translate::{translate, EDGES, LOCATIONS};
+use crate::walk::{walk, Configuration};
 
 /// The places of the tables that `translate` uses, and those of the bench.
 const FULL: [usize; 2] = [LOCATIONS, EDGES];
@@ -69,8 +70,9 @@ fn dispatch(words: &[String], input: &mut dyn Read) -> Result<Answer, String> {
         ["unfold"] => run_unfold(&read_all(input)?),
         ["step"] => run_step(&read_all(input)?),
         ["record"] => run_record(&read_all(input)?),
+        ["walk"] => run_walk(&read_all(input)?),
         ["selftest", ..] => run_selftest(&words[1..]),
-        ["translate", "--bench", word, ..] | ["translate" | "fold" | "unfold" | "step" | "record", word, ..] => {
+        ["translate", "--bench", word, ..] | ["translate" | "fold" | "unfold" | "step" | "record" | "walk", word, ..] => {
             Err(format!("'{word}' is not expected; see 'reference {} --help'", words[0]))
         }
         [command, ..] => Err(format!("no command '{command}'; see 'reference --help'")),
@@ -84,6 +86,7 @@ fn help_of(command: &str) -> Result<Answer, String> {
         "unfold" => help::UNFOLD.to_string() + help::TEXT,
         "step" => help::STEP.to_string() + help::TEXT,
         "record" => help::RECORD.to_string(),
+        "walk" => help::WALK.to_string(),
         "selftest" => help::SELFTEST.to_string(),
         _ => return Err(format!("no command '{command}'; see 'reference --help'")),
     };
@@ -129,7 +132,7 @@ fn run_unfold(input: &[u8]) -> Result<Answer, String> {
     let names = ["record", "counters", "length", "pointers", "cells"];
     let lines = Lines::read(input, &names)?;
     let record = lines.bytes("record")?;
-    let counters = lines.counters("counters")?;
+    let counters = lines.short_numbers("counters")?;
     let (mut pointers, mut cells) = if lines.has("length") {
         if lines.has("pointers") || lines.has("cells") {
             return Err("'length' stands beside 'pointers' or 'cells'".to_string());
@@ -177,6 +180,23 @@ fn run_record(input: &[u8]) -> Result<Answer, String> {
     // From the addresses, so that it tells where the part does stand.
     let begin = part.as_ptr() as usize - meant.as_ptr() as usize;
     result(format!("part {begin} {}\n", part.len()) + &write_record("record", part))
+}
+
+fn run_walk(input: &[u8]) -> Result<Answer, String> {
+    let names = ["locations", "edges", "counts", "location", "counters", "path"];
+    let lines = Lines::read(input, &names)?;
+    let locations = lines.table("locations")?;
+    let edges = lines.table("edges")?;
+    let [location_count, edge_count] = lines.two_numbers("counts")?.map(as_size);
+    let start = Configuration { location: lines.short_number("location")?, counters: lines.twelve_numbers("counters")? };
+    let path = lines.short_numbers("path")?;
+    let walked = walk(&locations, &edges, location_count, edge_count, start, &path);
+    let Configuration { location, counters } = walked.configuration;
+    let reached = format!("made {}\nlocation {location}\n", walked.made) + &write_counters("counters", &counters);
+    match walked.refusal {
+        None => result(reached),
+        Some(refusal) => refused(refusal).map(|Answer { status, text }| Answer { status, text: text + &reached }),
+    }
 }
 
 /// A number that no size can hold is refused like the largest size.

@@ -11,11 +11,12 @@ commands:
   unfold      a shape and counters to a heap
   step        one statement of the plain machine on a heap
   record      one record out of the tables of locations and edges
+  walk        moves along edges of the tables, from a location with counters
   selftest    random tests of all of the above
 
 reference COMMAND --help tells more of a command.
 
-The first five read standard input. Exit status: 0 for a result, 1 for a
+The first six read standard input. Exit status: 0 for a result, 1 for a
 refusal (or a selftest that fails), 2 for wrong usage or bad text.
 ";
 
@@ -104,6 +105,31 @@ Text: one line for each name, in any order. Blank lines, and what follows a
 '#', are skipped.
 ";
 
+pub const WALK: &str = "\
+usage: reference walk < FILE
+
+Reads both tables, the counts in use, a configuration and the edges to take:
+  locations HEX         the bytes of the locations, or nothing
+  edges HEX             the bytes of the edges, or nothing
+  counts NUMBER NUMBER  the locations and the edges in use, below 2^64
+  location NUMBER       where the walk starts, below 2^32
+  counters NUMBER...    exactly twelve numbers below 2^32
+  path NUMBER...        edge numbers below 2^32, or nothing
+Prints how many moves were made, and where they led:
+  made NUMBER
+  location NUMBER
+  counters NUMBER...
+Before these lines stands 'refused NUMBER PLACE' if the walk was refused:
+  20  the tables or the configuration break the layout, the path is longer
+      than 4,096, or an edge is not there, does not leave the location or is
+      not enabled
+  21  a counter would pass 32 bits
+The moves before a refusal are made.
+
+Text: one line for each name, in any order. Blank lines, and what follows a
+'#', are skipped.
+";
+
 /// What the text commands on heaps have in common.
 pub const TEXT: &str = "
 Text: one line for each name, in any order. A VALUE is a number from 0 to 252,
@@ -113,13 +139,14 @@ Text: one line for each name, in any order. A VALUE is a number from 0 to 252,
 pub const SELFTEST: &str = "\
 usage: reference selftest [--seed NUMBER] [--routines NUMBER]
 
-Tests random routines, heaps and runs, from a fixed seed unless another one is
-given. Prints what was counted. Fails, with exit status 1, if anything differs,
-if some refusal from 1 to 19 or fault from 1 to 3 was never met, or if tests of
-undefined pointers, relinks, drops or damaged H records came too seldom: each
-kind that is printed, and each of the refusals 9, 18 and 19 at each node at
-which it can come, is to be met once and once more for every 100 routines.
-Beside them, five inputs whose listing has a location at a drop, and five heap
-images with a drop, are wanted for every three routines. A few hundred routines
-are enough to meet them all. The default is 12,000 routines.
+Tests random routines, heaps, runs and walks, from a fixed seed unless another
+one is given. Prints what was counted. Fails, with exit status 1, if anything
+differs, if some refusal from 1 to 21 or fault from 1 to 3 was never met, or if
+tests of undefined pointers, relinks, drops, walks, tables at the limits of the
+layout or damaged H records came too seldom: each kind that is printed, and each
+of the refusals 9, 18 and 19 at each node at which it can come, is to be met
+once and once more for every 100 routines. Beside them, five inputs whose
+listing has a location at a drop, and five heap images with a drop, are wanted
+for every three routines. A few hundred routines are enough to meet them all.
+The default is 12,000 routines.
 ";

@@ -5,13 +5,15 @@
 //! with small counters into a heap, runs the plain machine on that heap,
 //! folds the result, and infers the edges from several such probes.
 //!
-//! The calls are [`translate`], [`fold`], [`unfold`], [`step`] and
-//! [`record_part`]. None of them panics, whatever the bytes, lengths and
-//! numbers are; each refuses by number and place and, where a shape is refused
-//! for one of its nodes, by the first such node.
+//! The calls are [`translate`], [`fold`], [`unfold`], [`step`],
+//! [`record_part`], [`move_along`] and [`walk`]. None of them panics, whatever
+//! the bytes, lengths and numbers are; each refuses by number and place and,
+//! where a shape is refused for one of its nodes, by the first such node.
+//! [`broken_clauses`] tells why tables break the layout.
 
 mod automaton;
 mod calls;
+mod clause;
 pub mod command;
 mod damage;
 mod fold;
@@ -19,6 +21,8 @@ mod heap;
 mod help;
 mod image;
 mod input;
+mod layout;
+mod lowest;
 mod machine;
 mod part;
 mod probe;
@@ -31,8 +35,13 @@ mod statement;
 mod text;
 mod translate;
 mod unfold;
+mod walk;
+pub mod walk_damage;
 
 pub use calls::{fold, step, unfold, Folded, Stepped};
+pub use clause::Clause;
+pub use layout::{broken_clause, broken_clauses};
 pub use part::record_part;
 pub use refusal::{Node, Refusal};
 pub use translate::{translate, Translated};
+pub use walk::{configuration_fits, move_along, walk, Configuration, Walked};

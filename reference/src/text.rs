@@ -108,10 +108,23 @@ impl<'a> Lines<'a> {
         Ok(length as usize)
     }
 
-    /// The counters of a line, however many there are.
-    pub fn counters(&self, name: &str) -> Result<Vec<u32>, String> {
+    /// The only number of a line, which is below 2^32.
+    pub fn short_number(&self, name: &str) -> Result<u32, String> {
+        let line = self.line(name)?;
+        line.check(number(line.only_word()?))
+    }
+
+    /// The numbers of a line, which are below 2^32, however many there are.
+    pub fn short_numbers(&self, name: &str) -> Result<Vec<u32>, String> {
         let line = self.line(name)?;
         line.words.iter().map(|word| line.check(number(word))).collect()
+    }
+
+    /// The same, of which there are exactly twelve.
+    pub fn twelve_numbers(&self, name: &str) -> Result<[u32; NODES], String> {
+        let line = self.line(name)?;
+        let numbers = <[u32; NODES]>::try_from(self.short_numbers(name)?);
+        line.check(numbers.map_err(|_| format!("'{name}' is followed by exactly twelve words")))
     }
 }
 
@@ -201,7 +214,13 @@ mod tests {
             let words: Vec<String> = counters.iter().map(u32::to_string).collect();
             let input = format!("counters {}\n", words.join(" "));
             let lines = Lines::read(input.as_bytes(), &["counters"]).unwrap();
-            assert_eq!(lines.counters("counters"), Ok(counters));
+            let twelve = lines.twelve_numbers("counters").map(|twelve| twelve.to_vec());
+            if count == 12 {
+                assert_eq!(twelve.as_ref(), Ok(&counters));
+            } else {
+                assert_eq!(twelve, Err("line 1: 'counters' is followed by exactly twelve words".to_string()));
+            }
+            assert_eq!(lines.short_numbers("counters"), Ok(counters));
         }
     }
 
@@ -209,7 +228,7 @@ mod tests {
     fn errors_name_the_line() {
         let error = |input: &[u8]| match Lines::read(input, &["counters", "record"]) {
             Err(error) => error,
-            Ok(lines) => lines.counters("counters").and_then(|_| lines.bytes("record")).expect_err("an error"),
+            Ok(lines) => lines.short_numbers("counters").and_then(|_| lines.bytes("record")).expect_err("an error"),
         };
         assert!(error(b"\npointers 0").starts_with("line 2: 'pointers' is none of"));
         assert!(error(b"record 00\ncounters 1\nrecord 00").starts_with("line 3: 'record' stands"));

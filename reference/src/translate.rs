@@ -2,9 +2,10 @@
 
 use std::collections::HashMap;
 
+use crate::automaton::{encode_edge, Edge};
 use crate::input::{read_routine, Routine};
 use crate::probe::{find_edges, Found};
-use crate::records::{branch_byte, location, Record, EDGE, RECORD};
+use crate::records::{location, Record, RECORD};
 use crate::refusal::{refuse, Node, Refusal};
 
 /// The most locations and edges, however long the lent tables are.
@@ -103,22 +104,8 @@ impl Listing {
         if self.edges.len() == self.edge_places {
             return refuse(12, from);
         }
-        self.edges.push(edge_record(found, from, to));
+        let Found { branch, guards, updates, .. } = *found;
+        self.edges.push(encode_edge(&Edge { branch, from, to, guards, updates }));
         Ok(())
     }
-}
-
-fn edge_record(found: &Found, from: usize, to: usize) -> Record {
-    let [first, second] = found.guards;
-    let mut record = [0; RECORD];
-    record[0] = EDGE;
-    record[1] = branch_byte(found.branch, second);
-    record[2..4].copy_from_slice(&(from as u16).to_le_bytes());
-    record[4..6].copy_from_slice(&(to as u16).to_le_bytes());
-    record[6] = first.kind;
-    record[7] = first.node as u8;
-    for (bytes, update) in record[8..].chunks_exact_mut(2).zip(found.updates) {
-        bytes.copy_from_slice(&update.to_le_bytes());
-    }
-    record
 }

@@ -30,6 +30,14 @@ fn the_fixed_seed_agrees_and_meets_everything() {
     }
     assert_eq!(drops.cells_before, drops.cells_after + drops.cells_collected);
     assert!(drops.full_images >= 500 && drops.cells_collected >= 100_000, "{drops:?}");
+    let walks = counts.walks;
+    assert!(walks.on_listings >= 11_000 && walks.on_drawn >= 40_000 && walks.moves >= 1_000_000, "{walks:?}");
+    assert!(walks.empty >= 5_000 && walks.longest >= 300 && walks.too_long >= 300 && walks.misplaced >= 1_000, "{walks:?}");
+    for ends in [walks.ends_on_listings, walks.ends_on_drawn] {
+        assert!(ends.iter().all(|&count| count >= 400), "{ends:?}");
+    }
+    assert!(walks.outside.iter().chain(&walks.inside).all(|&count| count >= 400), "{walks:?}");
+    assert!(walks.listings[2..].iter().all(|&count| count >= 400) && walks.listings[..2] == [0, 0], "{walks:?}");
     for by_node in [counts.nodes_in_inputs, counts.nodes_in_unfolding] {
         let [lost, not_core, otherwise] = by_node;
         assert!(lost.iter().chain(&not_core).chain(&otherwise[..11]).all(|&count| count >= 300), "{by_node:?}");
@@ -47,6 +55,12 @@ fn kinds_that_are_too_few_are_told() {
     [counts.nodes_in_inputs, counts.nodes_in_unfolding] = [[[5; 12]; 3]; 2];
     counts.orders = [5; 11];
     [counts.drops.listed, counts.drops.run, counts.drops.stepped] = [[5; 20]; 3];
+    [counts.walks.ends_on_listings, counts.walks.ends_on_drawn] = [[5; 4]; 2];
+    [counts.walks.outside, counts.walks.inside, counts.walks.listings] = [[5; 28]; 3];
+    [counts.walks.empty, counts.walks.longest, counts.walks.too_long] = [5; 3];
+    [counts.walks.misplaced, counts.walks.overflowed_later] = [5; 2];
+    // The counts have no records that could be broken in a listing.
+    counts.walks.listings[..2].fill(0);
     // Five for every three routines.
     [counts.drops.inputs, counts.drops.images] = [666; 2];
     // 19 cannot come at node 11.
@@ -66,6 +80,17 @@ fn kinds_that_are_too_few_are_told() {
     counts.drops.listed[0] = 4;
     counts.drops.run[8] = 0;
     let drops = "drop in listings, u null (4 of 5), drop in runs, everything vanishes (0 of 5)";
+    assert_eq!(counts.too_few(), Some(format!("{due}, {relinks}, {drops}")));
+    counts.walks.longest = 0;
+    counts.walks.ends_on_listings[3] = 1;
+    counts.walks.outside[0] = 4;
+    counts.walks.inside[27] = 0;
+    counts.walks.listings[2] = 2;
+    let clauses = "layout outside, location count above the places (4 of 5), \
+                   layout inside, edge: update that could give less than 1 (0 of 5), \
+                   layout listing outside, location: byte 0 is not 0x4c (2 of 5)";
+    let walks = format!("walk with 4096 moves (0 of 5), walk on listings, refused 21 (1 of 5), {clauses}");
+    let drops = &format!("{drops}, {walks}");
     assert_eq!(counts.too_few(), Some(format!("{due}, {relinks}, {drops}")));
     counts.orders[4] = 0;
     counts.nodes_in_inputs[0][11] = 4;

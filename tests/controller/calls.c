@@ -1,10 +1,10 @@
-/* The five calls, on what is lent. Without the sanitizers, each has a stack of its own that was painted before, so that
+/* The calls, on what is lent. Without the sanitizers, each has a stack of its own that was painted before, so that
  * the deepest byte that any of its calls wrote is found at the end. */
 #include "lent.h"
 
 #include "../../controller/stack.h"
 
-const char *const call_names[CALLS] = {"translate", "record", "fold", "unfold", "step"};
+const char *const call_names[CALLS] = {"translate", "record", "fold", "unfold", "step", "move", "walk"};
 
 const enum slot lent_to[CALLS][7] = {
     {INPUT, LOCATIONS, EDGES, ANSWER, SLOTS},
@@ -12,6 +12,8 @@ const enum slot lent_to[CALLS][7] = {
     {POINTERS, CELLS, SHAPE, COUNTERS, PLACE, SLOTS},
     {SHAPE, COUNTERS, POINTERS, CELLS, PLACE, NODE, SLOTS},
     {POINTERS, CELLS, STATEMENT, ANSWER, PLACE, SLOTS},
+    {CONFIGURATION, LOCATIONS, EDGES, SLOTS},
+    {CONFIGURATION, LOCATIONS, EDGES, PATH, MADE, SLOTS},
 };
 
 struct given given;
@@ -19,6 +21,7 @@ static uint8_t refusal;
 
 static size_t *sizes(enum slot slot) { return (size_t *)(void *)loans[slot].at; }
 static uint32_t *words(enum slot slot) { return (uint32_t *)(void *)loans[slot].at; }
+static struct currantplane_configuration *lent_configuration(void) { return (void *)loans[CONFIGURATION].at; }
 
 int writes(enum call which, enum slot slot)
 {
@@ -27,6 +30,8 @@ int writes(enum call which, enum slot slot)
     case RECORD: return slot == ANSWER;
     case FOLD: return slot != POINTERS && slot != CELLS;
     case UNFOLD: return slot != SHAPE && slot != COUNTERS;
+    case MOVE:
+    case WALK: return slot == CONFIGURATION || slot == MADE;
     default: return slot != STATEMENT;
     }
 }
@@ -71,7 +76,23 @@ static void call_step(void *nothing)
                                 loans[ANSWER].length, sizes(PLACE));
 }
 
-static void (*const made[CALLS])(void *) = {call_translate, call_record, call_fold, call_unfold, call_step};
+static void call_move(void *nothing)
+{
+    (void)nothing;
+    refusal = currantplane_move(lent_configuration(), loans[LOCATIONS].at, loans[LOCATIONS].length, loans[EDGES].at,
+                                loans[EDGES].length, given.location_count, given.edge_count, given.number);
+}
+
+static void call_walk(void *nothing)
+{
+    (void)nothing;
+    refusal = currantplane_walk(lent_configuration(), loans[LOCATIONS].at, loans[LOCATIONS].length, loans[EDGES].at,
+                                loans[EDGES].length, given.location_count, given.edge_count, words(PATH),
+                                loans[PATH].length / sizeof(uint32_t), sizes(MADE));
+}
+
+static void (*const made[CALLS])(void *) = {call_translate, call_record, call_fold, call_unfold,
+                                            call_step,      call_move,   call_walk};
 
 static struct stack stacks[CALLS];
 

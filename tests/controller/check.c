@@ -19,7 +19,9 @@ static struct tally {
     {"translations", 0, 0},   {"the rule for other tables", 0, 0}, {"records put together again", 0, 0},
     {"edges of drops", 0, 0}, {"records of a listing", 0, 0},      {"folds", 0, 0},
     {"unfoldings", 0, 0},     {"steps", 0, 0},                     {"records of any tables", 0, 0},
-    {"bytes beside what is lent", 0, 0}, {"what is only read", 0, 0}, {"shelf cases", 0, 0},
+    {"moves", 0, 0},          {"walks", 0, 0},                     {"walks by single moves", 0, 0},
+    {"walks cut in two", 0, 0}, {"bytes beside what is lent", 0, 0}, {"what is only read", 0, 0},
+    {"shelf cases", 0, 0},
 };
 
 /* the trial at hand, with what it is given, for reports */
@@ -152,12 +154,15 @@ static void read_trials(void)
                   {'F', "fold", fold_trial},
                   {'U', "unfolding", unfold_trial},
                   {'S', "step", step_trial},
-                  {'R', "record", record_trial}};
+                  {'R', "record", record_trial},
+                  {'M', "move", move_trial},
+                  {'W', "walk", walk_trial}};
+    const size_t kinds = sizeof trials / sizeof trials[0];
     int letter;
     for (uint64_t number = 0; (letter = getchar()) != 'Z'; number++) {
         size_t kind = 0;
-        while (kind < 5 && trials[kind].letter != letter) kind++;
-        sound(kind < 5);
+        while (kind < kinds && trials[kind].letter != letter) kind++;
+        sound(kind < kinds);
         begin(trials[kind].name, number);
         trials[kind].run();
     }

@@ -6,7 +6,8 @@
 
 /* Each kind of look is one test. */
 enum kind {
-    TRANSLATIONS, RULE, READERS, DROP_EDGES, PARTS, FOLDS, UNFOLDINGS, STEPS, RECORDS, GUARDS, ONLY_READ, SHELF, KINDS
+    TRANSLATIONS, RULE, READERS, DROP_EDGES, PARTS, FOLDS, UNFOLDINGS, STEPS, RECORDS, MOVES, WALKS, BY_MOVES, CUT,
+    GUARDS, ONLY_READ, SHELF, KINDS
 };
 
 /* A trial or a case begins: what is given is forgotten, and buffers are arranged by its number. */
@@ -42,7 +43,7 @@ void sound(int good);
 
 /* Refusals are counted by where they came, those about a node also by the node, and each with a floor must have come so
  * often. */
-enum group { AT_BENCH, ELSEWHERE, OF_FOLD, OF_UNFOLD, OF_STEP, OF_RECORD, GROUPS };
+enum group { AT_BENCH, ELSEWHERE, OF_FOLD, OF_UNFOLD, OF_STEP, OF_RECORD, OF_MOVE, OF_WALK, GROUPS };
 void met_refusal(enum group group, const struct told *told);
 
 /* Other things that must have come so often. */
@@ -56,6 +57,9 @@ enum met {
     FOLD_TRIALS, TWELVE_FOLDED, UNFOLD_TRIALS,
     STEP_TRIALS, FAULT_1, FAULT_2, FAULT_3, STOPS, SECOND_BRANCHES, COLLECTING, NOT_COLLECTING, OP_14_STEPPED,
     RECORD_TRIALS,
+    /* moves and walks */
+    MOVE_TRIALS, WALK_TRIALS, MOVES_MADE, LONGEST_WALKS, TOO_LONG, EMPTY_WALKS, EMPTY_REFUSED, STOPPED_LATE,
+    LARGE_COUNTERS, ABOVE_PLACES, BYTES_SHORT, NULL_EDGES, SINGLE_MOVES, CUT_WALKS,
     /* damaged H records, by call and in all */
     DAMAGED_TRANSLATED, DAMAGED_UNFOLDED, DAMAGED,
     /* buffers, of all calls */
@@ -71,6 +75,8 @@ void record_trial(void);
 void fold_trial(void);
 void unfold_trial(void);
 void step_trial(void);
+void move_trial(void);
+void walk_trial(void);
 
 struct heap {
     size_t pointers_length, cells_length;
@@ -98,6 +104,11 @@ void try_step(enum kind kind, const struct heap *before, const uint8_t *statemen
 /* Of an accepted translation whose tables stand there: every record is put together again from what the header's
  * functions read, the edges of drops are looked at, and some records are asked for. */
 void read_listing(const struct translation *t);
+
+/* Shelf cases of walks. */
+void p1_walked(void);
+void walks_of_4096(void);
+void counters_of_32_bits(void);
 
 /* The shelf cases: how many passed; those that failed are added to `failed`. */
 unsigned shelf_cases(unsigned *failed);

@@ -4,10 +4,10 @@
 #include <inttypes.h>
 #include <stdio.h>
 
-enum { REFUSALS = 20, NODES = CURRANTPLANE_MOST_NODES, ENOUGH = 20 };
+enum { REFUSALS = 22, NODES = CURRANTPLANE_MOST_NODES, ENOUGH = 20 };
 
 static const char *const group_names[GROUPS] = {"translations at the bench's sizes", "translations in other tables",
-                                                "folds", "unfoldings", "steps", "records"};
+                                                "folds", "unfoldings", "steps", "records", "moves", "walks"};
 static uint64_t refusals[GROUPS][REFUSALS];
 /* how often each refusal must have come */
 static const uint64_t refusal_floors[GROUPS][REFUSALS] = {
@@ -17,6 +17,8 @@ static const uint64_t refusal_floors[GROUPS][REFUSALS] = {
     {[0] = 2000, [8] = 50, [9] = 1000, [13] = 50, [15] = 50, [18] = 1000, [19] = 1000},
     {[0] = 10000, [4] = 50, [5] = 50, [6] = 50, [7] = 50, [13] = 100, [14] = 100, [16] = 100},
     {[0] = 1000, [17] = 1000},
+    {[0] = 2000, [20] = 3000, [21] = 200},
+    {[0] = 2000, [20] = 3000, [21] = 300},
 };
 
 /* The refusals about a node: how often each came at each, in translations and in unfoldings. 19 cannot come at the last
@@ -66,10 +68,24 @@ static struct {
     [NOT_COLLECTING] = {"  drops that collect none", 1000, 0},
     [OP_14_STEPPED] = {"  refused for op 14", 100, 0},
     [RECORD_TRIALS] = {"records of any tables", 5000, 0},
+    [MOVE_TRIALS] = {"moves", 10000, 0},
+    [WALK_TRIALS] = {"walks", 10000, 0},
+    [MOVES_MADE] = {"  moves made in them", 300000, 0},
+    [LONGEST_WALKS] = {"  of 4,096 moves", 50, 0},
+    [TOO_LONG] = {"  longer than 4,096", 80, 0},
+    [EMPTY_WALKS] = {"  without a move, accepted", 300, 0},
+    [EMPTY_REFUSED] = {"  without a move, refused", 300, 0},
+    [STOPPED_LATE] = {"  refused after a move", 800, 0},
+    [LARGE_COUNTERS] = {"  to a counter of 2^32 - 1", 200, 0},
+    [ABOVE_PLACES] = {"  with a count above the places", 500, 0},
+    [BYTES_SHORT] = {"    by one byte", 100, 0},
+    [NULL_EDGES] = {"  accepted, and the edges null", 50, 0},
+    [SINGLE_MOVES] = {"moves one by one", 10000, 0},
+    [CUT_WALKS] = {"walks cut in two", 5000, 0},
     [DAMAGED_TRANSLATED] = {"damaged H records, in translations", 7000, 0},
     [DAMAGED_UNFOLDED] = {"damaged H records, in unfoldings", 7000, 0},
     [DAMAGED] = {"  in all", 14000, 0},
-    [NULLS] = {"kinds of buffers often lent as null", SLOTS - 2, 0},
+    [NULLS] = {"kinds of buffers often lent as null", SLOTS - 4, 0},
     /* up to two more than the call tells: 0 to 6 for a translation and a step, 0 to 5 for a record */
     [ANSWERS] = {"lengths of answers often lent", 7 + 7 + 6, 0},
     [ODD_ADDRESSES] = {"buffers at odd addresses", 10000, 0},
@@ -126,7 +142,7 @@ void test_floors(void)
 {
     test_refusals();
     test_nodes();
-    /* all but the place and the node, which may not be null */
+    /* all but the place, the node, the configuration and the moves made, which may not be null */
     for (int slot = 0; slot < SLOTS; slot++) met(NULLS, lent_null[slot] >= ENOUGH);
     for (int which = 0; which < CALLS; which++)
         for (int length = 0; length <= LONGEST_ANSWER; length++) met(ANSWERS, lent_answers[which][length] >= ENOUGH);

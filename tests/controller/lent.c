@@ -9,7 +9,8 @@
 enum { PAGE = 4096, GUARD = 96, HOME = (MOST + PAGE - 1) / PAGE * PAGE + PAGE, OFFSETS = 64, SHIFTS = 4096 };
 
 const char *const slot_names[SLOTS] = {"input",    "locations", "edges",  "pointers", "cells", "shape",
-                                       "counters", "statement", "answer", "place",    "node"};
+                                       "counters", "statement", "answer", "place",    "node",  "configuration",
+                                       "path",     "made"};
 
 struct home {
     uint8_t *pages;       /* HOME bytes, then an inaccessible page */

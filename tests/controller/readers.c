@@ -38,16 +38,30 @@ static int reads_updates(void)
     return good;
 }
 
-/* each call with nothing lent to it */
+/* where a configuration's parts lie */
+static int lies(void)
+{
+    struct currantplane_configuration at = {1, {2, 3, 4, 5, 6, 7, 8, 9, 10, 11, 12, 13}};
+    const uint8_t *bytes = (const uint8_t *)&at;
+    int good = sizeof at == 52;
+    for (size_t i = 0; i < 13; i++) good = good && bytes[4 * i] == i + 1 && bytes[4 * i + 1] == 0;
+    return good;
+}
+
+/* each call with nothing lent to it but what must be, of which a refused move and walk leave the configuration */
 static int answers(void)
 {
-    size_t places[3] = {9, 9, 9};
+    struct currantplane_configuration at = {7, {9}};
+    size_t places[3] = {9, 9, 9}, made = 9;
     uint8_t node = 9;
     int good = currantplane_translate(NULL, 0, NULL, 0, NULL, 0, NULL, 0) == CURRANTPLANE_BAD_LENGTH;
     good = good && currantplane_record(NULL, 0, NULL, 0, 0, 0, 0, 0, NULL, 0) == CURRANTPLANE_NO_RECORD;
     good = good && currantplane_fold(NULL, 0, NULL, 0, NULL, 0, NULL, 0, &places[0]) == CURRANTPLANE_BAD_HEAP;
     good = good && currantplane_unfold(NULL, 0, NULL, 0, NULL, 0, NULL, 0, &places[1], &node) == CURRANTPLANE_BAD_HEAP;
     good = good && currantplane_step(NULL, 0, NULL, 0, NULL, 0, 0, 0, NULL, 0, &places[2]) == CURRANTPLANE_BAD_HEAP;
+    good = good && currantplane_move(&at, NULL, 0, NULL, 0, 0, 0, 0) == CURRANTPLANE_NO_MOVE;
+    good = good && currantplane_walk(&at, NULL, 0, NULL, 0, 0, 0, NULL, 0, &made) == CURRANTPLANE_NO_MOVE && made == 0;
+    good = good && at.location == 7 && at.counters[0] == 9 && at.counters[11] == 0;
     return good && places[0] == 0 && places[1] == 0 && places[2] == 0 && node == 0;
 }
 
@@ -75,5 +89,6 @@ int main(void)
     if (!reads_edges()) return 2;
     if (!reads_updates()) return 3;
     if (!answers()) return 4;
-    return tells_nodes() ? 0 : 5;
+    if (!tells_nodes()) return 5;
+    return lies() ? 0 : 6;
 }

@@ -305,6 +305,9 @@ static void overlaps(void)
     look(SHELF, last == 0 && answer[0] == 0 && answer[1] == 64 && answer[2] == 32, "the last record");
     look(SHELF, currantplane_fold(ring, 6, ring, 6, shape, 32, counters, 12, &place) == 0 && place == 0, "the ring");
     look(SHELF, memcmp(shape, six_nodes, 32) == 0 && memcmp(counters, ones, sizeof ones) == 0, "its six nodes");
+    static const uint8_t stop[32] = {CURRANTPLANE_RECORD_L, 0, 0, 0, N, N, N, N, N, N};
+    struct currantplane_configuration at = {0, {0}};
+    look(SHELF, currantplane_walk(&at, stop, 32, stop, 32, 1, 0, NULL, 0, &place) == 0 && place == 0, "one table");
 }
 
 unsigned shelf_cases(unsigned *failed)
@@ -322,6 +325,8 @@ unsigned shelf_cases(unsigned *failed)
         {"a step of each op", each_op},               {"9, 18 and 19 with their node", each_node},
         {"a drop listed", drop_listed},               {"drops in turn, and leaks", drops_in_turn},
         {"op 14: 5", op_14},                          {"what is read may overlap", overlaps},
+        {"P1 walked", p1_walked},                     {"4,096 moves, 4,097: 20", walks_of_4096},
+        {"counters past 32 bits: 21", counters_of_32_bits},
     };
     unsigned passed = 0;
     for (size_t i = 0; i < sizeof cases / sizeof cases[0]; i++) {

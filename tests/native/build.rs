@@ -1,4 +1,5 @@
-// Links a translator in C for the benchmark, where PEER names a folder that holds one; JOB is the last change request that it follows.
+// Links a translator and a walk in C for the benchmark, where PEER names a folder that holds them; JOB is the last change request that
+// they follow.
 use std::process::Command;
 
 fn main() {
@@ -8,13 +9,13 @@ fn main() {
     if let Ok(peer) = std::env::var("PEER") {
         let out = std::env::var("OUT_DIR").unwrap();
         let run = |c: &mut Command| assert!(c.status().unwrap().success(), "{c:?}");
-        run(Command::new("gcc")
-            .args(["-std=c11", "-O3", "-march=x86-64-v2", "-c"])
-            .arg(format!("-DJOB={}", std::env::var("JOB").expect("./speed sets it")))
-            .arg("-o")
-            .arg(format!("{out}/peer.o"))
-            .arg(format!("{peer}/peer.c")));
-        run(Command::new("ar").arg("rcs").arg(format!("{out}/libpeer.a")).arg(format!("{out}/peer.o")));
+        let job = format!("-DJOB={}", std::env::var("JOB").expect("./speed sets it"));
+        for part in ["peer", "walk"] {
+            run(Command::new("gcc")
+                .args(["-std=c11", "-O3", "-march=x86-64-v2", &job, "-c", "-o"])
+                .args([format!("{out}/{part}.o"), format!("{peer}/{part}.c")]));
+        }
+        run(Command::new("ar").arg("rcs").args(["libpeer.a", "peer.o", "walk.o"].map(|file| format!("{out}/{file}"))));
         println!("cargo:rustc-link-search=native={out}");
         println!("cargo:rustc-link-lib=static=peer");
         println!("cargo:rustc-cfg=peer");

@@ -4,6 +4,7 @@
 use std::io::Write;
 use std::path::{Path, PathBuf};
 use std::process::{Command, Output, Stdio};
+use tool::automaton::{Automaton, Tables};
 use tool::record::{Shape, NODES, NULL, POINTERS, SIZE};
 
 pub const EXAMPLES: [&str; 13] = [
@@ -75,6 +76,22 @@ pub fn records(shapes: &[(&[u8], &[u8])]) -> Vec<u8> {
         out.extend(shape.write());
     }
     out
+}
+
+/// The automaton of changed tables.
+pub fn changed(whole: &Automaton, change: &dyn Fn(&mut Tables)) -> Automaton {
+    let mut tables = whole.tables.clone();
+    change(&mut tables);
+    Automaton::read(tables)
+}
+
+/// The bytes of a location and of an edge where they stand.
+pub fn location(tables: &mut Tables, number: usize) -> &mut [u8] {
+    &mut tables.locations[SIZE * number..][..SIZE]
+}
+
+pub fn edge(tables: &mut Tables, number: usize) -> &mut [u8] {
+    &mut tables.edges[SIZE * number..][..SIZE]
 }
 
 /// xorshift64*: small, fast, and the same everywhere.

@@ -4,7 +4,7 @@ ghost use Prim.Native.Nat.{_≤_};
 ghost use lib.Dec.{leb};
 ghost use lib.ListN.{length};
 ghost use Rattle.model.specs.Base.{all, sum, mostNodes};
-ghost use Rattle.model.specs.Image.{countersFit};
+ghost use Rattle.model.specs.Image.{countersFit, countersOf};
 
 // Whether each counter is at least 1.
 fn all_positive(counters: &[u32]) -> bool
@@ -34,7 +34,15 @@ fn total(counters: &[u32]) -> u64
     t
 }
 
-// Whether the counters are twelve and fit k nodes and n cells: each node has a cell, counters past them ask for none.
+// Whether twelve counters are those of k nodes: each node has a cell, counters past them ask for none.
+pub fn counters_of(k: usize, counters: &[u32]) -> bool
+    requires { ⌜ (k ≤ mostNodes) × (length (now counters) ≡ mostNodes) ⌝ }
+    ensures { λ r. ⌜ r ≡ countersOf k (now (counters .entry)) ⌝ }
+{
+    all_positive(&counters[..k]) & (total(&counters[k..]) == 0)
+}
+
+// Whether the counters are twelve, are those of k nodes, and fit n cells.
 pub fn counters_fit(k: usize, counters: &[u32], n: usize) -> bool
     requires { ⌜ k ≤ mostNodes ⌝ }
     ensures { λ r. ⌜ r ≡ countersFit k (now (counters .entry)) n ⌝ }
@@ -42,5 +50,5 @@ pub fn counters_fit(k: usize, counters: &[u32], n: usize) -> bool
     if counters.len() != model::MOST_NODES {
         return false;
     }
-    all_positive(&counters[..k]) & (total(&counters[k..]) == 0) & (total(counters) <= n as u64)
+    counters_of(k, counters) & (total(counters) <= n as u64)
 }

@@ -1,2 +1,3 @@
 pub mod Told
 pub mod OneAnswer
+pub mod Lent

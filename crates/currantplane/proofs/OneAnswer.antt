@@ -6,6 +6,9 @@ use mathlib.Core.List.{List}
 use Rattle.model.specs.Image.{Folding, Stepping, Unfolding}
 use Rattle.model.specs.Part.{Part}
 use Rattle.model.specs.Records.{Verdict}
+use Rattle.model.specs.declared.Configuration.{Configuration}
+use Rattle.model.specs.declared.Moved.{Moved}
+use Rattle.model.specs.declared.Walked.{Walked}
 use Rattle.answers.specs.Numbers.{IsTold}
 use Rattle.currantplane.specs.Calls.{IsFolded, IsRecord, IsStepped, IsTranslated, IsUnfolded}
 
@@ -25,6 +28,10 @@ OneAnswer = ((s : List ℕ) (a b : ℕ) (xs : List ℕ) (r q : ℕ) (ys ls es zs
     × ((s : Stepping) (n p m q : ℕ) (ps cs a qs ds b l : List ℕ) → IsStepped s n p ps cs a l
     → IsStepped s m q qs ds b l
     → ((n ≡ m) × (p ≡ q)) × (ps ≡ qs) × (cs ≡ ds) × (a ≡ b))
+    × ((m : Moved) (r q : ℕ) (c d : Configuration) → (r ≡ m .refusal) × (c ≡ m .configuration)
+    → (q ≡ m .refusal) × (d ≡ m .configuration) → (r ≡ q) × (c ≡ d))
+    × ((w : Walked) (r q i j : ℕ) (c d : Configuration) → (r ≡ w .refusal) × (i ≡ w .made) × (c ≡ w .configuration)
+    → (q ≡ w .refusal) × (j ≡ w .made) × (d ≡ w .configuration) → (r ≡ q) × (i ≡ j) × (c ≡ d))
 
 pub one-answer : OneAnswer
 one-answer = (
@@ -52,4 +59,6 @@ one-answer = (
     x .cells ∙ sym (y .cells),
     x .answer ∙ sym (y .answer),
   ),
+  λ m r q c d x y. (x .0 ∙ sym (y .0), x .1 ∙ sym (y .1)),
+  λ w r q i j c d x y. (x .0 ∙ sym (y .0), x .1 ∙ sym (y .1), x .2 ∙ sym (y .2)),
 )

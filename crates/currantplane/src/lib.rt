@@ -1,7 +1,8 @@
 // The calls for Rust and C: a slice passes as a pointer and a length. Answers are written over the start of the lent
-// slices, as far as these reach. Each call answers the refusal's number, 0 for none, and writes its place. What a call
-// writes must not overlap with anything else that is lent to it: the contracts are about slices that are apart. The
-// calls are declared in `bindings/` and `include/currantplane.h`, which `tests/declarations` compares with this file.
+// slices, as far as these reach. Each call answers the refusal's number, 0 for none, and writes its place; of a move
+// and a walk, which advance a struct that is lent, it is always 0 and not written. What a call writes must not overlap
+// with anything else that is lent to it: the contracts are about slices that are apart. The calls are declared in
+// `bindings/` and `include/currantplane.h`, which `tests/declarations` compares with this file.
 use answers::lay;
 use answers::lay_counters;
 use answers::step_ended;
@@ -10,13 +11,16 @@ use answers::tell;
 use answers::tell_ended;
 use answers::tell_node;
 use answers::tell_unfolded;
+use model::Configuration;
 use model::Counts;
 use model::Node;
 use model::Translated;
+ghost use mathlib.Core.Path.{_≡_};
 ghost use lib.ListN.{length};
 ghost use Rattle.model.specs.Image.{foldImage, stepImage, unfoldImage};
 ghost use Rattle.model.specs.Part.{recordPart};
 ghost use Rattle.model.specs.Structs.{tablesIn};
+ghost use Rattle.model.specs.Walking.{moved, walked};
 ghost use Rattle.currantplane.specs.Calls.{IsFolded, IsRecord, IsStepped, IsTranslated, IsUnfolded};
 
 // Writes the refusal's place, the number of locations, the number of edges and the refusal's node over `answer`.
@@ -147,4 +151,66 @@ pub extern "C" fn currantplane_step(
     let numbers = step_numbers(stepped);
     lay(&numbers, answer);
     tell_ended(step_ended(stepped), place)
+}
+
+// One move: the configuration stays with the caller, and is advanced in its own record.
+#[no_mangle]
+pub extern "C" fn currantplane_move(
+    configuration: &mut Configuration,
+    locations: &[u8],
+    edges: &[u8],
+    location_count: usize,
+    edge_count: usize,
+    number: usize,
+) -> u8
+    ensures { λ r. ⌜ (r ≡ moved (tablesIn (now (locations .entry)) (now (edges .entry))
+        (record { locations = «location_count»; edges = «edge_count» })) (now (configuration .entry)) number .refusal)
+        × (now (configuration .exit) ≡ moved (tablesIn (now (locations .entry)) (now (edges .entry))
+        (record { locations = «location_count»; edges = «edge_count» })) (now (configuration .entry)) number
+        .configuration) ⌝ }
+{
+    let m = walking::make_move(
+        *configuration,
+        locations,
+        edges,
+        location_count,
+        edge_count,
+        number,
+    );
+    *configuration = m.configuration;
+    m.refusal
+}
+
+// A walk: the configuration is advanced in its own record, and how many moves were made is written.
+#[no_mangle]
+pub extern "C" fn currantplane_walk(
+    configuration: &mut Configuration,
+    locations: &[u8],
+    edges: &[u8],
+    location_count: usize,
+    edge_count: usize,
+    path: &[u32],
+    made: &mut usize,
+) -> u8
+    ensures { λ r. ⌜ (r ≡ walked (tablesIn (now (locations .entry)) (now (edges .entry))
+        (record { locations = «location_count»; edges = «edge_count» })) (now (configuration .entry))
+        (now (path .entry)) .refusal)
+        × ((now (made .exit) ≡ walked (tablesIn (now (locations .entry)) (now (edges .entry))
+        (record { locations = «location_count»; edges = «edge_count» })) (now (configuration .entry))
+        (now (path .entry)) .made)
+        × (now (configuration .exit) ≡ walked (tablesIn (now (locations .entry)) (now (edges .entry))
+        (record { locations = «location_count»; edges = «edge_count» })) (now (configuration .entry))
+        (now (path .entry)) .configuration)) ⌝ }
+{
+    let w = walking::make_walk(
+        *configuration,
+        locations,
+        edges,
+        location_count,
+        edge_count,
+        path,
+    );
+    *configuration = w.configuration;
+    *made = w.made;
+    w.refusal
 }

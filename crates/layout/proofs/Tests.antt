@@ -1,12 +1,17 @@
 -- Four tests in a row, and the refusals of an S record r among n statements in the order of its tests.
 use Prim.Native.Nat.{ℕ}
 use mathlib.Core.Path.{_≡_, refl, sym}
-use mathlib.Core.Bool.{Bool, true, false, _||_}
+use mathlib.Core.Bool.{Bool, true, false, _&&_, _||_}
 use mathlib.Core.List.{List}
 use mathlib.Core.Logic.{inl, inr}
 use lib.Dec.{ltb}
 use Rattle.model.specs.Records.{byte, fieldsS, targetsS, refusalS, checksS, opCount}
 use Rattle.model.proofs.records.Checks.{given-failed, pass-none}
+
+-- a test more before the rest
+pub regroup : (a b c : Bool) → a && (b && c) ≡ a && b && c
+regroup true b c = refl
+regroup false b c = refl
 
 pub or-five : (a b c d e : Bool) → (((a || b) || c) || d) || e ≡ a || (b || (c || (d || (e || false))))
 or-five true b c d e = refl

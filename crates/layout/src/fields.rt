@@ -7,18 +7,17 @@ ghost use Rattle.model.specs.Records.{isZero, usesU, usesW, usesFirst, usesSeco
 ghost use Rattle.model.specs.Records.{pointerField, targetBelow, fieldsS, targetsS};
 ghost use Rattle.layout.specs.Checked.{headH};
 
-// Whether all bytes are zero.
+// Whether all bytes are zero: their bits are gathered, without a branch for each.
 pub fn all_zero(bytes: &[u8]) -> bool
     ensures { λ r. ⌜ r ≡ all isZero (now (bytes .entry)) ⌝ }
 {
+    let mut met: u8 = 0;
     let mut i = 0;
     while i < bytes.len() {
-        if bytes[i] != 0 {
-            return false;
-        }
+        met |= bytes[i];
         i += 1;
     }
-    true
+    met == 0
 }
 
 // Whether a byte is a node below k, null or undefined.
@@ -28,18 +27,17 @@ pub fn value_byte(k: u8, b: u8) -> bool
     (b < k) | (b == 0xfe) | (b == 0xff)
 }
 
-// Whether all bytes are values in a shape of k nodes.
+// Whether all bytes are values in a shape of k nodes, without a branch for each.
 pub fn all_values(bytes: &[u8], k: u8) -> bool
     ensures { λ r. ⌜ r ≡ all (valueByte k) (now (bytes .entry)) ⌝ }
 {
+    let mut good = true;
     let mut i = 0;
     while i < bytes.len() {
-        if !value_byte(k, bytes[i]) {
-            return false;
-        }
+        good = good & value_byte(k, bytes[i]);
         i += 1;
     }
-    true
+    good
 }
 
 // ---- S records: which fields an op uses, and what stands in them
@@ -110,9 +108,9 @@ pub fn targets_ok(n: usize, rec: &[u8]) -> bool
 
 // ---- H records
 
-// Bytes 0 to 3: the tag, statement 0, fault 0 and at most twelve nodes.
-pub fn head_ok(tag: u8, statement: u8, fault: u8, k: u8) -> bool
-    ensures { λ r. ⌜ r ≡ headH tag statement fault k ⌝ }
+// Bytes 0 to 2: the tag, statement 0 and fault 0.
+pub fn head_ok(tag: u8, statement: u8, fault: u8) -> bool
+    ensures { λ r. ⌜ r ≡ headH tag statement fault ⌝ }
 {
-    (tag == 0x48) & (statement == 0) & (fault == 0) & ((k as usize) <= model::MOST_NODES)
+    (tag == 0x48) & (statement == 0) & (fault == 0)
 }

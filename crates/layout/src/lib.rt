@@ -13,7 +13,7 @@ ghost use mathlib.Core.Path.{_≡_};
 ghost use mathlib.Core.Bool.{true};
 ghost use lib.ListN.{length};
 ghost use Rattle.model.specs.Base.{recordSize};
-ghost use Rattle.model.specs.Records.{checksNodes, refusalS, layoutH, shapeOf};
+ghost use Rattle.model.specs.Records.{checksNodes, refusalS, layoutH, shapeFields, shapeOf};
 ghost use Rattle.model.specs.Structs.{Tells, failing};
 
 // A failure that is about no node.
@@ -43,17 +43,28 @@ pub fn statement_refusal(rec: &[u8], n: usize) -> u8
     0
 }
 
+// Whether bytes 3 to 31 of a record are those of a shape.
+pub fn shape_ok(rec: &[u8]) -> bool
+    requires { ⌜ length (now rec) ≡ recordSize ⌝ }
+    ensures { λ r. ⌜ r ≡ shapeFields (now (rec .entry)) ⌝ }
+{
+    let k = rec[3];
+    if 12 < k {
+        return false;
+    }
+    let end = 10 + k as usize;
+    all_values(&rec[4..end], k) & all_zero(&rec[end..])
+}
+
 // Whether an H record keeps the layout.
 pub fn layout_ok(rec: &[u8]) -> bool
     requires { ⌜ length (now rec) ≡ recordSize ⌝ }
     ensures { λ r. ⌜ r ≡ layoutH (now (rec .entry)) ⌝ }
 {
-    let k = rec[3];
-    if !head_ok(rec[0], rec[1], rec[2], k) {
+    if !head_ok(rec[0], rec[1], rec[2]) {
         return false;
     }
-    let end = 10 + k as usize;
-    all_values(&rec[4..end], k) & all_zero(&rec[end..])
+    shape_ok(rec)
 }
 
 // What fails of the nodes of an H record, which keeps the layout: 9, 18 or 19 and the first node concerned.

@@ -4,6 +4,7 @@ ghost use mathlib.Core.Path.{_≡_};
 ghost use Prim.Native.Nat.{_+_, _*_, _≤_};
 ghost use lib.ListN.{length};
 ghost use Rattle.model.specs.Base.{recordSize};
+ghost use Rattle.model.specs.Part.{inPlaces};
 ghost use Rattle.model.specs.Records.{byte};
 ghost use Rattle.model.specs.Translate.{places};
 ghost use Rattle.record.specs.Written.{placed};
@@ -15,6 +16,13 @@ pub fn places(most: usize, len: usize) -> usize
 {
     let fit = len / model::RECORD;
     if fit < most { fit } else { most }
+}
+
+// Whether a count is within the places of a table of so many bytes.
+pub fn in_places(most: usize, count: usize, bytes: usize) -> bool
+    ensures { λ r. ⌜ r ≡ inPlaces most count bytes ⌝ }
+{
+    count <= places(most, bytes)
 }
 
 // The L record rec as number n of the table: the part of the table from 32 times the number on is lent to the writer.

@@ -10,3 +10,4 @@ pub mod Outcomes
 pub mod Unplaced
 pub mod Small
 pub mod Parts
+pub mod Layouts

@@ -9,4 +9,5 @@ pub mod PromisesStatements
 pub mod PromisesBench
 pub mod PromisesNodes
 pub mod PromisesDrops
+pub mod PromisesWalks
 pub mod Shelf

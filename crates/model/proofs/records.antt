@@ -7,6 +7,9 @@ pub mod Bytes
 pub mod EdgeBack
 pub mod ReadBack
 pub mod ShapeBack
+pub mod Falls
+pub mod Keeps
+pub mod LayoutFacts
 pub mod Statements
 pub mod Checked
 pub mod Refusals

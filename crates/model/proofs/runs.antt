@@ -1,4 +1,9 @@
--- Runs of the routine and of the automaton side by side: demand 3.
+-- Runs of the routine and of the automaton side by side: demand 3; walks.
 pub mod Single
 pub mod Whole
 pub mod Demand
+pub mod Stands
+pub mod OneMove
+pub mod Along
+pub mod Walks
+pub mod WalkRuns

@@ -89,9 +89,13 @@ strands vs b (s ∷ ss) (c ∷ cs) = strand b c (spreadSlot vs s) ++ strands vs 
 abbrev pub unfoldHeap : Heap → List ℕ → Heap
 unfoldHeap h cs = record { ptrs = map (spread cs) (h .ptrs); slots = strands cs 0 (h .slots) cs }
 
+-- "a counter of 0 below k or not 0 past it": there is none
+abbrev pub countersOf : ℕ → List ℕ → Bool
+countersOf k vs = all (leb 1) (take k vs) && all isZero (drop k vs)
+
 -- "15: a counter of 0 below k or not 0 past it, or a sum above the cell length"
 abbrev pub countsFit : ℕ → List ℕ → ℕ → Bool
-countsFit k vs n = all (leb 1) (take k vs) && all isZero (drop k vs) && leb (sum (λ v. v) vs) n
+countsFit k vs n = countersOf k vs && leb (sum (λ v. v) vs) n
 
 -- there are twelve counters
 abbrev pub countersFit : ℕ → List ℕ → ℕ → Bool

@@ -10,6 +10,9 @@ pub mod Part
 pub mod Answers
 pub mod Runs
 pub mod Structs
+pub mod Layout
+pub mod Walking
+pub mod Walks
 pub mod Notions
 pub mod Listings
 pub mod Bench

@@ -24,14 +24,16 @@ meantCount t mark = meant mark (t .locCount) (t .edgeCount)
 abbrev pub inPlaces : ℕ → ℕ → ℕ → Bool
 inPlaces most n bytes = leb n (places most bytes)
 
+-- neither count exceeds its table's places
+abbrev pub countsInPlaces : Tables → Bool
+countsInPlaces t =
+    inPlaces mostLocations (t .locCount) (length (t .locBytes))
+    && inPlaces mostEdges (t .edgeCount) (length (t .edgeBytes))
+
 -- 17 "when the mark for the table is above 1, a count exceeds its table's places .. or the number isn't below the meant
 -- table's count": none of these is so. Both counts are looked at, whichever table is meant.
 abbrev pub answerable : Tables → ℕ → ℕ → Bool
-answerable t mark n =
-    leb mark 1
-    && (inPlaces mostLocations (t .locCount) (length (t .locBytes))
-    && inPlaces mostEdges (t .edgeCount) (length (t .edgeBytes)))
-    && ltb n (meantCount t mark)
+answerable t mark n = leb mark 1 && countsInPlaces t && ltb n (meantCount t mark)
 
 -- how the call ended, where the part begins in the table that was meant, and how many bytes it has
 pub record Part : Type 0 where

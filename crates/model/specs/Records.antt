@@ -219,12 +219,15 @@ refusalS n r = firstFailed (checksS n r)
 abbrev pub valueByte : ℕ → ℕ → Bool
 valueByte k b = ltb b k || eqb b 0xfe || eqb b 0xff
 
+-- bytes 3 to 31 of an H or L record with a shape: the node count, the pointers, the successors, and zeros
+abbrev pub shapeFields : List ℕ → Bool
+shapeFields r =
+    let k = byte r 3 in
+    leb k mostNodes && all (valueByte k) (take (pointerCount + k) (drop 4 r)) && all isZero (drop (10 + k) r)
+
 -- "8: breaks the layout"
 abbrev pub layoutH : List ℕ → Bool
-layoutH r =
-    let k = byte r 3 in
-    isH r && isZero (byte r 1) && isZero (byte r 2) && leb k mostNodes
-    && all (valueByte k) (take (pointerCount + k) (drop 4 r)) && all isZero (drop (10 + k) r)
+layoutH r = isH r && isZero (byte r 1) && isZero (byte r 2) && shapeFields r
 
 -- 02, job 5: "An unreachable node keeps 9 and is looked for first. Refused: 18, when all are reachable and a node isn't
 -- core; 19, when only the numbering differs, at the first node that the walk numbers otherwise."

@@ -18,6 +18,8 @@ pub const MOST_EDGES: usize = 2048;
 
 pub const MOST_CELLS: usize = 240;
 
+pub const MOST_MOVES: usize = 4096;
+
 pub const OPS: u8 = 14;
 
 // A pointer's number, 0 to 5.
@@ -121,4 +123,24 @@ pub struct EdgeFields {
     pub to: usize,
     pub guards: Guards,
     pub nodes: usize,
+}
+
+// A configuration of the automaton, as the caller keeps it: a location's number and twelve counters.
+#[repr(C)]
+pub struct Configuration {
+    pub location: u32,
+    pub counters: [u32; 12],
+}
+
+// What a move gives: the refusal's number, 0 for none, and the configuration.
+pub struct Moved {
+    pub refusal: u8,
+    pub configuration: Configuration,
+}
+
+// What a walk gives: the refusal's number, 0 for none, how many moves were made, and the configuration.
+pub struct Walked {
+    pub refusal: u8,
+    pub made: usize,
+    pub configuration: Configuration,
 }

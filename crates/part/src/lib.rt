@@ -1,19 +1,13 @@
 // One record out of two tables, as a part of whichever table was meant.
+use location_table::in_places;
 use model::Counts;
 ghost use mathlib.Core.Path.{_≡_};
 ghost use Prim.Native.Nat.{_-_, _≤_};
 ghost use lib.ListN.{drop, length, take};
 ghost use denote.Ref.{ptr};
-ghost use Rattle.model.specs.Part.{answerable, inPlaces, meant, onward, partBytes, recordPart};
+ghost use Rattle.model.specs.Part.{answerable, meant, onward, partBytes, recordPart};
 ghost use Rattle.model.specs.Structs.{tablesIn};
 ghost use Rattle.answers.specs.Numbers.{IsTold};
-
-// Whether a count is within the places of a table of so many bytes.
-fn in_places(most: usize, count: usize, bytes: usize) -> bool
-    ensures { λ r. ⌜ r ≡ inPlaces most count bytes ⌝ }
-{
-    count <= location_table::places(most, bytes)
-}
 
 // The count of the table that the mark means.
 fn meant_count(counts: Counts, mark: usize) -> usize

@@ -1,19 +1,11 @@
 // Looking for a record among those of a table: a known location, or a shape among those before it.
+use word::two;
 ghost use mathlib.Core.Path.{_≡_};
 ghost use Prim.Native.Nat.{_+_, _*_, _≤_};
 ghost use lib.Dec.{eqb};
 ghost use lib.ListN.{length, take, drop};
 ghost use Rattle.model.specs.Base.{sameList, recordSize};
-ghost use Rattle.model.specs.Records.{word};
 ghost use Rattle.search.specs.Search.{foundAt, fourAt, eightAt, keyAt};
-
-// Two bytes as a number, the low byte first.
-fn two(t: &[u8], at: usize) -> u16
-    requires { ⌜ at + 2 ≤ length (now t) ⌝ }
-    ensures { λ r. ⌜ r ≡ word (now (t .entry)) at ⌝ }
-{
-    t[at] as u16 + 0x100 * (t[at + 1] as u16)
-}
 
 // Four bytes as a number, the low byte first.
 fn four(t: &[u8], at: usize) -> u32

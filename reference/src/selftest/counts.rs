@@ -3,6 +3,7 @@
 use std::fmt;
 
 use super::drop_counts::{wanted, DropCounts};
+use super::walk_counts::WalkCounts;
 use super::{damages, relinks, undefined};
 use crate::damage::DAMAGES;
 use crate::records::NODES;
@@ -46,12 +47,14 @@ pub struct Counts {
     pub relinks_stepped: [u64; relinks::WAYS.len()],
     /// Drops, in routines and on images of their own and elsewhere.
     pub drops: DropCounts,
+    /// Walks, and the clauses that tables broke.
+    pub walks: WalkCounts,
     /// Damaged H records by refusal and node, and what else was wrong there.
     pub nodes_in_inputs: ByNode,
     pub nodes_in_unfolding: ByNode,
     pub orders: [u64; damages::ORDERS.len()],
     pub faults: [u64; 4],
-    pub refusals: [u64; 20],
+    pub refusals: [u64; 22],
 }
 
 impl Counts {
@@ -125,11 +128,11 @@ impl Counts {
 
     /// What is to be met more than once, by name, but for the single nodes.
     fn kinds(&self) -> Vec<(String, u64)> {
-        [self.undefined_tests(), self.relinks(), self.drops.ways(), self.orders()].concat()
+        [self.undefined_tests(), self.relinks(), self.drops.ways(), self.walks.ways(), self.orders()].concat()
     }
 
-    /// How many tests of undefined pointers, relinks, drops and damaged H
-    /// records are wanted at each place in each way.
+    /// How many tests of undefined pointers, relinks, drops, walks, broken
+    /// clauses and damaged H records are wanted at each place in each way.
     pub fn floor(&self) -> u64 {
         1 + self.routines / EACH
     }
@@ -161,7 +164,7 @@ impl fmt::Display for Counts {
             ("heaps folded", self.heaps),
             ("most nodes of a heap", self.nodes),
         ];
-        for (name, count) in lines.into_iter().chain(self.drops.drawn()).chain(self.drops.totals()) {
+        for (name, count) in lines.into_iter().chain(self.drops.drawn()).chain(self.drops.totals()).chain(self.walks.totals()) {
             writeln!(out, "{name}: {count}")?;
         }
         for (name, count) in self.kinds() {

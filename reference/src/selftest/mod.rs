@@ -19,6 +19,8 @@ mod relinks;
 mod runs;
 mod tables;
 mod undefined;
+mod walk_counts;
+mod walks;
 
 use crate::automaton::Automaton;
 use crate::damage::{all_damages, damaged_shape};
@@ -30,6 +32,7 @@ use crate::routines::{drop_often, random_routine};
 
 pub use counts::Counts;
 pub use drop_counts::DropCounts;
+pub use walk_counts::WalkCounts;
 
 /// The seed and the number of routines if none are given.
 pub const SEED: u64 = 1;
@@ -37,14 +40,16 @@ pub const ROUTINES: u64 = 12_000;
 
 /// Tests so many routines. Answers what was counted, or what differs, or
 /// which refusal or fault was never met, or which tests of undefined pointers,
-/// relinks, drops or damaged H records were too few.
+/// relinks, drops, damaged H records or walks were too few.
 pub fn run(seed: u64, routines: u64) -> Result<Counts, String> {
     let mut random = Random::new(seed);
-    // What a seed draws elsewhere does not hang on the parts, the damages and
-    // the drops.
+    // What a seed draws elsewhere does not hang on the parts, the damages, the
+    // drops and the walks.
     let mut part_random = Random::new(!seed);
     let mut damage_random = Random::new(seed.rotate_left(32));
     let mut drop_random = Random::new(seed.rotate_left(16));
+    let mut walk_random = Random::new(seed.rotate_left(48));
+    let first_walk = walk_random.next();
     let mut counts = Counts::default();
     for number in 0..routines {
         let drawn = random_routine(&mut random);
@@ -53,13 +58,16 @@ pub fn run(seed: u64, routines: u64) -> Result<Counts, String> {
             let input = hex(&input);
             format!("seed {seed}, routine {number}: {difference}\nits records: {input}")
         };
-        test_routine(&mut random, &mut part_random, &mut counts, &input).map_err(told)?;
+        test_routine([&mut random, &mut part_random, &mut walk_random], &mut counts, &input).map_err(told)?;
         mutate::test(&mut random, &mut counts, &drawn, number).map_err(told)?;
         damages::test(&mut damage_random, &mut counts, &drawn, number).map_err(told)?;
         images::test(&mut random, &mut counts, number)
             .map_err(|difference| format!("seed {seed}, heap {number}: {difference}"))?;
         let told = |difference: String| format!("seed {seed}, drops {number}: {difference}");
         test_drops(&mut drop_random, &mut counts).map_err(told)?;
+        for turn in 0..walk_counts::DRAWN {
+            walks::on_drawn_tables(&mut counts, first_walk.wrapping_add(number * walk_counts::DRAWN + turn))?;
+        }
     }
     match (counts.never_met(), counts.too_few()) {
         (None, None) => Ok(counts),
@@ -114,7 +122,8 @@ pub fn damaged_shapes(seed: u64) -> impl Iterator<Item = (Record, Refusal)> {
 }
 
 /// Everything about one input that passes the checks.
-fn test_routine(random: &mut Random, part_random: &mut Random, counts: &mut Counts, input: &[u8]) -> Result<(), String> {
+fn test_routine(randoms: [&mut Random; 3], counts: &mut Counts, input: &[u8]) -> Result<(), String> {
+    let [random, part_random, walk_random] = randoms;
     counts.routines += 1;
     let routine = read_routine(input).map_err(|refusal| format!("a sound routine is refused: {refusal:?}"))?;
     let Some(full) = tables::translate_full(random, counts, input)? else {
@@ -129,6 +138,7 @@ fn test_routine(random: &mut Random, part_random: &mut Random, counts: &mut Coun
     exact::test(counts, &automaton, &routine)?;
     tables::test_short_tables(random, counts, input, &full, routine.shapes.len(), &automaton)?;
     parts::test(part_random, counts, &full)?;
+    walks::on_a_listing(walk_random, counts, &full, &automaton)?;
     for _ in 0..3 {
         runs::follow_the_routine(random, counts, &routine, &automaton)?;
         runs::follow_the_edges(random, counts, &routine, &automaton)?;

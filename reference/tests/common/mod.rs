@@ -2,6 +2,7 @@
 
 #![allow(dead_code)]
 
+pub mod layout;
 pub mod program;
 pub mod random;
 pub mod shapes;

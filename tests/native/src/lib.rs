@@ -10,5 +10,6 @@ pub mod joined;
 pub mod rings;
 pub mod small;
 pub mod stream;
+pub mod walks;
 
-pub use currantplane::{fold, record, step, translate, unfold, Node, Refusal};
+pub use currantplane::{fold, make_move, make_walk, record, step, translate, unfold, Configuration, Node, Refusal};

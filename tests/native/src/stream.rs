@@ -8,10 +8,13 @@
 //!   U  record, number of counters, these, lengths of pointers and cells; pointers and cells, none where refused
 //!   S  pointers, cells, statement, pick, cell; answer (four bytes), pointers, cells
 //!   R  lengths of both tables, both counts, which table, number; where the record begins, its length
+//!   M  locations, edges, both counts, location, twelve counters, number of the edge; location and counters
+//!   W  the same with the bytes of a path, four for each number, for the one number; moves made, location and counters
 //!   Z  the end: how many trials there were
 
 use crate::draw::Image;
-use reference::{Refusal, Stepped, Translated};
+use reference::walk_damage::DrawnWalk;
+use reference::{Configuration, Refusal, Stepped, Translated};
 
 #[derive(Default)]
 pub struct Stream {
@@ -109,6 +112,39 @@ impl Stream {
         self.block(&answer);
         self.block(&pointers);
         self.block(&cells);
+    }
+
+    fn configuration(&mut self, at: &Configuration) {
+        self.number(at.location as usize);
+        self.numbers(&at.counters.map(|counter| counter as usize));
+    }
+
+    fn start(&mut self, letter: u8, drawn: &DrawnWalk) {
+        self.begin(letter);
+        self.block(&drawn.locations);
+        self.block(&drawn.edges);
+        self.numbers(&[drawn.location_count, drawn.edge_count]);
+        self.configuration(&drawn.configuration);
+    }
+
+    /// One move in place of the drawn path.
+    pub fn moving(&mut self, drawn: &DrawnWalk, number: usize) {
+        let DrawnWalk { locations, edges, location_count, edge_count, configuration: at, .. } = drawn;
+        let told = reference::move_along(locations, edges, *location_count, *edge_count, *at, number);
+        self.start(b'M', drawn);
+        self.number(number);
+        self.refusal(told.err());
+        self.configuration(&told.unwrap_or(*at));
+    }
+
+    pub fn walking(&mut self, drawn: &DrawnWalk) {
+        let DrawnWalk { locations, edges, location_count, edge_count, configuration: at, path, .. } = drawn;
+        let told = reference::walk(locations, edges, *location_count, *edge_count, *at, path);
+        self.start(b'W', drawn);
+        self.block(&path.iter().flat_map(|number| number.to_le_bytes()).collect::<Vec<u8>>());
+        self.refusal(told.refusal);
+        self.number(told.made);
+        self.configuration(&told.configuration);
     }
 }
 

@@ -9,26 +9,27 @@ use native.Mathlib.Omega.{arith}
 use lib.Dec.{leb}
 use lib.ListN.{drop, getD, length, length-append, length-drop, length-map, replicate, take, take-append-drop}
 use lib.Seq.{drop-at, length-take-le, take-at}
-use borrow.Author.Tests.{le-leb, leb-true, ne-eqb, eq-eqb}
+use borrow.Author.Tests.{le-leb, ne-eqb, eq-eqb}
 use Rattle.model.specs.Base.{all, sum}
 use Rattle.model.specs.Heap.{Heap, IsHeap, Slot, Val, cell, holds, next, null, order, undef, unused}
 use Rattle.model.specs.Image.{Unfolding, cellBytesOf, cellSlot, countersFit, foldImage, heapOf, unfoldHeap, unfoldImage}
 use Rattle.model.proofs.records.Checks.{accepted-by}
 use Rattle.model.specs.Records.{byte, filled, isAccepted, isZero, layoutH, shapeOf, shapeRecord, slotByte, valByte, valOf}
 use Rattle.model.specs.Shape.{Seg, canonical, counters, segments, shape, size}
-use Rattle.model.proofs.records.Bytes.{all-zero, filled-length, small-up, val-back}
+use Rattle.model.proofs.records.Bytes.{all-zero, filled-length, small-up, val-back, zeros-pass}
 use Rattle.model.proofs.shapes.Canon.{fold-canon}
 use Rattle.model.proofs.shapes.Canonical.{canon-canonical, canonical-canon}
 use Rattle.model.proofs.expansion.Facts.{heap-closed, heap-kept, test-closed}
 use Rattle.model.proofs.images.Images.{counters-fit, fold-gives, fold-accepted, fold-verdict, fold-writable, image-accepted, unfold-accepted, unfold-granted, unfold-lengths, unfold-verdict, unfold-zero}
 use Rattle.model.proofs.shapes.Iso.{renamed-same}
 use Rattle.model.specs.Listings.{SmallVal, Writable}
-use Rattle.model.specs.Notions.{In, Positive, Renames, flat, renameVal, Closed, ClosedHeap}
-use Rattle.model.proofs.lists.Lists.{all-in, all-of, getD-in, in-getD, in-map, map-back, map-id}
+use Rattle.model.specs.Notions.{In, Renames, flat, renameVal, Closed, ClosedHeap}
+use Rattle.model.proofs.lists.Lists.{all-of, in-getD, in-map, map-back, map-id}
 use Rattle.model.proofs.visits.Order.{order-once, pigeon, toured, used-below}
+use Rattle.model.proofs.records.Falls.{ones-positive}
 use Rattle.model.proofs.records.ReadBack.{shape-length, shape-shape}
 use Rattle.model.proofs.shapes.SameShape.{same-renamed}
-use Rattle.model.proofs.records.ShapeBack.{layout-closed, layout-few, layout-slots, shape-record-back, values-length, values-pass}
+use Rattle.model.proofs.records.ShapeBack.{layout-closed, layout-few, layout-slots, shape-fields-written, shape-record-back}
 use Rattle.model.proofs.expansion.Start.{flat-is}
 use Rattle.model.proofs.shapes.Unfold.{counters-unfold, shape-unfold, unfold-is-heap, unfold-length}
 use Rattle.model.proofs.visits.Walks.{closed-in}
@@ -82,13 +83,9 @@ sum-filled [] zero = refl
 sum-filled [] (suc m) = omega (arith, sum-filled [] m)
 sum-filled (c ∷ cs) m = ap (λ x. c + x) (sum-filled cs m)
 
-zeros-pass : (m : ℕ) → all isZero (replicate m 0) ≡ true
-zeros-pass zero = refl
-zeros-pass (suc m) = zeros-pass m
-
 -- counters with zeros after the first k are the first k, filled up
-filled-back : (k : ℕ) (vs : List ℕ) → length vs ≡ 12 → k ≤ 12 → all isZero (drop k vs) ≡ true → filled 12 (take k vs)
-    ≡ vs
+pub filled-back : (k : ℕ) (vs : List ℕ) → length vs ≡ 12 → k ≤ 12 → all isZero (drop k vs) ≡ true
+    → filled 12 (take k vs) ≡ vs
 filled-back k vs l h z =
     let e : 12 - length (take k vs) ≡ length (drop k vs) =
     omega (arith, length-take-le k vs (omega arith), length-drop k vs) in
@@ -125,8 +122,7 @@ unfolded-heap r vs ps cs z =
     let len : length ws ≡ length (S .slots) = length-take-le (byte r 3) vs (omega arith)
     ∙ sym (layout-slots r (A .2) (A .3)) in
     let C = canonical-canon S (test-closed S (layout-closed r (A .2) (A .3))) (A .4) in
-    let pos : Positive ws = λ n q. leb-true 1 (getD ws n 1)
-    (all-in (leb 1) ws (getD ws n 1) (K .1) (getD-in ws 1 n q)) in
+    let pos = ones-positive ws (K .1) in
     let F : filled 12 ws ≡ vs = filled-back (byte r 3) vs l few (K .2) in
     let room = K .3 in
     let short : length (g .slots) ≤ 240 = omega (
@@ -168,17 +164,7 @@ unfold-fold-bytes r vs ps cs z =
 
 -- the record of a shape keeps the layout
 layout-written : (h : Heap) → Writable h → layoutH (shapeRecord h) ≡ true
-layout-written h W =
-    let k = length (h .slots) in
-    let ps = map valByte (h .ptrs) in
-    let ss = map slotByte (h .slots) in
-    let z : List ℕ = replicate (28 - length (ps ++ ss)) 0 in
-    let l = values-length h W in
-    let e : suc (suc (suc (suc (6 + k)))) ≡ 10 + k = omega arith in
-    let o : all isZero (drop (10 + k) (shapeRecord h)) ≡ true =
-    subst (λ n. all isZero (drop n (shapeRecord h)) ≡ true) e
-    (ap (all isZero) (drop-at (ps ++ ss) z (6 + k) l) ∙ zeros-pass (28 - length (ps ++ ss))) in
-    rw (le-leb k 12 (W .few), values-pass h W, o)
+layout-written h W = shape-fields-written h W 0x48 0 0
 
 -- the counters that an accepted fold gives add up to no more than the cells of the image
 pub fold-room : (ps cs : List ℕ) → foldImage ps cs .verdict ≡ isAccepted

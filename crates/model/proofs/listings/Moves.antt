@@ -57,7 +57,7 @@ module _ (r : Routine) (t : Listing) (X : Exact r t) (G : GoodStarts r) (a b : �
   pub link-facts : (n : ℕ) → n < length (t .links) → LinkGood (r .stmts) t (linkAt t n)
   link-facts n h = link-good r t X (linkAt t n) (getD-in (t .links) noLink n h)
 
-  link-small : (k : Link) → LinkGood (r .stmts) t k → SmallEdge (nodesOf (locAt (t .locs) (k .from))) (k .edge)
+  pub link-small : (k : Link) → LinkGood (r .stmts) t k → SmallEdge (nodesOf (locAt (t .locs) (k .from))) (k .edge)
       × GoodLoc (k .edge .to)
   link-small k L = good-edge (r .stmts) (locAt (t .locs) (k .from)) (loc-good (k .from) (L .from-below)) (k .edge)
       (L .edge-of)
@@ -77,6 +77,9 @@ module _ (r : Routine) (t : Listing) (X : Exact r t) (G : GoodStarts r) (a b : �
       table-record a (map locRecord (t .locs)) i locs-wide (omega (arith, length-map (t .locs) locRecord))
       ∙ getD-map locRecord (t .locs) i (failed 0 leak) [] h
 
+  pub loc-nodes : (i : ℕ) → i < length (t .locs) → nodesAt T i ≡ nodesOf (locAt (t .locs) i)
+  loc-nodes i h = ap (λ x. byte x 3) (loc-record i h) ∙ record-nodes (locAt (t .locs) i)
+
   pub edge-record : (n : ℕ) → n < length (t .links) → recordAt (T .edgeBytes) n ≡ linkRecord (linkAt t n)
   edge-record n h =
       table-record b (map linkRecord (t .links)) n links-wide (omega (arith, length-map (t .links) linkRecord))
@@ -85,7 +88,7 @@ module _ (r : Routine) (t : Listing) (X : Exact r t) (G : GoodStarts r) (a b : �
   edge-word : (n : ℕ) → n < length (t .links) → word (recordAt (T .edgeBytes) n) 2 ≡ linkAt t n .from
   edge-word n h = let k = linkAt t n in ap (λ x. word x 2) (edge-record n h) ∙ edge-from (k .from) (k .dest) (k .edge)
 
-  from-few : (n : ℕ) → n < length (t .links) → nodesOf (locAt (t .locs) (linkAt t n .from)) ≤ 12
+  pub from-few : (n : ℕ) → n < length (t .links) → nodesOf (locAt (t .locs) (linkAt t n .from)) ≤ 12
   from-few n h =
       let i = linkAt t n .from in nodes-few (locAt (t .locs) i) (loc-good i (link-facts n h .from-below))
 
@@ -109,8 +112,7 @@ module _ (r : Routine) (t : Listing) (X : Exact r t) (G : GoodStarts r) (a b : �
       let us = k .edge .updates in
       let few = from-few n h in
       let nodes : nodesAt T (k .dest) ≡ length us =
-      ap (λ x. byte x 3) (loc-record (k .dest) (L .dest-below)) ∙ record-nodes (locAt (t .locs) (k .dest))
-      ∙ ap nodesOf (L .dest-is) ∙ sym (S .0 .number) in
+      loc-nodes (k .dest) (L .dest-below) ∙ ap nodesOf (L .dest-is) ∙ sym (S .0 .number) in
       let worths : map (applied (c .values)) (map updateCode us) ≡ map (worth (c .values)) us =
       map-map (applied (c .values)) updateCode us
       ∙ map-same (λ u. applied (c .values) (updateCode u)) (worth (c .values)) us

@@ -1,12 +1,11 @@
 -- Every edge of a shape leads to a fault or to a shape with as many pointers, and its updates are small; so every
 -- reached location can be written.
 use Prim.Native.Nat.{_<_, _≤_, ℕ}
-use mathlib.Core.Path.{_∙_, _≡_, ap, ap₂, refl, subst, sym}
+use mathlib.Core.Path.{_∙_, _≡_, ap, refl, subst, sym}
 use mathlib.Core.Logic.{inl, inr}
 use mathlib.Core.Option.{some}
 use mathlib.Core.Bool.{_&&_, cond, true}
 use mathlib.Core.List.{List, map, [], _∷_}
-use native.Mathlib.Nat.{zero-add}
 use native.Mathlib.Omega.{arith}
 use lib.Dec.{eqb, leb}
 use lib.ListN.{List·getD-eq-default, getD, length, length-map}
@@ -17,11 +16,12 @@ use Rattle.model.specs.Heap.{Heap, inUse, kept, unused}
 use Rattle.model.specs.Image.{spread, unfoldHeap}
 use Rattle.model.specs.Machine.{Action, Effect, Entry, Stmt, accepts, answerOf, branch, carryOut, done, entry, fault, step, target, Kind, action, kind, perform, collects, settle}
 use Rattle.model.specs.Runs.{State, Status, Advance, made, past, running}
-use Rattle.model.specs.Shape.{counters, nodeVal, segments}
+use Rattle.model.specs.Shape.{nodeVal, segments, size}
 use Rattle.model.specs.Translate.{Routine}
 use Rattle.model.specs.Notions.{Canon, In, Pairs, Exclude, Positive, SmallEdge, nodesOf, worth, ClosedHeap, Views, guardOn, guardsOn, statementOf}
 use Rattle.model.proofs.shapes.Canon.{fold-canon}
 use Rattle.model.proofs.records.Checked.{GoodStarts}
+use Rattle.model.proofs.records.Falls.{StaysPositive}
 use Rattle.model.proofs.records.Refusals.{good-leads}
 use Rattle.model.proofs.records.Statements.{Leads}
 use Rattle.model.proofs.expansion.Collect.{settle-any}
@@ -29,9 +29,9 @@ use Rattle.model.proofs.expansion.Facts.{heap-closed, heap-kept, kept-t
 use Rattle.model.proofs.ways.Guards.{edges-cover, edges-exclude}
 use Rattle.model.proofs.ways.Leave.{Fit, MatchIn, begin}
 use Rattle.model.specs.Listings.{GoodInput, Reached, by-edge, from-start, GoodLoc}
-use Rattle.model.proofs.lists.Lists.{getD-default, getD-map, in-map, in-single, some-inj}
+use Rattle.model.proofs.lists.Lists.{getD-default, in-map, in-single, map-in, some-inj}
 use Rattle.model.proofs.lists.Logic.{and-both, bool-case, eqb-same}
-use Rattle.model.proofs.lists.Numbers.{at-number, length-numbers}
+use Rattle.model.proofs.lists.Numbers.{length-numbers, map-number}
 use Rattle.model.proofs.ways.Location.{edge-goes, edge-way, leave-backward, way-guards}
 use Rattle.model.proofs.visits.Order.{used-below}
 use Rattle.model.proofs.ways.Picks.{made-goes}
@@ -75,9 +75,7 @@ module _ (k m : ℕ) where
   met-by gs f =
       let cs = map two-at (numbers 0 k) in
       let len : length cs ≡ k = length-map (numbers 0 k) two-at ∙ length-numbers 0 k in
-      let is : (d i : ℕ) → i < k → getD cs i d ≡ two-at i =
-      λ d i lt. getD-map two-at (numbers 0 k) i 0 d (omega (arith, length-numbers 0 k))
-      ∙ ap two-at (at-number 0 k i 0 lt ∙ zero-add i) in (
+      let is : (d i : ℕ) → i < k → getD cs i d ≡ two-at i = λ d i lt. map-number two-at k i d lt in (
         cs,
         len,
         (λ i lt. let z = is 1 i (omega arith) in let p = two-at-1 i in omega arith),
@@ -131,17 +129,45 @@ module _ (kd : Kind) (a : Action) (h : Heap) (cl : ClosedHeap h) where
       and-both (guardOn cs (moreAt n)) true (more-met nodes n cs is (below v n (inl refl))) refl))
   ways-met (twoNodes n m) v y (inr (inr (inr x))) = absurd x
 
+-- what is known where a state fits a location with counters: the location is good, and the counters are sizes of
+-- segments
+fit-good : (x : State) (l : Loc) (cs : List ℕ) → Fit x l cs → length (x .heap .ptrs) ≡ 6 → GoodLoc l
+fit-good x l cs f p = by-status (x .status) f
+  where
+    by-status : (q : Status) → MatchIn q (x .stmt) (x .heap) l cs → GoodLoc l
+    by-status running m = subst GoodLoc (sym (m .0)) (
+      fold-canon (x .heap) (m .2) (m .3),
+      length-map (x .heap .ptrs)
+          (nodeVal (segments (x .heap))) ∙ p,
+    )
+    by-status (past f) m = subst GoodLoc (sym (m .0)) tt
+
+fit-positive : (x : State) (l : Loc) (cs : List ℕ) → Fit x l cs → (c : ℕ) → In c cs → 1 ≤ c
+fit-positive x l cs f c i = by-status (x .status) f
+  where
+    by-status : (q : Status) → MatchIn q (x .stmt) (x .heap) l cs → 1 ≤ c
+    by-status running m = omega (arith, in-map size c (segments (x .heap)) (subst (In c) (m .1) i) .2)
+    by-status (past f) m = absurd (subst (In c) (m .1) i)
+
 module _ (s : ℕ) (st : Stmt) (h : Heap) (C : Canon h) (six : length (h .ptrs) ≡ 6) where
-  fit-good : (x : State) (l : Loc) (cs : List ℕ) → Fit x l cs → length (x .heap .ptrs) ≡ 6 → GoodLoc l
-  fit-good x l cs f p = by-status (x .status) f
-    where
-      by-status : (q : Status) → MatchIn q (x .stmt) (x .heap) l cs → GoodLoc l
-      by-status running m = subst GoodLoc (sym (m .0)) (
-        fold-canon (x .heap) (m .2) (m .3),
-        length-map (x .heap .ptrs)
-            (nodeVal (segments (x .heap))) ∙ p,
+  -- an enabled edge of a shape, taken from the shape unfolded with the counters
+  unfolded-edge : (E : Edge) → In E (edgesAt s st h) → (cs : List ℕ) → length cs ≡ length (h .slots) → Positive cs
+      → guardsOn (E .guards) cs ≡ true
+      → (x : State) × (length (x .heap .ptrs) ≡ 6) × Fit x (E .to) (map (worth cs) (E .updates))
+      × SmallEdge (length (h .slots)) E
+  unfolded-edge E i cs len pos on =
+      let H = unfoldHeap h cs in
+      let X = unfold-is-heap h C cs len pos in
+      let sh = shape-unfold h C cs len pos in
+      let ct = counters-unfold h C cs len pos in
+      let e : Entry = record { pick = E .branchNo; cellNo = length (H .slots) } in
+      let r = leave-backward s st H (heap-closed H X) (heap-kept H X) E (subst (λ x. In E (edgesAt s st x)) (sym sh) i)
+      (ap (guardsOn (E .guards)) ct ∙ on) e refl (ap inUse (List·getD-eq-default (H .slots) unused (omega arith))) in (
+        r .0 .after,
+        made-ptrs s st e H (heap-closed H X) (r .0) (r .1) ∙ length-map (h .ptrs) (spread cs) ∙ six,
+        subst (λ ds. Fit (r .0 .after) (E .to) (map (worth ds) (E .updates))) ct (r .3),
+        subst (λ (x : Heap). SmallEdge (length (x .slots)) E) sh (r .4),
       )
-      by-status (past f) m = subst GoodLoc (sym (m .0)) tt
 
   -- each edge of a shape
   pub shape-edge : (E : Edge) → In E (edgesAt s st h) → SmallEdge (length (h .slots)) E × GoodLoc (E .to)
@@ -152,26 +178,23 @@ module _ (s : ℕ) (st : Stmt) (h : Heap) (C : Canon h) (six : length (h .ptrs) 
       let a = action (st .op) in
       let m = ways-met (kind (st .op)) a h (C .closed) (view a h) refl y (w .1) in
       let g : E .guards ≡ y .guards = way-guards s k y (stepBy st k y) E (w .2) in
-      let cs = m .0 in
-      let len : length cs ≡ k = m .1 in
-      let pos : Positive cs = m .2 in
-      let H = unfoldHeap h cs in
-      let X = unfold-is-heap h C cs len pos in
-      let sh = shape-unfold h C cs len pos in
-      let ct = counters-unfold h C cs len pos in
-      let e : Entry = record { pick = E .branchNo; cellNo = length (H .slots) } in
-      let r = leave-backward s st H (heap-closed H X) (heap-kept H X) E (subst (λ x. In E (edgesAt s st x)) (sym sh) i)
-      (ap₂ guardsOn g ct ∙ m .3) e refl (ap inUse (List·getD-eq-default (H .slots) unused (omega arith))) in (
-        subst (λ (x : Heap). SmallEdge (length (x .slots)) E) sh (r .4),
-        fit-good (r .0 .after) (E .to) (map (worth (counters H)) (E .updates)) (r .3)
-            (made-ptrs s st e H (heap-closed H X) (r .0) (r .1) ∙ length-map (h .ptrs) (spread cs) ∙ six),
-      )
+      let u = unfolded-edge E i (m .0) (m .1) (m .2) (ap (λ gs. guardsOn gs (m .0)) g ∙ m .3) in
+      (u .3, fit-good (u .0) (E .to) (map (worth (m .0)) (E .updates)) (u .2) (u .1))
 
 -- the edges of a good location
 pub good-edge : (sts : List Stmt) (l : Loc) → GoodLoc l → (E : Edge) → In E (edgesOf sts l) → SmallEdge (nodesOf l) E
     × GoodLoc (E .to)
 good-edge sts (at s h) g E i = shape-edge s (stmtAt sts s) h (g .0) (g .1) E i
 good-edge sts (failed s f) g E i = absurd i
+
+-- from counters of 1 or more, an enabled edge of a good location gives such counters
+pub edge-positive : (sts : List Stmt) (l : Loc) → GoodLoc l → (E : Edge) → In E (edgesOf sts l)
+    → StaysPositive (nodesOf l) E
+edge-positive sts (failed s f) g E i cs len pos on u j = absurd i
+edge-positive sts (at s h) g E i cs len pos on u j =
+    let r = unfolded-edge s (stmtAt sts s) h (g .0) (g .1) E i cs len pos on in
+    fit-positive (r .0) (E .to) (map (worth cs) (E .updates)) (r .2) (worth cs u)
+    (map-in (worth cs) u (E .updates) j)
 
 -- every reached location is good
 pub reached-good : (r : Routine) → GoodStarts r → (l : Loc) → Reached (r .stmts) (r .starts) l → GoodLoc l

@@ -4,14 +4,14 @@ use Prim.Native.Nat.{_<_, _≤_, suc, zero, ℕ}
 use mathlib.Core.Path.{_∙_, _≡_, ap, ap₂, refl, subst, sym}
 use mathlib.Core.Logic.{inl, inr}
 use mathlib.Core.Option.{Option, none, some}
-use mathlib.Core.Bool.{Bool, true}
+use mathlib.Core.Bool.{Bool, false, true}
 use mathlib.Core.List.{List, [], _++_, _∷_, append-assoc, append-nil, map, map-map}
 use native.Mathlib.Omega.{arith}
 use lib.Dec.{eqb}
 use lib.ListN.{List·getD-map, drop, getD, length, length-map, set}
 use borrow.Author.Tests.{eqb-true}
-use Rattle.model.specs.Base.{all, any, joined, mem}
-use Rattle.model.proofs.lists.Logic.{and-both, and-l, and-r, clash, eqb-same, or-cases, or-l, or-r}
+use Rattle.model.specs.Base.{all, any, count, joined, mem}
+use Rattle.model.proofs.lists.Logic.{and-both, and-l, and-r, bool-case, clash, eqb-same, not-true, or-cases, or-l, or-r}
 use Rattle.model.specs.Notions.{In, Pairs}
 
 pub in-map : {A B : Type 0} (f : A → B) (y : B) (l : List A) → In y (map f l) → (x : A) × In x l × (y ≡ f x)
@@ -64,6 +64,10 @@ all-in p (y ∷ l) x h (inr i) = all-in p l x (and-r (p y) (all p l) h) i
 pub all-of : {A : Type 0} (p : A → Bool) (l : List A) → ((x : A) → In x l → p x ≡ true) → all p l ≡ true
 all-of p [] h = refl
 all-of p (y ∷ l) h = and-both (p y) (all p l) (h y (inl refl)) (all-of p l (λ x i. h x (inr i)))
+
+pub all-map : {A B : Type 0} (p : B → Bool) (f : A → B) (l : List A) → ((x : A) → In x l → p (f x) ≡ true)
+    → all p (map f l) ≡ true
+all-map p f l h = all-of p (map f l) (λ y i. let r = in-map f y l i in ap p (r .2) ∙ h (r .0) (r .1))
 
 pub some-none {ℓ} : {C : Type ℓ} {A : Type 0} {x : A} → _≡_ {A = Option A} none (some x) → C
 some-none {x} e = absurd (let z : _≡_ {A = ℕ} 0 1 = cc in omega arith)
@@ -165,9 +169,28 @@ pairs-map R f (x ∷ l) p = (
   pairs-map R f l (p .1),
 )
 
+pub pairs-mono-in : {A : Type 0} (R S : A → A → Type 0) (l : List A)
+    → ((x y : A) → In x l → In y l → R x y → S x y) → Pairs R l → Pairs S l
+pairs-mono-in R S [] h p = tt
+pairs-mono-in R S (x ∷ l) h p = (
+  (λ y i. h x y (inl refl) (inr i) (p .0 y i)),
+  pairs-mono-in R S l (λ y z i j. h y z (inr i) (inr j)) (p .1),
+)
+
 pub pairs-mono : {A : Type 0} (R S : A → A → Type 0) (l : List A) → ((x y : A) → R x y → S x y) → Pairs R l → Pairs S l
-pairs-mono R S [] h p = tt
-pairs-mono R S (x ∷ l) h p = ((λ y i. h x y (p .0 y i)), pairs-mono R S l h (p .1))
+pairs-mono R S l h = pairs-mono-in R S l (λ x y i j. h x y)
+
+pub count-none : {A : Type 0} (p : A → Bool) (l : List A) → ((x : A) → In x l → p x ≡ false) → count p l ≡ 0
+count-none p [] h = refl
+count-none p (x ∷ l) h = rw (h x (inl refl)) (omega (arith, count-none p l (λ y i. h y (inr i))))
+
+-- where no two elements pass a test, at most one does
+pub count-once : {A : Type 0} (p : A → Bool) (l : List A) → Pairs (λ x y. p x ≡ true → p y ≡ true → ⊥) l
+    → count p l ≤ 1
+count-once p [] h = omega arith
+count-once p (x ∷ l) h = bool-case (p x)
+    (λ e. rw e (omega (arith, count-none p l (λ y i. not-true (p y) (h .0 y i e)))))
+    (λ e. rw e (omega (arith, count-once p l (h .1))))
 
 pub pairs-at : {A : Type 0} (R : A → A → Type 0) (l : List A) (d : A) (i j : ℕ) → Pairs R l → i < j → j < length l
     → R (getD l i d) (getD l j d)

@@ -4,12 +4,13 @@ use mathlib.Core.Path.{_∙_, _≡_, ap, refl, subst}
 use mathlib.Core.Logic.{inl, inr}
 use mathlib.Core.Bool.{Bool, false, true}
 use mathlib.Core.List.{List, [], _++_, _∷_, map}
+use native.Mathlib.Nat.{zero-add}
 use native.Mathlib.Omega.{arith}
 use lib.ListN.{getD, length}
 use borrow.Author.Tests.{eqb-false}
-use Rattle.model.specs.Base.{mem, numbers}
+use Rattle.model.specs.Base.{all, mem, numbers}
 use Rattle.model.specs.Notions.{In, Pairs, NoDup}
-use Rattle.model.proofs.lists.Lists.{in-mem, mem-in}
+use Rattle.model.proofs.lists.Lists.{all-in, all-of, getD-map, in-mem, mem-in}
 use Rattle.model.proofs.lists.Logic.{clash, eq-case, not-true}
 
 -- it holds the numbers from i on, below i + n, each once
@@ -28,6 +29,13 @@ numbers-mem i n c h = in-numbers i n c (mem-in c (numbers i n) h)
 
 pub mem-numbers : (i n c : ℕ) → i ≤ c → c < i + n → mem c (numbers i n) ≡ true
 mem-numbers i n c h k = in-mem c (numbers i n) (numbers-in i n c h k)
+
+-- a test of each number below n
+pub all-numbers : (p : ℕ → Bool) (n : ℕ) → ((i : ℕ) → i < n → p i ≡ true) → all p (numbers 0 n) ≡ true
+all-numbers p n h = all-of p (numbers 0 n) (λ i q. h i (let r = in-numbers 0 n i q in omega arith))
+
+pub numbers-all : (p : ℕ → Bool) (n : ℕ) → all p (numbers 0 n) ≡ true → (i : ℕ) → i < n → p i ≡ true
+numbers-all p n e i h = all-in p (numbers 0 n) i e (numbers-in 0 n i (omega arith) (omega arith))
 
 pub numbers-nodup : (i n : ℕ) → NoDup (numbers i n)
 numbers-nodup i zero = tt
@@ -73,3 +81,8 @@ pub at-number : (i n j d : ℕ) → j < n → getD (numbers i n) j d ≡ i + j
 at-number i zero j d h = absurd (omega arith)
 at-number i (suc n) zero d h = omega arith
 at-number i (suc n) (suc j) d h = let r = at-number (suc i) n j d (omega arith) in omega arith
+
+-- what a function makes of the numbers below n, by the place
+pub map-number : {A : Type 0} (f : ℕ → A) (n j : ℕ) (d : A) → j < n → getD (map f (numbers 0 n)) j d ≡ f j
+map-number f n j d h =
+    getD-map f (numbers 0 n) j 0 d (omega (arith, length-numbers 0 n)) ∙ ap f (at-number 0 n j 0 h ∙ zero-add j)

@@ -1,7 +1,8 @@
 -- The promises: each is a type, and under it stands its proof, which cites a law. This page has demand 1; demand 2 is
 -- in PromisesShapes, PromisesEdges and PromisesListings, demand 3 in PromisesRuns, reading the tables in
--- PromisesTables, single statements in PromisesStatements and PromisesDrops, the controller bench in PromisesBench, and
--- the nodes that are told with a refusal in PromisesNodes. The words are those of specs/.
+-- PromisesTables, single statements in PromisesStatements and PromisesDrops, the controller bench in PromisesBench, the
+-- nodes that are told with a refusal in PromisesNodes, and moves and walks in PromisesWalks. The words are those of
+-- specs/.
 use Prim.Native.Nat.{_*_, _-_, _/_, _<_, _≤_, suc, ℕ}
 use mathlib.Core.Path.{_∙_, _≡_, sym}
 use mathlib.Core.Logic.{_↔_, _⊎_}
@@ -17,12 +18,16 @@ use Rattle.model.proofs.records.Checks.{accepted-by}
 use Rattle.model.specs.Machine.{entry, step}
 use Rattle.model.specs.Records.{Refusal, filled, isAccepted, isRefused, isS, shapeOf, shapeRecord, stmtOf}
 use Rattle.model.specs.Shape.{counters, shape}
-use Rattle.model.specs.Translate.{Routine, bad, check, good, translate}
+use Rattle.model.specs.Translate.{Routine, Tables, bad, check, good, translate}
+use Rattle.model.specs.Walking.{moved, walked}
+use Rattle.model.specs.declared.Configuration.{Configuration}
 use Rattle.model.specs.declared.Ended.{Ended}
 use Rattle.model.specs.declared.Folded.{Folded}
+use Rattle.model.specs.declared.Moved.{Moved}
 use Rattle.model.specs.declared.Unfolded.{Unfolded}
 use Rattle.model.specs.declared.Stepped.{Stepped}
 use Rattle.model.specs.declared.Translated.{Translated}
+use Rattle.model.specs.declared.Walked.{Walked}
 use Rattle.model.proofs.images.Images.{fold-accepted, fold-checked, fold-gives, fold-lengths, fold-refused, fold-verdict, image-accepted, unfold-checked, unfold-lengths, unfold-refused}
 use Rattle.model.specs.Listings.{BadInput, GoodInput, recordRefusal, recordsOf, numbersInput, numbersTranslate, numbersS, numbersH}
 use Rattle.model.specs.Notions.{CheckedBy, Halted}
@@ -54,6 +59,8 @@ OneOutcome = ((s : List ℕ) (a b : ℕ) (x y : Translated) (ls es ms fs : List 
     × ((r : List ℕ) (p c : ℕ) (ps cs : List ℕ) (x y : Stepped) (qs ds us es : List ℕ)
     → steppingOf x qs ds ≡ stepImage r p c ps cs → steppingOf y us es ≡ stepImage r p c ps cs
     → (x ≡ y) × (qs ≡ us) × (ds ≡ es))
+    × ((t : Tables) (c : Configuration) (n : ℕ) (x y : Moved) → x ≡ moved t c n → y ≡ moved t c n → x ≡ y)
+    × ((t : Tables) (c : Configuration) (ns : List ℕ) (x y : Walked) → x ≡ walked t c ns → y ≡ walked t c ns → x ≡ y)
 
 pub one-outcome : OneOutcome
 one-outcome = (
@@ -61,6 +68,8 @@ one-outcome = (
   λ ps cs x y p q. folded-one x y (p ∙ sym q),
   λ r vs ps cs x y qs ds us es p q. unfoldings-one x y qs ds us es (p ∙ sym q),
   λ r p c ps cs x y qs ds us es e f. steppings-one x y qs ds us es (e ∙ sym f),
+  λ t c n x y p q. p ∙ sym q,
+  λ t c ns x y p q. p ∙ sym q,
 )
 
 -- "The two record counts are reported, both 0 on a refusal." A refused translation leaves both tables all zero.

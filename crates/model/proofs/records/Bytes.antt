@@ -2,13 +2,13 @@
 use Prim.Native.Nat.{_%_, _*_, _+_, _-_, _/_, _<_, _^_, _≤_, min, suc, zero, ℕ}
 use mathlib.Core.Path.{_∙_, _≡_, ap, ap₂, refl, sym}
 use mathlib.Core.Logic.{inl, inr}
-use mathlib.Core.Bool.{Bool, false, true}
+use mathlib.Core.Bool.{Bool, cond, false, true}
 use mathlib.Core.List.{List, [], _++_, _∷_, append-assoc, map}
-use native.Mathlib.Nat.{add-mul-mod-self-left, mod-add-div, mod-eq-of-lt, one-mul, pow-suc, zero-mul}
+use native.Mathlib.Nat.{add-mul-mod-self-left, div-div-eq-div-mul, div-one, mod-add-div, mod-eq-of-lt, mul-assoc, one-mul, pow-suc, pow-succ', zero-mul}
 use native.Mathlib.Omega.{arith}
 use lib.Dec.{eqb}
 use lib.ListN.{drop, getD, length, length-append, length-replicate, replicate, replicate-append-replicate, take}
-use lib.Seq.{drop-append-add, drop-at, take-append-add, take-at}
+use lib.Seq.{drop-append-add, drop-at, getD-drop, getD-take, take-append-add, take-at}
 use borrow.Author.Tests.{eqb-true, ne-eqb}
 use Rattle.model.specs.Base.{all, joined}
 use Rattle.model.specs.Bench.{cutTo}
@@ -61,7 +61,7 @@ added-bits (false ∷ fs) (c ∷ cs) =
     let e : (0 + 2 * bits fs) / 2 ≡ bits fs = omega arith in
     rw (add-mul-mod-self-left 0 2 (bits fs), zero-mul c, e, added-bits fs cs)
 
-bits-pow : (n : ℕ) (fs : List Bool) → length fs ≤ n → bits fs < 2 ^ n
+pub bits-pow : (n : ℕ) (fs : List Bool) → length fs ≤ n → bits fs < 2 ^ n
 bits-pow zero [] h = omega arith
 bits-pow zero (b ∷ fs) h = absurd (omega arith)
 bits-pow (suc n) [] h = rw (pow-suc 2 n) (omega (arith, bits-pow n [] (omega arith)))
@@ -78,14 +78,56 @@ code-below u h k = let b = bits-below (u .adds) h in omega arith
 pub code-flags : (u : Update) → length (u .adds) ≤ 12 → updateCode u % 4096 ≡ bits (u .adds)
 code-flags u h = add-mul-mod-self-left (bits (u .adds)) 4096 (u .plus) ∙ mod-eq-of-lt (bits-below (u .adds) h)
 
+pub code-plus : (u : Update) → length (u .adds) ≤ 12 → updateCode u / 4096 ≡ u .plus
+code-plus u h = let b = bits-below (u .adds) h in omega arith
+
+-- the lowest bit of a number, and the others
+low-bit : (b : Bool) (x : ℕ) → (cond b 1 0 + 2 * x) % 2 ≡ cond b 1 0
+low-bit true x = omega arith
+low-bit false x = omega arith
+
+high-bits : (b : Bool) (x i : ℕ) → (cond b 1 0 + 2 * x) / 2 ^ suc i ≡ x / 2 ^ i
+high-bits b x i =
+    ap (λ m. (cond b 1 0 + 2 * x) / m) (pow-succ' 2 i) ∙ sym (div-div-eq-div-mul (cond b 1 0 + 2 * x) 2 (2 ^ i))
+    ∙ ap (λ m. m / 2 ^ i) (half b)
+  where
+    half : (b : Bool) → (cond b 1 0 + 2 * x) / 2 ≡ x
+    half true = omega arith
+    half false = omega arith
+
+above : (n p : ℕ) → 2 ^ suc n * p ≡ 2 * (2 ^ n * p)
+above n p = ap (λ m. m * p) (pow-succ' 2 n) ∙ mul-assoc 2 (2 ^ n) p
+
+-- bit i of a number whose low n bits are given
+pub bit-at : (n : ℕ) (fs : List Bool) (p i : ℕ) → length fs ≤ n → i < n
+    → (bits fs + 2 ^ n * p) / 2 ^ i % 2 ≡ cond (getD fs i false) 1 0
+bit-at zero fs p i h k = absurd (omega arith)
+bit-at (suc n) [] p zero h k =
+    let e : 0 + 2 ^ suc n * p ≡ 0 + 2 * (2 ^ n * p) = omega (arith, above n p) in
+    ap (λ m. m / 1 % 2) e ∙ ap (λ m. m % 2) (div-one _) ∙ low-bit false (2 ^ n * p)
+bit-at (suc n) [] p (suc i) h k =
+    let e : 0 + 2 ^ suc n * p ≡ 0 + 2 * (bits [] + 2 ^ n * p) = omega (arith, above n p) in
+    ap (λ m. m / 2 ^ suc i % 2) e ∙ ap (λ m. m % 2) (high-bits false (bits [] + 2 ^ n * p) i)
+    ∙ bit-at n [] p i (omega arith) (omega arith)
+bit-at (suc n) (b ∷ fs) p zero h k =
+    let e : bits (b ∷ fs) + 2 ^ suc n * p ≡ cond b 1 0 + 2 * (bits fs + 2 ^ n * p) = omega (arith, above n p) in
+    ap (λ m. m / 1 % 2) e ∙ ap (λ m. m % 2) (div-one _) ∙ low-bit b (bits fs + 2 ^ n * p)
+bit-at (suc n) (b ∷ fs) p (suc i) h k =
+    let e : bits (b ∷ fs) + 2 ^ suc n * p ≡ cond b 1 0 + 2 * (bits fs + 2 ^ n * p) = omega (arith, above n p) in
+    ap (λ m. m / 2 ^ suc i % 2) e ∙ ap (λ m. m % 2) (high-bits b (bits fs + 2 ^ n * p) i)
+    ∙ bit-at n fs p i (omega arith) (omega arith)
+
+-- an update adds the counters that it flags
+pub code-bit : (u : Update) (i : ℕ) → length (u .adds) ≤ 12 → i < 12
+    → updateCode u / 2 ^ i % 2 ≡ cond (getD (u .adds) i false) 1 0
+code-bit u i h k = bit-at 12 (u .adds) (u .plus) i h k
+
 -- and applied to the counters
 pub applied-code : (u : Update) (cs : List ℕ) → length (u .adds) ≤ 12 → u .plus ≤ 3
     → applied cs (updateCode u) ≡ (flagged (u .adds) cs + u .plus) - 1
 applied-code u cs h k =
-    let b = bits-below (u .adds) h in
-    let d : updateCode u / 4096 ≡ u .plus = omega arith in
     let p : u .plus % 4 ≡ u .plus = mod-eq-of-lt (omega arith) in
-    rw (code-flags u h, d, p, added-bits (u .adds) cs)
+    rw (code-flags u h, code-plus u h, p, added-bits (u .adds) cs)
 
 joined-record : (rs : List (List ℕ)) (z : List ℕ) (i : ℕ) → ((r : List ℕ) → In r rs → length r ≡ 32) → i < length rs
     → take 32 (drop (32 * i) (joined rs ++ z)) ≡ getD rs i []
@@ -98,6 +140,13 @@ joined-record (r ∷ rs) z (suc i) h k =
     ap₂ (λ n s. take 32 (drop n s)) e (append-assoc r (joined rs) z)
     ∙ ap (take 32) (drop-append-add r (joined rs ++ z) (32 * i)) ∙ joined-record rs z i (λ x q. h x (inr q))
     (omega arith)
+
+-- a byte of record i in its table, and the part of the table that is the record
+pub record-byte : (t : List ℕ) (i j : ℕ) → j < 32 → getD (recordAt t i) j 0 ≡ getD t (32 * i + j) 0
+record-byte t i j lt = rw (getD-take, getD-drop)
+
+pub record-part : (t : List ℕ) (i : ℕ) → take (32 * i + 32 - 32 * i) (drop (32 * i) t) ≡ recordAt t i
+record-part t i = let e : 32 * i + 32 - 32 * i ≡ 32 = omega arith in rw e
 
 -- record i of a table is the one that was written at place i
 pub table-record : (n : ℕ) (rs : List (List ℕ)) (i : ℕ) → ((r : List ℕ) → In r rs → length r ≡ 32) → i < length rs
@@ -173,3 +222,7 @@ pub all-zero : (l : List ℕ) → all isZero l ≡ true → l ≡ replicate (len
 all-zero [] h = refl
 all-zero (x ∷ l) h = ap₂ _∷_ (eqb-true x 0 (and-l (isZero x) (all isZero l) h))
     (all-zero l (and-r (isZero x) (all isZero l) h))
+
+pub zeros-pass : (m : ℕ) → all isZero (replicate m 0) ≡ true
+zeros-pass zero = refl
+zeros-pass (suc m) = zeros-pass m

@@ -5,7 +5,8 @@ use mathlib.Core.Logic.{inl, inr}
 use mathlib.Core.Bool.{_&&_, true}
 use mathlib.Core.List.{List, [], _++_, _∷_, map}
 use native.Mathlib.Omega.{arith}
-use lib.ListN.{getD, length, replicate}
+use lib.ListN.{drop, getD, length, replicate}
+use lib.Seq.{drop-at}
 use Rattle.model.specs.Base.{joined, numbers}
 use Rattle.model.specs.Edges.{Edge, Guard, Update, isMore, isOne, Test}
 use Rattle.model.specs.Records.{GuardCode, branchByte, byte, edgeRecord, filled, guardCode, twoBytes, updateCode, word, testNumber}
@@ -114,6 +115,16 @@ word-eight : (a b c d e f g h : ℕ) (w : List ℕ) (n : ℕ) → word (a ∷ b 
 word-eight a b c d e f g h w n =
     let q : 8 + n ≡ suc (suc (suc (suc (suc (suc (suc (suc n))))))) = omega arith in
     ap (word (a ∷ b ∷ c ∷ d ∷ e ∷ f ∷ g ∷ h ∷ w)) q
+
+-- zeros after the updates
+pub edge-rest : (from to : ℕ) (e : Edge)
+    → drop (8 + 2 * length (e .updates)) (edgeRecord from to e) ≡ replicate (24 - 2 * length (e .updates)) 0
+edge-rest from to e =
+    let n = 2 * length (e .updates) in
+    let q : 8 + n ≡ suc (suc (suc (suc (suc (suc (suc (suc n))))))) = omega arith in
+    ap (λ m. drop m (edgeRecord from to e)) q
+    ∙ drop-at (updateBytes e) (replicate (24 - length (updateBytes e)) 0) n (updates-length (e .updates))
+    ∙ ap (λ m. replicate (24 - m) 0) (updates-length (e .updates))
 
 -- the updates of an edge, for its new nodes
 pub edge-updates : (from to : ℕ) (e : Edge) → updatesOf (length (e .updates)) (edgeRecord from to e)

@@ -7,10 +7,10 @@ use mathlib.Core.Logic.{_⊎_, inl, inr, ⊎-elim}
 use mathlib.Core.Option.{none, some}
 use mathlib.Core.Bool.{Bool, _&&_, _||_, false, not, or-false, true}
 use mathlib.Core.List.{List, [], _++_, _∷_, append-nil}
-use native.Mathlib.Nat.{zero-add}
+use native.Mathlib.Nat.{min-le-left, zero-add}
 use native.Mathlib.Omega.{arith}
 use lib.Dec.{eqb, leb}
-use lib.ListN.{getD, length, length-map, take}
+use lib.ListN.{getD, length, length-map, length-take, take}
 use lib.Seq.{getD-take, length-take-le}
 use Rattle.model.specs.Base.{all, any, count, mem, sameList}
 use borrow.Author.Tests.{leb-true}
@@ -301,6 +301,14 @@ good-leads s r G =
           subst (Leads n) (sym (getD-map stmtOf (take n rs) i [] _ (omega arith) ∙ ap stmtOf e))
           (leads n (getD rs i []) (rw t at (G .records i (omega (arith, S .whole))))),
     )
+
+-- there are at most 64
+pub good-few : (s : List ℕ) (r : Routine) → GoodInput s r → length (r .stmts) ≤ 64
+good-few s r G =
+    let rs = recordsOf s in
+    let n = count isS rs in
+    rw (G .isRead, length-map, length-take)
+    (omega (arith, min-le-left n (length rs), leb-true n 64 (and-r (leb 1 n) (leb n 64) (G .statements))))
 
 -- ---- numbers and places
 

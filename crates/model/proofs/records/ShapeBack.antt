@@ -6,13 +6,13 @@ use mathlib.Core.List.{List, [], _++_, _∷_, map}
 use native.Mathlib.Omega.{arith}
 use lib.Dec.{eqb, leb, ltb}
 use lib.ListN.{drop, length, length-append, length-drop, length-map, replicate, take, take-append-drop}
-use lib.Seq.{length-take-le, take-add, take-at}
-use borrow.Author.Tests.{eqb-true, leb-true, lt-ltb, ltb-true, ne-eqb}
+use lib.Seq.{drop-at, length-take-le, take-add, take-at}
+use borrow.Author.Tests.{eqb-true, le-leb, leb-true, lt-ltb, ltb-true, ne-eqb}
 use Rattle.model.specs.Base.{all}
 use Rattle.model.specs.Heap.{Heap, Slot, Val, cell, closed, holds, null, undef, unused}
 use Rattle.model.specs.Image.{cellSlot, heapOf}
-use Rattle.model.specs.Records.{byte, filled, isZero, layoutH, shapeOf, shapeRecord, slotByte, valByte, valOf, valueByte}
-use Rattle.model.proofs.records.Bytes.{all-zero, byte-back}
+use Rattle.model.specs.Records.{byte, filled, isZero, layoutH, shapeBytes, shapeFields, shapeOf, shapeRecord, slotByte, valByte, valOf, valueByte}
+use Rattle.model.proofs.records.Bytes.{all-zero, byte-back, zeros-pass}
 use Rattle.model.specs.Listings.{SmallSlot, SmallVal, Writable}
 use Rattle.model.specs.Notions.{In}
 use Rattle.model.proofs.lists.Lists.{all-in, all-of, in-append-cases, in-append-l, in-append-r, in-map, map-back, map-in, map-same}
@@ -33,14 +33,13 @@ laid-of a b c k w l h =
     let t1 = eqb a 0x48 in
     let t2 = t1 && isZero b in
     let t3 = t2 && isZero c in
-    let t4 = t3 && leb k 12 in
-    let t5 = t4 && all (valueByte k) (take (6 + k) w) in
-    let z = and-r t5 (all isZero (drop (10 + k) r)) h in
-    let h5 = and-l t5 (all isZero (drop (10 + k) r)) h in
-    let h4 = and-l t4 (all (valueByte k) (take (6 + k) w)) h5 in
-    let h3 = and-l t3 (leb k 12) h4 in
+    let t4 = leb k 12 && all (valueByte k) (take (6 + k) w) in
+    let zs = all isZero (drop (10 + k) r) in
+    let h3 = and-l t3 (t4 && zs) h in
+    let h4 = and-l t4 zs (and-r t3 (t4 && zs) h) in
+    let z = and-r t4 zs (and-r t3 (t4 && zs) h) in
     let h2 = and-l t2 (isZero c) h3 in
-    let few = leb-true k 12 (and-r t3 (leb k 12) h4) in
+    let few = leb-true k 12 (and-l (leb k 12) (all (valueByte k) (take (6 + k) w)) h4) in
     let e : 10 + k ≡ suc (suc (suc (suc (6 + k)))) = omega arith in
     let n : length (drop (6 + k) w) ≡ 22 - k = omega (arith, length-drop (6 + k) w) in (
       (λ i. eqb-true a 0x48 (and-l t1 (isZero b) h2) i ∷ eqb-true b 0 (and-r t1 (isZero b) h2) i
@@ -48,7 +47,7 @@ laid-of a b c k w l h =
       record {
         long = l;
         few = few;
-        values = and-r t4 (all (valueByte k) (take (6 + k) w)) h5;
+        values = and-r (leb k 12) (all (valueByte k) (take (6 + k) w)) h4;
         zeros = all-zero (drop (6 + k) w) (subst (λ m. all isZero (drop m r) ≡ true) e z) ∙ ap (λ m. replicate m 0) n;
       },
     )
@@ -122,6 +121,19 @@ module _ (h : Heap) (W : Writable h) where
       ∙ value-passes k (r .0) (W .pointers (r .0) (r .1)))
       (λ j. let r = in-map slotByte b (h .slots) j in ap (valueByte k) (r .2)
       ∙ slot-passes k (r .0) (W .nexts (r .0) (r .1))))
+
+  -- whatever stands in the first three bytes
+  pub shape-fields-written : (a b c : ℕ) → shapeFields (a ∷ b ∷ c ∷ shapeBytes h) ≡ true
+  shape-fields-written a b c =
+      let k = length (h .slots) in
+      let vs = map valByte (h .ptrs) ++ map slotByte (h .slots) in
+      let r : List ℕ = a ∷ b ∷ c ∷ shapeBytes h in
+      let e : suc (suc (suc (suc (6 + k)))) ≡ 10 + k = omega arith in
+      let o : all isZero (drop (10 + k) r) ≡ true =
+      subst (λ n. all isZero (drop n r) ≡ true) e
+      (ap (all isZero) (drop-at vs (replicate (28 - length vs) 0) (6 + k) values-length)
+      ∙ zeros-pass (28 - length vs)) in
+      rw (le-leb k 12 (W .few), values-pass, o)
 
 -- an accepted shape record is what its shape is written as
 module _ (r : List ℕ) (l : length r ≡ 32) (h : layoutH r ≡ true) where

@@ -13,18 +13,18 @@ use Rattle.model.specs.Base.{all, numbers, placeOf}
 use Rattle.model.specs.Heap.{Heap, order}
 use Rattle.model.specs.Shape.{asVisited, canonical, core, nodes, reachable, visitNumber}
 use Rattle.model.specs.Notions.{Canon, Kept, ClosedHeap}
-use Rattle.model.proofs.lists.Lists.{all-in, all-of, map-id}
+use Rattle.model.proofs.lists.Lists.{map-id}
 use Rattle.model.proofs.lists.Logic.{and-both, and-l, and-r, eq-case}
-use Rattle.model.proofs.lists.Numbers.{in-numbers, mem-numbers, numbers-in, read-all}
+use Rattle.model.proofs.lists.Numbers.{all-numbers, in-numbers, mem-numbers, numbers-all, read-all}
 use Rattle.model.proofs.shapes.Same.{place-passes}
 use Rattle.model.proofs.visits.Order.{crowd, order-once, pigeon, toured, used-below}
 
 -- a test of each node, node by node
 pub node-all : (h : Heap) (p : ℕ → Bool) → ((n : ℕ) → n < length (h .slots) → p n ≡ true) → all p (nodes h) ≡ true
-node-all h p k = all-of p (nodes h) (λ n q. k n (let r = in-numbers 0 (length (h .slots)) n q in omega arith))
+node-all h p = all-numbers p (length (h .slots))
 
 pub all-node : (h : Heap) (p : ℕ → Bool) → all p (nodes h) ≡ true → (n : ℕ) → n < length (h .slots) → p n ≡ true
-all-node h p e n q = all-in p (nodes h) n e (numbers-in 0 (length (h .slots)) n (omega arith) (omega arith))
+all-node h p = numbers-all p (length (h .slots))
 
 -- ---- the numbering
 

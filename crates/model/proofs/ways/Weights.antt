@@ -12,10 +12,10 @@ use Rattle.model.specs.Base.{any, count, mem, numbers, sum}
 use Rattle.model.specs.Edges.{Weight, addsCounter, counter, isOneCell, isLess, one, less, updateOf}
 use Rattle.model.specs.Shape.{Seg, cells}
 use Rattle.model.proofs.shapes.Canon.{single}
-use Rattle.model.proofs.lists.Lists.{any-find, any-in, getD-map, in-mem, mem-in}
+use Rattle.model.proofs.lists.Lists.{any-find, any-in, in-mem, mem-in}
 use Rattle.model.specs.Notions.{NoDup, flagged}
 use Rattle.model.proofs.lists.Logic.{bool-case, clash, eqb-same, mem-here, mem-there, not-true}
-use Rattle.model.proofs.lists.Numbers.{at-number, flag-at, length-numbers}
+use Rattle.model.proofs.lists.Numbers.{flag-at, length-numbers, map-number}
 
 -- how many cells a cell of the shape stands for, with these counters
 abbrev pub weigh : List ℕ → Weight → ℕ
@@ -74,9 +74,7 @@ pub adds-update : (k : ℕ) (w : ℕ → Weight) (s : Seg) (i c : ℕ) → i < k
     → addsCounter i (w c) ≡ true → getD (updateOf k w s .adds) i false ≡ true
 adds-update k w s i c lt m a =
     let f : ℕ → Bool = λ j. any (λ d. addsCounter j (w d)) (cells s) in
-    getD-map f (numbers 0 k) i 0 false (omega (arith, length-numbers 0 k))
-    ∙ ap f (at-number 0 k i 0 lt ∙ zero-add i)
-    ∙ any-in (λ d. addsCounter i (w d)) (cells s) c (mem-in c (cells s) m) a
+    map-number f k i false lt ∙ any-in (λ d. addsCounter i (w d)) (cells s) c (mem-in c (cells s) m) a
 
 -- What is needed of the cells' weights: a counter belongs to one cell, and one cell at most is a rest, and one stands
 -- for one; counters are there, and a rest's is not 0.

@@ -1,6 +1,9 @@
 //! speed: times of the proved library, of the second translator and, where it was linked, of a translator in C, on the same inputs in
 //! one run. Prints, and judges nothing but that the translator in C answers as the proved library does, damaged inputs too.
 
+#[path = "speed/walks.rs"]
+mod walks;
+
 use native::damage::{among_shapes, drawn_routine};
 use native::draw::Draw;
 use reference::selftest::damaged_shapes;
@@ -237,5 +240,7 @@ fn reached(input: &[u8], places: usize) -> usize {
 fn main() {
     images();
     agreement();
+    walks::agreement();
     translations();
+    walks::walks();
 }

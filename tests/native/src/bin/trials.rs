@@ -8,6 +8,7 @@ use native::joined::{any_image, drop_of};
 use native::rings::{exact, fork, full, plain_ring, ring, ring_at_border, FULL};
 use native::stream::Stream;
 use reference::selftest::damaged_shapes;
+use reference::walk_damage::{self, DrawnWalk};
 use reference::{Refusal, Translated};
 use std::collections::HashSet;
 use std::io::Write;
@@ -22,6 +23,8 @@ const FEW: usize = 2_600;
 /// Each of 9, 18 and 19 at each node so often, and others.
 const EACH_NODE: usize = 100;
 const BY_CHANCE: usize = 1_000;
+/// So many turns of the aims of walks.
+const TURNS: usize = 70;
 
 /// The bytes of the bench's tables.
 const BENCH: [usize; 2] = [4_096, 8_192];
@@ -224,9 +227,39 @@ fn records(out: &mut Stream, d: &mut Draw) {
     }
 }
 
+/// A drawn walk whose tables are now and then shorter, longer or not there, or whose counts are others.
+fn drawn_walk(d: &mut Draw, seed: u64) -> DrawnWalk {
+    let mut drawn = walk_damage::draw(seed);
+    let DrawnWalk { locations, edges, location_count, edge_count, path, .. } = &mut drawn;
+    let (table, count) = if d.one_in(2) { (locations, location_count) } else { (edges, edge_count) };
+    match d.below(24) {
+        0 => table.truncate(d.below(table.len() + 1)),
+        // a byte short of what is in use
+        1 => table.truncate(table.len().min(count.saturating_mul(32)).saturating_sub(1)),
+        2 => table.extend((0..d.below(70)).map(|_| d.number() as u8)),
+        3 => *count = near(d, table.len() / 32),
+        4 => (*table, *count) = (Vec::new(), d.below(2)),
+        5 => (*table, *count, *path) = (Vec::new(), 0, Vec::new()),
+        _ => {}
+    }
+    drawn
+}
+
+/// Each drawn walk as a whole, and one move from where it starts: along its first edge, or along any.
+fn walks(out: &mut Stream, d: &mut Draw) {
+    let first = d.number();
+    for i in 0..TURNS * walk_damage::aims().len() {
+        let drawn = drawn_walk(d, first + i as u64);
+        out.walking(&drawn);
+        let any = near(d, drawn.edge_count);
+        let number = drawn.path.first().map_or(any, |&edge| if d.one_in(4) { any } else { edge as usize });
+        out.moving(&drawn, number);
+    }
+}
+
 fn batch(seed: u64) -> Stream {
     let (mut out, mut d) = (Stream::default(), Draw::new(seed));
-    for kind in [translations, folds, steps, drops, unfoldings, records, damaged] {
+    for kind in [translations, folds, steps, drops, unfoldings, records, damaged, walks] {
         kind(&mut out, &mut d);
     }
     out
