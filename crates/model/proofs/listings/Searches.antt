@@ -12,16 +12,24 @@ use lib.ListN.{drop, getD, length, length-drop, length-map}
 use lib.Seq.{length-take-le}
 use borrow.Author.Tests.{le-ltb, lt-ltb, ltb-false, ltb-true}
 use Rattle.model.specs.Base.{any, placeOf, sameList}
-use Rattle.model.specs.Edges.{Edge, Loc, edgesOf, sameLoc}
-use Rattle.model.specs.Listings.{WritableLoc, explored, extend, locAt}
+use Rattle.model.specs.Edges.{Edge, Loc, edgesOf, failed, sameLoc}
+use Rattle.model.specs.Listings.{GoodLoc, WritableLoc, explored, extend, locAt}
+use Rattle.model.specs.Machine.{leak}
 use Rattle.model.specs.Notions.{Distinct, In}
-use Rattle.model.specs.Records.{locRecord, recordAt}
+use Rattle.model.specs.Records.{isAccepted, locRecord, recordAt}
 use Rattle.model.specs.Search.{Equal, TellsNewest, cutCount, equalAt, highestBelow, numberBelow, searched}
-use Rattle.model.specs.Translate.{places, tableOf}
+use Rattle.model.specs.Translate.{Listing, Routine, places, tableOf, translate}
+use Rattle.model.proofs.listings.Exact.{edge-below}
+use Rattle.model.proofs.listings.FullListing.{explored-good, explored-once}
+use Rattle.model.proofs.listings.Listing.{extend-all, extend-distinct}
+use Rattle.model.proofs.listings.Moves.{good-writable}
+use Rattle.model.proofs.listings.Outcomes.{fitting, records-distinct}
+use Rattle.model.proofs.listings.Reached.{good-edge}
 use Rattle.model.proofs.lists.Highest.{TellsHighest, highest-only, highest-tells}
-use Rattle.model.proofs.lists.Lists.{any-in, getD-in, getD-map}
+use Rattle.model.proofs.lists.Lists.{any-in, getD-in, getD-map, in-append-l}
 use Rattle.model.proofs.lists.Logic.{bool-case, bool-ext, clash, not-true}
 use Rattle.model.proofs.records.Bytes.{records-wide, table-length, table-record}
+use Rattle.model.proofs.records.Checked.{GoodStarts}
 use Rattle.model.proofs.records.ReadBack.{location-injective, record-length}
 use Rattle.model.proofs.shapes.Same.{bytes-same, distinct-at, loc-same, place-found, place-none, place-passes, same-bytes-refl, same-loc-refl}
 
@@ -124,3 +132,44 @@ module _ (ls : List Loc) (l : Loc) (a : ℕ) (t r : List ℕ) (once : Distinct l
       let e : length t ≡ a = ap length p ∙ table-length a (map locRecord ls) wide (omega arith) in
       let c : cutCount t (length ls) ≡ length ls = omega arith in
       ap (λ n. highestBelow n (equalAt t r)) c ∙ known-place
+
+-- ---- the locations known while a routine is explored
+
+-- once the first edges es of location i are added to the listing of those below it
+module _ (r : Routine) (G : GoodStarts r) (i : ℕ) (es later : List Edge)
+    (front : edgesOf (r .stmts) (locAt (explored (r .stmts) (r .starts) i .locs) i) ≡ es ++ later) where
+  abbrev t : Listing
+  t = explored (r .stmts) (r .starts) i
+
+  now-once : Distinct (extend i es t .locs)
+  now-once = extend-distinct i es t (explored-once r G i)
+
+  now-good : (l : Loc) → In l (extend i es t .locs) → GoodLoc l
+  now-good = extend-all GoodLoc i es t (explored-good r G i) (λ e h.
+      let ls = t .locs in
+      let k = subst (In e) (sym front) (in-append-l e es later h) in
+      let lt = edge-below (r .stmts) ls i e k in
+      good-edge (r .stmts) (locAt ls i) (explored-good r G i (locAt ls i) (getD-in ls (failed 0 leak) i lt)) e k .1)
+
+  pub now-searched : (l : Loc) → WritableLoc l → (a : ℕ) → length (extend i es t .locs) ≤ places 1024 a
+      → searched (tableOf a (map locRecord (extend i es t .locs))) (length (extend i es t .locs)) (locRecord l)
+      ≡ numberBelow (length (extend i es t .locs)) (placeOf (sameLoc l) (extend i es t .locs))
+  now-searched l L a =
+      let ls = extend i es t .locs in
+      known-searched ls l a (tableOf a (map locRecord ls)) (locRecord l) now-once
+      (λ m h. good-writable m (now-good m h)) L refl refl
+
+-- in the tables of an accepted translation each location's record is found at its number
+pub own-number : (s : List ℕ) (a b : ℕ) → translate s a b .verdict ≡ isAccepted → (i : ℕ)
+    → i < translate s a b .tables .locCount
+    → searched (translate s a b .tables .locBytes) (translate s a b .tables .locCount)
+    (recordAt (translate s a b .tables .locBytes) i) ≡ some i
+own-number s a b z i h =
+    let T = translate s a b .tables in
+    let F = fitting s a b in
+    let n = F .locMost in
+    let m : T .locCount ≤ places 1024 (length (T .locBytes)) = rw (F .locLength) n in
+    search-tells (T .locBytes) (T .locCount) (recordAt (T .locBytes) i) (some i) .1 (
+      record { counted = h; placed = omega arith; same = refl },
+      λ j E. let e = records-distinct s a b j i z (E .counted) h (E .same) in omega arith,
+    )
