@@ -13,23 +13,22 @@ pub fn search(table: &[u8], count: usize, record: &[u8]) -> Option<usize> {
 
 /// The highest number below the count that is right. Begins at the newest and
 /// works back, no further than needed.
-fn newest(count: usize, is_right: impl Fn(usize) -> bool) -> Option<usize> {
+fn newest(count: usize, mut is_right: impl FnMut(usize) -> bool) -> Option<usize> {
     (0..count).rev().find(|&number| is_right(number))
 }
 
 #[cfg(test)]
 mod tests {
     use super::*;
-    use std::cell::RefCell;
 
     /// Which numbers are looked at, in order, where these are right.
     fn looked_at(count: usize, right: &[usize]) -> (Option<usize>, Vec<usize>) {
-        let looked = RefCell::new(Vec::new());
+        let mut looked = Vec::new();
         let found = newest(count, |number| {
-            looked.borrow_mut().push(number);
+            looked.push(number);
             right.contains(&number)
         });
-        (found, looked.into_inner())
+        (found, looked)
     }
 
     #[test]
