@@ -39,7 +39,7 @@ pub fn draw(seed: u64) -> DrawnSearch {
     let equal = draw_numbers(random, count.min(places), whole);
     let mut table = Vec::new();
     for number in 0..whole {
-        table.extend(if equal.contains(&number) { wanted } else { other_record(random, &wanted) });
+        table.extend(if equal.binary_search(&number).is_ok() { wanted } else { other_record(random, &wanted) });
     }
     table.extend(draw_rest(random, &wanted));
     let across = if equal.is_empty() && random.chance(50) { put_across(random, &mut table, &wanted) } else { None };
