@@ -24,7 +24,7 @@ pub fn draw(seed: u64) -> DrawnSearch {
     let mut random = Random::new(seed);
     let random = &mut random;
     // All the places that the length has, also past the 1,024 that count.
-    let whole = match random.weighted(&[12, 10, 40, 10, 6, 6, 16]) {
+    let whole = match random.weighted(&[10, 10, 40, 8, 4, 6, 22]) {
         0 => 0,
         1 => 1,
         2 => random.between(2, 9),
@@ -34,7 +34,7 @@ pub fn draw(seed: u64) -> DrawnSearch {
         _ => random.between(LOCATIONS + 1, LOCATIONS + 9),
     };
     let places = whole.min(LOCATIONS);
-    let count = draw_count(random, places);
+    let count = draw_count(random, places, whole);
     let wanted = draw_record(random);
     let equal = draw_numbers(random, count.min(places), whole);
     let mut table = Vec::new();
@@ -51,13 +51,14 @@ pub fn draw(seed: u64) -> DrawnSearch {
     }
 }
 
-/// A count below the places, or all of them, or more than can be.
-fn draw_count(random: &mut Random, places: usize) -> usize {
-    match random.weighted(&[8, 30, 30, 12, 10]) {
+/// A count below the places, or all of them, or more than there are.
+fn draw_count(random: &mut Random, places: usize, whole: usize) -> usize {
+    match random.weighted(&[6, 28, 24, 12, 18, 12]) {
         0 => 0,
         1 => random.below(places + 1),
         2 => places,
         3 => places + random.between(1, 9),
+        4 => whole,
         // Times 32 the first two are 0 and 32, if only 64 bits are kept.
         _ => [usize::MAX / RECORD + 1, usize::MAX / RECORD + 2, usize::MAX, random.next() as usize | 1 << 62][random.below(4)],
     }
@@ -90,15 +91,15 @@ fn draw_numbers(random: &mut Random, limit: usize, whole: usize) -> Vec<usize> {
         let turns = if from < to { random.between(1, most) } else { 0 };
         (0..turns).map(|_| random.between(from, to - 1)).collect()
     };
-    let mut numbers = match random.below(11) {
-        0 | 1 => Vec::new(),
-        2 => some(random, 0, limit, 1),
-        3 => some(random, 0, limit, 5),
-        4 => some(random, 0, limit.min(1), 1),
-        5 => some(random, limit.saturating_sub(1), limit, 1),
-        6 => some(random, limit, whole.min(limit + 1), 1),
-        7 => some(random, limit, whole, 5),
-        8 | 9 => [some(random, 0, limit, 3), some(random, limit, whole, 3)].concat(),
+    let mut numbers = match random.weighted(&[4, 2, 2, 2, 3, 3, 3, 4, 2]) {
+        0 => Vec::new(),
+        1 => some(random, 0, limit, 1),
+        2 => some(random, 0, limit, 5),
+        3 => some(random, 0, limit.min(1), 1),
+        4 => some(random, limit.saturating_sub(1), limit, 1),
+        5 => some(random, limit, whole.min(limit + 1), 1),
+        6 => some(random, limit, whole, 5),
+        7 => [some(random, 0, limit, 3), some(random, limit, whole, 3)].concat(),
         _ => (0..whole).collect(),
     };
     numbers.sort();

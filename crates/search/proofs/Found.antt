@@ -1,14 +1,14 @@
 -- A search of a table from the newest record on, and what it finds in a table of distinct locations: the number of the
 -- known location.
-use Prim.Native.Nat.{ℕ, suc, _≤_, _<_}
-use mathlib.Core.Path.{_≡_, refl, sym, ap, _∙_}
-use mathlib.Core.Bool.{Bool, true, false, cond}
+use Prim.Native.Nat.{ℕ, suc, _≤_}
+use mathlib.Core.Path.{_≡_, ap, _∙_}
+use mathlib.Core.Bool.{Bool, true, false}
 use mathlib.Core.List.{List, map}
-use mathlib.Core.Option.{some}
+use mathlib.Core.Option.{Option, none, some}
 use native.Mathlib.Omega.{arith}
 use lib.Dec.{ltb}
 use lib.ListN.{length}
-use borrow.Author.Tests.{ltb-false}
+use borrow.Author.Tests.{le-ltb, lt-ltb, ltb-false}
 use Rattle.model.specs.Base.{placeOf}
 use Rattle.model.specs.Edges.{Loc, sameLoc}
 use Rattle.model.specs.Listings.{WritableLoc}
@@ -17,6 +17,7 @@ use Rattle.model.specs.Records.{locRecord}
 use Rattle.model.specs.Search.{equalAt, highestBelow, numberBelow}
 use Rattle.model.specs.Translate.{tableOf}
 use Rattle.model.proofs.listings.Searches.{known-place}
+use Rattle.model.proofs.lists.Highest.{TellsHighest, highest-tells}
 use Rattle.model.proofs.lists.Logic.{bool-case}
 use Rattle.model.proofs.shapes.Same.{place-le}
 use Rattle.search.specs.Search.{foundAt, numberOr}
@@ -39,6 +40,14 @@ found-end t r n i h = ap (foundBelow t r n) h
 -- a number that is at most n
 number-is : (n i : ℕ) → i ≤ n → numberOr n (numberBelow n i) ≡ i
 number-is n i h = bool-case (ltb i n) (λ e. rw e) (λ e. let k = ltb-false i n e in rw e (omega arith))
+
+-- the number as it is found tells whether there is one
+number-again : (n : ℕ) (p : ℕ → Bool) (o : Option ℕ) → TellsHighest n p o → numberBelow n (numberOr n o) ≡ o
+number-again n p (some i) h = rw (lt-ltb i n (h .0))
+number-again n p none h = rw (le-ltb n n (omega arith))
+
+pub found-tells : (t r : List ℕ) (n : ℕ) → numberBelow n (foundAt t r n) ≡ highestBelow n (equalAt t r)
+found-tells t r n = number-again n (equalAt t r) (highestBelow n (equalAt t r)) (highest-tells (equalAt t r) n)
 
 -- in a table of distinct locations, the record of a location is found at the location's number
 pub found-location : (ls : List Loc) (l : Loc) (n : ℕ) (t r : List ℕ) → Distinct ls

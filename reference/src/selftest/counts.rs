@@ -135,7 +135,8 @@ impl Counts {
     }
 
     /// How many tests of undefined pointers, relinks, drops, walks, broken
-    /// clauses and damaged H records are wanted at each place in each way.
+    /// clauses, damaged H records and searches are wanted at each place in each
+    /// way.
     pub fn floor(&self) -> u64 {
         1 + self.routines / EACH
     }

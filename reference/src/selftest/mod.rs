@@ -79,7 +79,7 @@ pub fn run(seed: u64, routines: u64) -> Result<Counts, String> {
     if let Some(missing) = counts.never_met() {
         return Err(format!("{counts}never met: {missing}"));
     }
-    let few: Vec<String> = [counts.too_few(), counts.searches.too_few(routines)].into_iter().flatten().collect();
+    let few: Vec<String> = [counts.too_few(), counts.searches.too_few(counts.floor())].into_iter().flatten().collect();
     if few.is_empty() {
         Ok(counts)
     } else {

@@ -7,9 +7,6 @@ use crate::translate::LOCATIONS;
 /// The searches that are drawn for each routine.
 pub const DRAWN: u64 = 5;
 
-/// One more of each way is wanted for each so many routines.
-const EACH: u64 = 20;
-
 /// A drawn search and what came of it.
 pub struct Searched<'a> {
     drawn: &'a DrawnSearch,
@@ -25,7 +22,7 @@ pub struct Searched<'a> {
 }
 
 impl Searched<'_> {
-    pub fn new(drawn: &DrawnSearch, answer: Option<usize>) -> Searched {
+    pub fn new(drawn: &DrawnSearch, answer: Option<usize>) -> Searched<'_> {
         let whole = drawn.table.len() / RECORD;
         let places = whole.min(LOCATIONS);
         let limit = drawn.count.min(places);
@@ -60,8 +57,10 @@ fn differs_at(one: &[u8], other: &[u8], at: usize) -> bool {
     one[..at] == other[..at] && one[at] != other[at] && one[at + 1..] == other[at + 1..]
 }
 
-/// The ways of drawn searches.
-pub const WAYS: [(&str, fn(&Searched) -> bool); 32] = [
+/// A way of drawn searches: its name, and whether it is met.
+type Way = (&'static str, fn(&Searched) -> bool);
+
+pub const WAYS: [Way; 32] = [
     ("table without bytes", |s| s.drawn.table.is_empty()),
     ("table shorter than a record", |s| s.whole == 0 && !s.rest().is_empty()),
     ("table with bytes past its last place", |s| s.whole > 0 && !s.rest().is_empty()),
@@ -125,9 +124,8 @@ impl SearchCounts {
         drawn.chain(listed).collect()
     }
 
-    /// The ways that came too seldom for so many routines, if there are any.
-    pub fn too_few(&self, routines: u64) -> Option<String> {
-        let floor = 1 + routines / EACH;
+    /// The ways that were met less often than this, if there are any.
+    pub fn too_few(&self, floor: u64) -> Option<String> {
         let few = self.ways().into_iter().filter(|&(_, count)| count < floor);
         let all: Vec<String> = few.map(|(name, count)| format!("{name} ({count} of {floor})")).collect();
         (!all.is_empty()).then(|| all.join(", "))

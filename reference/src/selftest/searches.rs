@@ -56,7 +56,7 @@ fn test_drawn(counts: &mut Counts, drawn: &DrawnSearch) -> Result<(), String> {
     let places = table.chunks_exact(RECORD).enumerate();
     let stands: Vec<usize> = places.filter(|(_, place)| place == record).map(|(number, _)| number).collect();
     want(stands == *equal, &format!("the record stands at {stands:?}"))?;
-    let is_across = |offset: usize| offset % RECORD != 0 && table[offset..].starts_with(record);
+    let is_across = |offset: usize| !offset.is_multiple_of(RECORD) && table[offset..].starts_with(record);
     want(across.is_none_or(is_across), "the record does not stand across two places")?;
     counts.searches.on_drawn += 1;
     counts.searches.found += u64::from(answer.is_some());
