@@ -16,10 +16,11 @@ fn equal(table: &[u8], count: usize, record: &[u8]) -> Vec<usize> {
 #[test]
 fn drawn_searches() {
     let (mut found, mut several, mut none, mut past) = (0, 0, 0, 0);
-    for DrawnSearch { table, count, record, equal: stands, .. } in (0..40_000).map(draw) {
+    for seed in 0..40_000 {
+        let DrawnSearch { table, count, record, equal: stands, .. } = draw(seed);
         let equal = equal(&table, count, &record);
-        assert_eq!(search(&table, count, &record), equal.last().copied(), "{record:?} below {count} in {table:?}");
-        assert!(stands.starts_with(&equal), "{equal:?} where it was put at {stands:?}");
+        assert_eq!(search(&table, count, &record), equal.last().copied(), "drawn from {seed}");
+        assert!(stands.starts_with(&equal), "{equal:?} where it was put at {stands:?}, drawn from {seed}");
         found += usize::from(!equal.is_empty());
         several += usize::from(equal.len() > 1);
         none += usize::from(equal.is_empty());

@@ -42,8 +42,7 @@ pub fn on_a_listing(counts: &mut Counts, full: &Full, shapes: usize, automaton: 
 
 /// A search on a table drawn by hand.
 pub fn on_a_drawn_table(counts: &mut Counts, seed: u64) -> Result<(), String> {
-    let drawn = draw(seed);
-    test_drawn(counts, &drawn).map_err(|difference| format!("{difference}, in {drawn:?}"))
+    test_drawn(counts, &draw(seed)).map_err(|difference| format!("{difference}, in the search drawn from {seed}"))
 }
 
 fn test_drawn(counts: &mut Counts, drawn: &DrawnSearch) -> Result<(), String> {
