@@ -6,12 +6,16 @@ use mathlib.Core.Option.{Option, none, some}
 use native.Mathlib.Omega.{arith}
 use borrow.Author.Tests.{eqb-false}
 use Rattle.model.specs.Search.{highestBelow}
-use Rattle.model.proofs.lists.Logic.{bool-case, clash, eq-case}
+use Rattle.model.proofs.lists.Logic.{eq-case}
 
 -- of the numbers below n, the highest that passes the test, or that none does
 abbrev pub TellsHighest : ℕ → (ℕ → Bool) → Option ℕ → Type 0
 TellsHighest n p (some i) = (i < n) × (p i ≡ true) × ((j : ℕ) → i < j → j < n → p j ≡ false)
 TellsHighest n p none = (j : ℕ) → j < n → p j ≡ false
+
+-- of two that pass it is the higher, as it is computed
+two-pass : highestBelow 2 (λ i. true) ≡ some 1
+two-pass = refl
 
 module _ (p : ℕ → Bool) where
   -- the numbers below n, and n itself, which does not pass
@@ -25,11 +29,15 @@ module _ (p : ℕ → Bool) where
         (λ q. let ne = eqb-false j n q in above j k (omega arith)),
   )
 
+  -- n itself where it passes, else what is told of those below
+  newest-first : (n : ℕ) (b : Bool) → p n ≡ b → (o : Option ℕ) → TellsHighest n p o
+      → TellsHighest (suc n) p (cond b (some n) o)
+  newest-first n true e o h = (omega arith, e, λ j k l. absurd (omega arith))
+  newest-first n false e o h = higher n e o h
+
   pub highest-tells : (n : ℕ) → TellsHighest n p (highestBelow n p)
   highest-tells zero = λ j lt. absurd (omega arith)
-  highest-tells (suc n) = bool-case (p n)
-      (λ e. rw e (omega arith, e, λ j k l. absurd (omega arith)))
-      (λ e. rw e (higher n e (highestBelow n p) (highest-tells n)))
+  highest-tells (suc n) = newest-first n (p n) refl (highestBelow n p) (highest-tells n)
 
   pub highest-only : (n : ℕ) (o : Option ℕ) → TellsHighest n p o → highestBelow n p ≡ o
   highest-only zero none h = refl
