@@ -1,9 +1,9 @@
 // The calls for Rust and C: a slice passes as a pointer and a length. Answers are written over the start of the lent
 // slices, as far as these reach. Each call answers the refusal's number, 0 for none, and writes its place; of a move
-// and a walk, which advance a struct that is lent, it is always 0 and not written. A search refuses nothing, and answers
-// whether there is such a record. What a call writes must not overlap
-// with anything else that is lent to it: the contracts are about slices that are apart. The calls are declared in
-// `bindings/` and `include/currantplane.h`, which `tests/declarations` compares with this file.
+// and a walk, which advance a struct that is lent, it is always 0 and not written. A search refuses nothing, and
+// answers whether there is such a record. What a call writes must not overlap with anything else that is lent to it:
+// the contracts are about slices that are apart. The calls are declared in `bindings/` and `include/currantplane.h`,
+// which `tests/declarations` compares with this file.
 use answers::lay;
 use answers::lay_counters;
 use answers::step_ended;
