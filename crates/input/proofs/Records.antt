@@ -4,14 +4,14 @@ use native.Mathlib.Nat.{add-zero}
 use native.Mathlib.Numerals.{add-one}
 use native.Mathlib.Omega.{arith}
 use mathlib.Core.Path.{_≡_, refl, sym, ap, ap₂, _∙_}
-use mathlib.Core.Bool.{Bool, true, false, cond, _||_}
+use mathlib.Core.Bool.{Bool, true, false, cond}
 use mathlib.Core.Option.{none, some}
-use mathlib.Core.List.{List, [], _∷_, _++_}
+use mathlib.Core.List.{List, [], _∷_}
 use lib.Dec.{eqb, ltb}
 use lib.ListN.{length, getD, take, drop, drop-of-length-le, length-drop}
 use lib.Seq.{drop-cons, drop-drop, getD-drop, getD-take, length-take-le}
 use borrow.Author.Tests.{le-ltb, lt-ltb}
-use Rattle.model.specs.Base.{any, count, numbers, sameList}
+use Rattle.model.specs.Base.{any, count, sameList}
 use Rattle.model.specs.Records.{byte, checksRecord, firstFailed, isH, isS, recordAt, refusalAt}
 use Rattle.model.specs.Search.{equalAt}
 use Rattle.model.specs.Structs.{Tells}
@@ -20,8 +20,7 @@ use Rattle.model.specs.Translate.{badKind, badRecord, chunks}
 use Rattle.model.proofs.lists.Sorted.{kinds-sorted}
 use Rattle.model.specs.Listings.{recordsOf}
 use Rattle.model.proofs.lists.Logic.{bool-case, bool-ext, clash, or-l}
-use Rattle.model.proofs.lists.Numbers.{length-numbers, numbers-snoc}
-use Rattle.model.proofs.shapes.Same.{bytes-same, place-test, same-bytes-refl}
+use Rattle.model.proofs.shapes.Same.{bytes-same, same-bytes-refl}
 use Rattle.search.specs.Search.{foundAt}
 use Rattle.search.proofs.Found.{foundBelow}
 use Rattle.input.specs.RecordChecks.{kindFits, earlier, recordChecks}

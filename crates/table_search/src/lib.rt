@@ -1,7 +1,6 @@
 // The search for a record called by itself, on any table, count and record.
 use model::Found;
 ghost use mathlib.Core.Path.{_≡_};
-ghost use lib.ListN.{length};
 ghost use Rattle.model.specs.Answers.{foundOf};
 ghost use Rattle.model.specs.Search.{cutCount, numberBelow, searched};
 

@@ -1,5 +1,4 @@
 -- `table_search::search_table` meets its contract: the search among the records that the cut count leaves.
-use Prim.Native.Nat.{_*_, _≤_}
 use mathlib.Core.Path.{_≡_, sym, ap, _∙_}
 use native.Mathlib.Omega.{arith}
 use borrow.Author.Needs.{needs}
