@@ -1,6 +1,6 @@
-/* The controller bench: translates routines into tables for 128 locations and 256 edges and walks in these, folds and
- * unfolds heaps, and steps them. All that it answers comes from the library; it decides only what it can read. Nothing
- * is allocated. */
+/* The controller bench: translates routines into tables for 128 locations and 256 edges, searches these and walks in
+ * them, folds and unfolds heaps, and steps them. All that it answers comes from the library; it decides only what it
+ * can read. Nothing is allocated. */
 #include "bench.h"
 #include "digits.h"
 
@@ -13,6 +13,7 @@ static struct bench bench;
 
 static const char usage[] =
     "usage: bench translate [FILE]                       the listing of a routine in records, or its refusal\n"
+    "       bench search FILE RECORD                     which location of the listing has this record, or none\n"
     "       bench walk FILE LOCATION COUNTERS [PATH]     a walk along edges of the listing, from a location with\n"
     "                                                    these counters: moves made, location and counters then\n"
     "       bench move FILE LOCATION COUNTERS [PATH]     the same edges in single moves, with each configuration\n"
@@ -24,11 +25,11 @@ static const char usage[] =
     "       bench size FILE..                            code, data, and the deepest stack over these routines\n"
     "\n"
     "FILE holds records of 32 bytes; without it, or as -, it is standard input; 4,096 bytes are read of it.\n"
-    "POINTERS, CELLS, SHAPE and STATEMENT are hex digits, two for a byte, - for none: six pointers; a byte for\n"
-    "each cell, the next cell's number, fe null, ff undefined, fd for a cell that is not in use; records of 32\n"
-    "bytes. COUNTERS, PATH and PICKS are numbers with commas between; counters that are left out are 0. A refusal\n"
-    "is printed as 'refused', its number and its place, and for 9, 18 and 19 the node. Exit status: 0 for an\n"
-    "answer, a refusal too; 2 for bad use.\n";
+    "POINTERS, CELLS, SHAPE, STATEMENT and RECORD are hex digits, two for a byte, - for none: six pointers; a\n"
+    "byte for each cell, the next cell's number, fe null, ff undefined, fd for a cell that is not in use; records\n"
+    "of 32 bytes. COUNTERS, PATH and PICKS are numbers with commas between; counters that are left out are 0. A\n"
+    "refusal is printed as 'refused', its number and its place, and for 9, 18 and 19 the node. Exit status: 0 for\n"
+    "an answer, a refusal too; 2 for bad use.\n";
 
 static int bad_use(const char *what)
 {
@@ -89,6 +90,25 @@ static int translate_command(int count, char **words)
     if (refusal != CURRANTPLANE_ACCEPTED) return print_translation_refusal(&bench, refusal);
     print_table(&bench, CURRANTPLANE_LOCATIONS);
     print_table(&bench, CURRANTPLANE_EDGES);
+    return 0;
+}
+
+uint8_t search(const struct bench *b, const uint8_t *record, size_t length, size_t *number)
+{
+    return currantplane_search(b->locations, sizeof b->locations, b->answer[CURRANTPLANE_LOCATION_COUNT], record,
+                               length, number);
+}
+
+static int search_command(int count, char **words)
+{
+    uint8_t record[CURRANTPLANE_RECORD];
+    size_t length = count == 2 ? read_digits(words[1], record, sizeof record) : SIZE_MAX, number;
+    if (length == SIZE_MAX) return bad_use("search takes a file and a record of 32 bytes");
+    if (!read_routine(&bench, words[0])) return bad_use("the routine cannot be read");
+    uint8_t refusal = translate(&bench);
+    if (refusal != CURRANTPLANE_ACCEPTED) return print_translation_refusal(&bench, refusal);
+    if (search(&bench, record, length, &number) == CURRANTPLANE_FOUND) printf("found %zu\n", number);
+    else puts("none");
     return 0;
 }
 
@@ -326,9 +346,9 @@ int main(int count, char **words)
     static const struct {
         const char *name;
         int (*command)(int, char **);
-    } commands[] = {{"translate", translate_command}, {"walk", walk_command},     {"move", move_command},
-                    {"fold", fold_command},           {"unfold", unfold_command}, {"step", step_command},
-                    {"run", run_command},             {"size", size_command}};
+    } commands[] = {{"translate", translate_command}, {"search", search_command}, {"walk", walk_command},
+                    {"move", move_command},           {"fold", fold_command},     {"unfold", unfold_command},
+                    {"step", step_command},           {"run", run_command},       {"size", size_command}};
     if (count < 2) return bad_use("it is told what to do by a word");
     for (size_t i = 0; i < sizeof commands / sizeof commands[0]; i++)
         if (strcmp(words[1], commands[i].name) == 0) return commands[i].command(count - 2, words + 2);

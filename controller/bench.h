@@ -34,6 +34,9 @@ int read_routine(struct bench *bench, const char *name);
 /* Translates it into the bench's tables; the refusal's number. */
 uint8_t translate(struct bench *bench);
 
+/* Looks for a record among the locations of the listing: whether there is one, and its number. */
+uint8_t search(const struct bench *bench, const uint8_t *record, size_t length, size_t *number);
+
 /* Advances the configuration along one edge of the listing; the refusal's number. */
 uint8_t move(struct bench *bench, size_t number);
 

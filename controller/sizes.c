@@ -10,14 +10,14 @@
 #error "controller/build measures code and data and gives them"
 #endif
 
-enum { TRANSLATE, RECORD, FOLD, UNFOLD, STEP, MOVE, WALK, CALLS };
-static const char *const names_of[CALLS] = {"translate", "record", "fold", "unfold", "step", "move", "walk"};
+enum { TRANSLATE, RECORD, SEARCH, FOLD, UNFOLD, STEP, MOVE, WALK, CALLS };
+static const char *const names_of[CALLS] = {"translate", "record", "search", "fold", "unfold", "step", "move", "walk"};
 
 /* a call with all that it is given */
 struct measured {
     struct bench *bench;
     struct heap heap;
-    const uint8_t *statement;
+    const uint8_t *statement, *sought; /* a record that is looked for */
     uint8_t shape[CURRANTPLANE_RECORD];
     uint32_t counters[CURRANTPLANE_MOST_NODES];
     size_t number; /* of an edge */
@@ -39,6 +39,13 @@ static void call_record(void *m)
     currantplane_record(b->locations, sizeof b->locations, b->edges, sizeof b->edges,
                         b->answer[CURRANTPLANE_LOCATION_COUNT], b->answer[CURRANTPLANE_EDGE_COUNT], CURRANTPLANE_EDGES,
                         0, part, CURRANTPLANE_RECORD_ANSWER);
+}
+
+static void call_search(void *m)
+{
+    struct measured *c = m;
+    size_t number;
+    search(c->bench, c->sought, CURRANTPLANE_RECORD, &number);
 }
 
 static void call_fold(void *m)
@@ -104,6 +111,15 @@ static void measure_moves(struct measured *m, size_t number, uint32_t counter)
     }
 }
 
+/* the location is looked for, and the routine's first record, which is no location */
+static void measure_search(struct measured *m, const uint8_t *location)
+{
+    m->sought = location;
+    call_on(&stacks[SEARCH], call_search, m);
+    m->sought = m->bench->input;
+    call_on(&stacks[SEARCH], call_search, m);
+}
+
 /* a heap of the location's shape, with segments of so many cells, is unfolded, folded and stepped */
 static void measure_heap(struct measured *m, const uint8_t *location, uint32_t cells)
 {
@@ -124,6 +140,7 @@ static void measure_routine(struct measured *m)
     m->routines++;
     for (size_t i = 0; i < m->bench->answer[CURRANTPLANE_LOCATION_COUNT]; i++) {
         const uint8_t *location = currantplane_at(m->bench->locations, i);
+        measure_search(m, location);
         if (currantplane_fault(location) != CURRANTPLANE_NO_FAULT) continue;
         measure_heap(m, location, 1);
         measure_heap(m, location, 16);

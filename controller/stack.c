@@ -41,5 +41,6 @@ size_t stack_used(const struct stack *stack)
     size_t at = 0;
     if (!stack->top) return 0;
     while (at < sizeof stack->room && stack->room[at] == paint(at)) at++;
+    at -= at % sizeof(void *); /* words are written, and the first bytes of one may be like the paint */
     return (size_t)(stack->top - (stack->room + at));
 }

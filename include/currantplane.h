@@ -7,15 +7,16 @@
  * answers and every byte that it writes is proved, for every input. What a caller owes:
  *   - A pointer with a length points to so many bytes, or to so many numbers, aligned as their type asks. With
  *     length 0 it may be null. Bytes may stand at any address.
- *   - A pointer without a length (`place`, `node`, `made`, `configuration`) points to one of what its type says,
- *     aligned as that asks, and is not null.
+ *   - A pointer without a length (`place`, `node`, `number`, `made`, `configuration`) points to one of what its type
+ *     says, aligned as that asks, and is not null.
  *   - Nothing that a call writes overlaps with anything else that it is given. What is only read may overlap.
  * Nothing is kept after a call, nothing is allocated and nothing is locked: there is no state between calls, and
  * calls that write to buffers of their own may run at the same time. No call was seen to use 1 KB of stack.
  *
  * Each call answers the number of the refusal, 0 for none (enum currantplane_refusal), and tells its place, 0 where
  * nothing is refused; move and walk do not tell it, since it is always 0. Refusals 9, 18 and 19 are about a node of a
- * shape: translate and unfold tell its number, 0 to 11, and 0 with every other refusal and with none.
+ * shape: translate and unfold tell its number, 0 to 11, and 0 with every other refusal and with none. Only search,
+ * which refuses nothing, answers otherwise: whether there is such a record (enum currantplane_search_answer).
  */
 #ifndef CURRANTPLANE_H
 #define CURRANTPLANE_H
@@ -177,6 +178,22 @@ uint8_t currantplane_record(const uint8_t *locations, size_t locations_length,
 /* Which table is meant, and the places of the numbers in the answer, after CURRANTPLANE_PLACE. */
 enum { CURRANTPLANE_LOCATIONS = 0, CURRANTPLANE_EDGES = 1 };
 enum { CURRANTPLANE_BEGINS = 1, CURRANTPLANE_LENGTH = 2 };
+
+/* Looks for a record among the first records of a table, from the newest back. It refuses nothing.
+ *
+ * table    the table; of its bytes nothing is asked, and it may hold a record many times
+ * count    how many records are in use; a count above the table's places (length / 32, rounded down, at most 1,024) is
+ *          cut to them
+ * record   the record that is looked for; one that is not 32 bytes long is equal to none
+ * number   the highest number below the count whose record is equal, byte for byte; 0 where there is none
+ *
+ * Answers 1 where there is such a record, and 0 where there is none. `number` is always written. In the tables of an
+ * accepted translation each location is found at its own number, since no two are equal. */
+uint8_t currantplane_search(const uint8_t *table, size_t table_length, size_t count,
+                            const uint8_t *record, size_t record_length, size_t *number);
+
+/* the answer of a search */
+enum currantplane_search_answer { CURRANTPLANE_NOT_FOUND = 0, CURRANTPLANE_FOUND = 1 };
 
 /* Folds a heap: its shape as an H record, and the number of cells of each segment.
  *

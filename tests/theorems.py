@@ -17,9 +17,10 @@ use Rattle.model.specs.Records.{Refusal, isAccepted, isRefused, recordAt, locRe
 use Rattle.model.specs.Translate.{Tables, Outcome, Explored, full, listed, linkRecord, routineOf, check, listing, translate}
 use Rattle.model.specs.Image.{Folding, Unfolding, Stepping, foldImage, unfoldImage, stepImage, stepVerdict}
 use Rattle.model.specs.Part.{partBytes, recordPart}
-use Rattle.model.specs.Answers.{refusalOf, stepNumbers}
+use Rattle.model.specs.Answers.{foundNumbers, refusalOf, stepNumbers}
 use Rattle.model.specs.Bench.{endsIn, firstUnplaced, translateFull}
 use Rattle.model.specs.Layout.{keepsLayout}
+use Rattle.model.specs.Search.{searched}
 use Rattle.model.specs.Walking.{moved, walked}
 use Rattle.model.specs.declared.Configuration.{Configuration}
 
@@ -63,6 +64,10 @@ shown ls es l e mark n =
     let t : Tables = record { locBytes = ls; edgeBytes = es; locCount = l; edgeCount = e } in
     let p = recordPart t mark n in
     (ending (refusalOf (p .verdict)) ++ p .begins ∷ p .size ∷ []) ∷ partBytes t mark n ∷ []
+
+-- a search: 1 and the number, or 0 and 0
+abbrev searchedIn : List ℕ → ℕ → List ℕ → List (List ℕ)
+searchedIn t n r = let found = foundNumbers (searched t n r) in (found .0 ∷ found .1 ∷ []) ∷ []
 
 -- whether tables keep the layout
 abbrev layoutOf : List ℕ → List ℕ → ℕ → ℕ → List (List ℕ)
@@ -137,7 +142,7 @@ def step_call(record, pick, cell, ps, cs):
 def theorem(number, group):
     """That each case of a group, a name, a call and the answer that is expected, has this answer."""
     same = ' && '.join('sameList (sameList eqb) (%s) (%s)' % case[1:] for case in group)
-    shut = 'check listing translate foldImage unfoldImage stepImage recordPart keepsLayout moved walked'
+    shut = 'check listing translate foldImage unfoldImage stepImage recordPart searched keepsLayout moved walked'
     return '-- %s\nc%d : %s ≡ true\nunfolding %s\nc%d = refl\n\n' % (group[0][0], number, same, shut, number)
 
 

@@ -65,6 +65,14 @@ mod raw {
             answer: *mut usize,
             answer_len: usize,
         ) -> u8;
+        pub fn currantplane_search(
+            table: *const u8,
+            table_len: usize,
+            count: usize,
+            record: *const u8,
+            record_len: usize,
+            number: *mut usize,
+        ) -> u8;
         pub fn currantplane_move(
             configuration: *mut super::Configuration,
             locations: *const u8,
@@ -215,6 +223,15 @@ pub fn record<'a>(locations: &'a [u8], edges: &'a [u8], counts: [usize; 2], tabl
     let [place, begins, length] = answer;
     let meant = if table == LOCATIONS { locations } else { edges };
     (Refusal::at(refusal, place), &meant[begins..begins + length])
+}
+
+/// The highest number below `count` whose record in the table is equal to `record`, or none. A count above the table's places (its
+/// length / 32, at most 1,024) is cut to them, and a record that is not 32 bytes long is equal to none.
+pub fn search(table: &[u8], count: usize, record: &[u8]) -> Option<usize> {
+    let mut number = usize::MAX;
+    let found =
+        unsafe { raw::currantplane_search(table.as_ptr(), table.len(), count, record.as_ptr(), record.len(), &mut number) };
+    (found == 1).then_some(number)
 }
 
 /// A configuration of the automaton: a location's number and twelve counters, 0 past the location's nodes.

@@ -1,5 +1,6 @@
 //! The words of the command line.
 
+use crate::record::{from_hex, Record};
 use crate::source::{bytes, Failure};
 use std::str::FromStr;
 
@@ -98,11 +99,7 @@ impl Arguments {
         if self.value(name) != Some("-") {
             return self.numbers(name);
         }
-        if self.file == "-" {
-            return Err(wrong(&self.command, format!("FILE and {name} cannot both be standard input")));
-        }
-        let input = bytes("-")?;
-        let words = String::from_utf8_lossy(&input);
+        let words = self.input(name)?;
         self.read_numbers(name, words.split(|c: char| c == ',' || c.is_whitespace()).filter(|word| !word.is_empty()))
     }
 
@@ -115,6 +112,20 @@ impl Arguments {
             })
         };
         words.map(read).collect()
+    }
+
+    /// The record that a word gives in hex digits, or for `-` standard input; white space may stand around them.
+    pub fn record_or_input(&self, name: &str, word: &str) -> Result<Record, Failure> {
+        let digits = if word == "-" { self.input(name)? } else { word.into() };
+        from_hex(digits.trim()).map_err(|why| wrong(&self.command, format!("{name} is 64 hex digits, and {why}")))
+    }
+
+    /// Standard input for what has this name, where it is not the FILE.
+    fn input(&self, name: &str) -> Result<String, Failure> {
+        if self.file == "-" {
+            return Err(wrong(&self.command, format!("FILE and {name} cannot both be standard input")));
+        }
+        Ok(String::from_utf8_lossy(&bytes("-")?).into_owned())
     }
 
     /// At most one of these may be given.

@@ -3,6 +3,7 @@
 use crate::arguments::{wrong, Arguments};
 use crate::automaton::{check, tables, Places, Refusal, ALL_PLACES, MOST_EDGES, MOST_LOCATIONS};
 use crate::bench;
+use crate::find::Find;
 use crate::graph;
 use crate::help;
 use crate::listing::Listing;
@@ -56,6 +57,7 @@ pub fn perform(words: &[String], screen: Screen) -> Result<Done, Failure> {
         "run" => run(rest, screen),
         "walk" => walk(rest, screen),
         "show" => show(rest, screen),
+        "find" => find(rest, screen),
         _ => Err(Failure::bad_use(format!("there is no command `{command}`\n{}", help::usage().trim_end()))),
     }
 }
@@ -169,12 +171,7 @@ fn walk(words: &[String], screen: Screen) -> Result<Done, Failure> {
         shape: given.number("--shape", 0, 15)?,
         edges: given.numbers_or_input("--edges")?,
     };
-    let source = Source::open(&given.file)?;
-    let refused = |r: Refusal| refusal::failure(r, &source, ALL_PLACES);
-    let automaton = source.automaton(ALL_PLACES).map_err(refused)?;
-    let routine = source.routine().map_err(refused)?;
-    let listing = Listing { source: &source, routine: &routine, automaton: &automaton, style: screen.style };
-    let went = Walk { listing }.go(&options)?;
+    let went = listed(&given.file, screen, |listing| Walk { listing }.go(&options))?;
     let fine = went.walked.refusal == 0 && went.agreed;
     Ok(Done { output: went.text.into_bytes(), file: None, status: if fine { 0 } else { REFUSED } })
 }
@@ -184,10 +181,21 @@ fn show(words: &[String], screen: Screen) -> Result<Done, Failure> {
     let [kind, number] = [&given.words[0], &given.words[1]];
     let kind = Kind::of(kind).ok_or_else(|| wrong("show", format!("`location` or `edge` is needed, not `{kind}`")))?;
     let number = number.parse().map_err(|_| wrong("show", format!("NUMBER is a number from 0 on, not `{number}`")))?;
-    let source = Source::open(&given.file)?;
+    Ok(Done::printed(listed(&given.file, screen, |listing| Show { listing }.record(kind, number))?))
+}
+
+fn find(words: &[String], screen: Screen) -> Result<Done, Failure> {
+    let given = Arguments::read_words("find", words, &[], &["RECORD"])?;
+    let record = given.record_or_input("RECORD", &given.words[0])?;
+    let found = listed(&given.file, screen, |listing| Find { show: Show { listing } }.record(&record))?;
+    Ok(Done { output: found.text.into_bytes(), file: None, status: if found.number.is_some() { 0 } else { REFUSED } })
+}
+
+/// What is made of the listing of a file's routine, if that is accepted.
+fn listed<T>(file: &str, screen: Screen, make: impl FnOnce(Listing) -> Result<T, Failure>) -> Result<T, Failure> {
+    let source = Source::open(file)?;
     let refused = |r: Refusal| refusal::failure(r, &source, ALL_PLACES);
     let automaton = source.automaton(ALL_PLACES).map_err(refused)?;
     let routine = source.routine().map_err(refused)?;
-    let listing = Listing { source: &source, routine: &routine, automaton: &automaton, style: screen.style };
-    Ok(Done::printed(Show { listing }.record(kind, number)?))
+    make(Listing { source: &source, routine: &routine, automaton: &automaton, style: screen.style })
 }

@@ -1,8 +1,9 @@
 //! Help texts.
 
 const PROVED: &str = "\
-What is proved: every translation, in `show` the record, in `run` every unfolded heap, plain step
-and folded shape, and in `run` and `walk` every move, comes from the proved library.
+What is proved: every translation, in `show` the record, in `find` the number, in `run` every
+unfolded heap, plain step and folded shape, and in `run` and `walk` every move, comes from the
+proved library.
 What is not proved: this tool, which reads text, chooses the edges in `run`, and prints.
 ";
 
@@ -14,6 +15,7 @@ currantplane: translates list routines into counter automata, for people
                                   the same, and whether it fits the tables of the controller bench
   currantplane show FILE location 17
                                   one location or edge, by its number, in hex and in words
+  currantplane find FILE RECORD   the location that has a record, given in hex
   currantplane run FILE           the routine on a heap and the automaton beside it, step by step
   currantplane walk FILE          the automaton by itself, along edges by their numbers
   currantplane assemble FILE      a text to records
@@ -23,9 +25,9 @@ currantplane: translates list routines into counter automata, for people
 FILE is a routine as text (docs/TEXT.md has the grammar) or as records; `-` is standard input. A
 file that is empty, holds a zero byte or is not UTF-8 is taken as records.
 
-Exit status: 0 accepted; 1 refused, or a mismatch in `run`; 2 bad use or bad text. With 2, and where
-records or a picture were refused, nothing is written. Colours only on a terminal, and not where
-NO_COLOR is set.
+Exit status: 0 accepted; 1 refused, a mismatch in `run`, or no location found by `find`; 2 bad use
+or bad text. With 2, and where records or a picture were refused, nothing is written. Colours only
+on a terminal, and not where NO_COLOR is set.
 ";
 
 const TRANSLATE: &str = "\
@@ -61,6 +63,17 @@ Prints one record of the automaton: in hex, as it stands in its table, and in wo
 shown with the edges that leave it, an edge with the locations at its ends and, where it has a
 second guard, with the bits of byte 1. Numbers are those of the listing, from 0; one that is not in
 use is refused (17), with the numbers that are.
+";
+
+const FIND: &str = "\
+currantplane find FILE RECORD
+
+Says which location of the automaton has a record, and prints it as `show` does. RECORD is 64 hex
+digits, as `translate --hex` prints them, in lower or upper case; `-` reads them from standard
+input. All 32 bytes are compared, and no two locations have the same, so there is one or none.
+Records of locations begin with 4c.
+
+Where no location has the record, this is said, and the exit status is 1.
 ";
 
 const RUN: &str = "\
@@ -118,6 +131,7 @@ pub fn of(command: Option<&str>) -> Option<String> {
         None | Some("help") => TOP,
         Some("translate") => TRANSLATE,
         Some("show") => SHOW,
+        Some("find") => FIND,
         Some("run") => RUN,
         Some("walk") => WALK,
         Some("assemble") => ASSEMBLE,
@@ -129,5 +143,5 @@ pub fn of(command: Option<&str>) -> Option<String> {
 
 /// For a wrong use.
 pub fn usage() -> String {
-    "usage: currantplane translate|show|run|walk|assemble|disassemble FILE [OPTIONS]\nTry `currantplane help`.\n".into()
+    "usage: currantplane translate|show|find|run|walk|assemble|disassemble FILE [OPTIONS]\nTry `currantplane help`.\n".into()
 }

@@ -1,4 +1,4 @@
-//! The command-line tool over the proved library. What is translated, folded, unfolded, stepped and moved is so by proved
+//! The command-line tool over the proved library. What is translated, found, folded, unfolded, stepped and moved is so by proved
 //! code. What stands here is not proved: reading text and printing, choosing the automaton's edge beside a step of a run, and
 //! saying of a refused shape or move what is wrong with it.
 
@@ -8,6 +8,7 @@ pub mod bench;
 pub mod chains;
 pub mod commands;
 pub mod drawing;
+pub mod find;
 pub mod graph;
 pub mod help;
 pub mod listing;

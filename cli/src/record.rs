@@ -8,6 +8,20 @@ pub const NODES: usize = 12;
 
 pub type Record = [u8; SIZE];
 
+/// A record from its hex digits, or what is wrong with them.
+pub fn from_hex(digits: &str) -> Result<Record, String> {
+    let value = |(at, c): (usize, char)| match c.to_digit(16) {
+        // below 16
+        Some(value) => Ok(value as u8),
+        None => Err(format!("character {}, `{}`, is none", at + 1, c.escape_debug())),
+    };
+    let values: Vec<u8> = digits.chars().enumerate().map(value).collect::<Result<_, _>>()?;
+    if values.len() != 2 * SIZE {
+        return Err(format!("there are {}", values.len()));
+    }
+    Ok(std::array::from_fn(|at| 16 * values[2 * at] + values[2 * at + 1]))
+}
+
 /// The statements, in the order of their numbers.
 #[derive(Clone, Copy, PartialEq, Eq, Debug)]
 pub enum Op {

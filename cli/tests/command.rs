@@ -21,7 +21,7 @@ fn exit_statuses() {
     assert_eq!(status(&["disassemble", "-"], &[0; 32]), 1);
     assert_eq!(status(&["translate", "examples/leak.txt", "--locations", "1024", "--edges=2048"], b""), 0);
     assert_eq!(status(&["translate", "--bench", "examples/leak.txt"], b""), 0);
-    let wrong: [&[&str]; 25] = [
+    let wrong: [&[&str]; 31] = [
         &[],
         &["translat", "-"],
         &["translate"],
@@ -46,6 +46,12 @@ fn exit_statuses() {
         &["show", "examples/reverse.txt", "statement", "1"],
         &["show", "examples/reverse.txt", "edge", "one"],
         &["show", "examples/reverse.txt", "edge", "-1"],
+        &["find", "examples/reverse.txt"],
+        &["find", "examples/reverse.txt", "4c", "00"],
+        &["find", "examples/reverse.txt", "location"],
+        &["find", "examples/reverse.txt", "4c", "--hex"],
+        &["find", "examples/reverse.txt", "-4c"],
+        &["find", "-", "-"],
         &["help", "me"],
     ];
     for words in wrong {
@@ -68,6 +74,8 @@ fn help_says_what_is_proved() {
         vec!["disassemble", "-h"],
         vec!["help", "show"],
         vec!["help", "walk"],
+        vec!["help", "find"],
+        vec!["find", "-h"],
     ] {
         let done = tool(&words, b"");
         let said = text(&done.stdout);
@@ -87,6 +95,9 @@ fn help_says_what_is_proved() {
         assert!(text(&printed(&["walk", "-h"], b"")).contains(option));
     }
     assert!(text(&printed(&["help"], b"")).contains("  currantplane walk FILE  "));
+    assert!(text(&printed(&["help"], b"")).contains("  currantplane find FILE RECORD  "));
+    assert!(text(&printed(&["help", "find"], b"")).starts_with("currantplane find FILE RECORD\n"));
+    assert!(text(&tool(&[], b"").stderr).contains("translate|show|find|run|walk|assemble|disassemble FILE"));
     assert!(text(&printed(&["help", "translate"], b"")).contains("The edge of a `drop` has no guard;"));
     assert!(text(&printed(&["help", "run"], b"")).contains("`drop` says how many cells went"));
 }
@@ -129,10 +140,12 @@ fn text_and_records_give_the_same() {
 
 #[test]
 fn no_colours_without_a_terminal() {
+    let record = text(&printed(&["translate", "examples/leak.txt", "--hex"], b""));
     for words in [
         vec!["translate", "examples/leak.txt"],
         vec!["run", "examples/leak.txt", "--heap", "2"],
         vec!["walk", "examples/leak.txt", "--heap", "2", "--edges", "0"],
+        vec!["find", "examples/leak.txt", &record[..64]],
     ] {
         assert!(!printed(&words, b"").contains(&0x1b));
     }

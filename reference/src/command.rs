@@ -8,6 +8,7 @@ use crate::help;
 use crate::part::record_part;
 use crate::records::{hex, NULL, RECORD, UNUSED};
 use crate::refusal::Refusal;
+use crate::search::search;
 use crate::selftest;
 use crate::text::{write_counters, write_record, write_values, Lines};
 use crate::translate::{translate, EDGES, LOCATIONS};
@@ -71,8 +72,10 @@ fn dispatch(words: &[String], input: &mut dyn Read) -> Result<Answer, String> {
         ["step"] => run_step(&read_all(input)?),
         ["record"] => run_record(&read_all(input)?),
         ["walk"] => run_walk(&read_all(input)?),
+        ["search"] => run_search(&read_all(input)?),
         ["selftest", ..] => run_selftest(&words[1..]),
-        ["translate", "--bench", word, ..] | ["translate" | "fold" | "unfold" | "step" | "record" | "walk", word, ..] => {
+        ["translate", "--bench", word, ..]
+        | ["translate" | "fold" | "unfold" | "step" | "record" | "walk" | "search", word, ..] => {
             Err(format!("'{word}' is not expected; see 'reference {} --help'", words[0]))
         }
         [command, ..] => Err(format!("no command '{command}'; see 'reference --help'")),
@@ -87,6 +90,7 @@ fn help_of(command: &str) -> Result<Answer, String> {
         "step" => help::STEP.to_string() + help::TEXT,
         "record" => help::RECORD.to_string(),
         "walk" => help::WALK.to_string(),
+        "search" => help::SEARCH.to_string(),
         "selftest" => help::SELFTEST.to_string(),
         _ => return Err(format!("no command '{command}'; see 'reference --help'")),
     };
@@ -199,7 +203,18 @@ fn run_walk(input: &[u8]) -> Result<Answer, String> {
     }
 }
 
-/// A number that no size can hold is refused like the largest size.
+fn run_search(input: &[u8]) -> Result<Answer, String> {
+    let lines = Lines::read(input, &["locations", "count", "record"])?;
+    let locations = lines.table("locations")?;
+    let count = as_size(lines.number("count")?);
+    // A record has any length, also none.
+    match search(&locations, count, &lines.table("record")?) {
+        Some(number) => result(format!("found {number}\n")),
+        None => result("none\n".to_string()),
+    }
+}
+
+/// A number that no size can hold is taken for the largest size.
 fn as_size(number: u64) -> usize {
     usize::try_from(number).unwrap_or(usize::MAX)
 }

@@ -12,11 +12,12 @@ commands:
   step        one statement of the plain machine on a heap
   record      one record out of the tables of locations and edges
   walk        moves along edges of the tables, from a location with counters
+  search      the newest of the locations with a record
   selftest    random tests of all of the above
 
 reference COMMAND --help tells more of a command.
 
-The first six read standard input. Exit status: 0 for a result, 1 for a
+The first seven read standard input. Exit status: 0 for a result, 1 for a
 refusal (or a selftest that fails), 2 for wrong usage or bad text.
 ";
 
@@ -130,6 +131,23 @@ Text: one line for each name, in any order. Blank lines, and what follows a
 '#', are skipped.
 ";
 
+pub const SEARCH: &str = "\
+usage: reference search < FILE
+
+Reads a table of locations, a count and a record:
+  locations HEX   the bytes of the table, or nothing
+  count NUMBER    below 2^64; cut to the places of the table, at most 1,024
+  record HEX      64 hex digits (one of another length is not found), or nothing
+Prints the highest number below the count whose record is equal, or that there
+is none:
+  found NUMBER
+  none
+Nothing is refused: both have the exit status 0.
+
+Text: one line for each name, in any order. Blank lines, and what follows a
+'#', are skipped.
+";
+
 /// What the text commands on heaps have in common.
 pub const TEXT: &str = "
 Text: one line for each name, in any order. A VALUE is a number from 0 to 252,
@@ -139,14 +157,14 @@ Text: one line for each name, in any order. A VALUE is a number from 0 to 252,
 pub const SELFTEST: &str = "\
 usage: reference selftest [--seed NUMBER] [--routines NUMBER]
 
-Tests random routines, heaps, runs and walks, from a fixed seed unless another
-one is given. Prints what was counted. Fails, with exit status 1, if anything
-differs, if some refusal from 1 to 21 or fault from 1 to 3 was never met, or if
-tests of undefined pointers, relinks, drops, walks, tables at the limits of the
-layout or damaged H records came too seldom: each kind that is printed, and each
-of the refusals 9, 18 and 19 at each node at which it can come, is to be met
-once and once more for every 100 routines. Beside them, five inputs whose
-listing has a location at a drop, and five heap images with a drop, are wanted
-for every three routines. A few hundred routines are enough to meet them all.
-The default is 12,000 routines.
+Tests random routines, heaps, runs, walks and searches, from a fixed seed unless
+another one is given. Prints what was counted. Fails, with exit status 1, if
+anything differs, if some refusal from 1 to 21 or fault from 1 to 3 was never
+met, or if tests of undefined pointers, relinks, drops, walks, tables at the
+limits of the layout, damaged H records or searches came too seldom: each kind
+that is printed, and each of the refusals 9, 18 and 19 at each node at which it
+can come, is to be met once and once more for every 100 routines. Beside them,
+five inputs whose listing has a location at a drop, and five heap images with a
+drop, are wanted for every three routines. A few hundred routines are enough to
+meet them all. The default is 12,000 routines.
 ";

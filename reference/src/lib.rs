@@ -6,10 +6,11 @@
 //! folds the result, and infers the edges from several such probes.
 //!
 //! The calls are [`translate`], [`fold`], [`unfold`], [`step`],
-//! [`record_part`], [`move_along`] and [`walk`]. None of them panics, whatever
-//! the bytes, lengths and numbers are; each refuses by number and place and,
-//! where a shape is refused for one of its nodes, by the first such node.
-//! [`broken_clauses`] tells why tables break the layout.
+//! [`record_part`], [`move_along`], [`walk`] and [`search`]. None of them
+//! panics, whatever the bytes, lengths and numbers are; each but the last, which
+//! refuses nothing, refuses by number and place and, where a shape is refused
+//! for one of its nodes, by the first such node. [`broken_clauses`] tells why
+//! tables break the layout.
 
 mod automaton;
 mod calls;
@@ -30,6 +31,8 @@ mod random;
 mod records;
 mod refusal;
 mod routines;
+mod search;
+pub mod search_draw;
 pub mod selftest;
 mod statement;
 mod text;
@@ -43,5 +46,6 @@ pub use clause::Clause;
 pub use layout::{broken_clause, broken_clauses};
 pub use part::record_part;
 pub use refusal::{Node, Refusal};
+pub use search::search;
 pub use translate::{translate, Translated};
 pub use walk::{configuration_fits, move_along, walk, Configuration, Walked};

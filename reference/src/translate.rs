@@ -1,12 +1,11 @@
 //! The translator: from a routine to the tables of locations and edges.
 
-use std::collections::HashMap;
-
 use crate::automaton::{encode_edge, Edge};
 use crate::input::{read_routine, Routine};
 use crate::probe::{find_edges, Found};
 use crate::records::{location, Record, RECORD};
 use crate::refusal::{refuse, Node, Refusal};
+use crate::search::search;
 
 /// The most locations and edges, however long the lent tables are.
 pub const LOCATIONS: usize = 1024;
@@ -60,14 +59,13 @@ fn copy_records(records: &[Record], table: &mut [u8]) {
 /// The locations and edges found so far, and how many there may be.
 struct Listing {
     locations: Vec<Record>,
-    numbers: HashMap<Record, usize>,
     edges: Vec<Record>,
     location_places: usize,
     edge_places: usize,
 }
 
 fn explore(routine: &Routine, location_places: usize, edge_places: usize) -> Result<Listing, Refusal> {
-    let mut listing = Listing { locations: Vec::new(), numbers: HashMap::new(), edges: Vec::new(), location_places, edge_places };
+    let mut listing = Listing { locations: Vec::new(), edges: Vec::new(), location_places, edge_places };
     for (number, shape) in routine.shapes.iter().enumerate() {
         listing.enter(location(0, shape), number)?;
     }
@@ -86,16 +84,15 @@ impl Listing {
     /// The number of a location, which is entered if it is new. `place` is
     /// what a refusal tells.
     fn enter(&mut self, record: Record, place: usize) -> Result<usize, Refusal> {
-        if let Some(&number) = self.numbers.get(&record) {
+        let known = self.locations.len();
+        if let Some(number) = search(self.locations.as_flattened(), known, &record) {
             return Ok(number);
         }
-        let number = self.locations.len();
-        if number == self.location_places {
+        if known == self.location_places {
             return refuse(11, place);
         }
         self.locations.push(record);
-        self.numbers.insert(record, number);
-        Ok(number)
+        Ok(known)
     }
 
     /// The target's place comes before the edge's own.
@@ -107,5 +104,61 @@ impl Listing {
         let Found { branch, guards, updates, .. } = *found;
         self.edges.push(encode_edge(&Edge { branch, from, to, guards, updates }));
         Ok(())
+    }
+}
+
+#[cfg(test)]
+mod tests {
+    use super::*;
+    use crate::selftest::{drop_inputs, sound_inputs};
+    use std::collections::HashMap;
+
+    type Records = (Vec<Record>, Vec<Record>);
+
+    /// The same listing, with the numbers kept in a map.
+    fn by_map(routine: &Routine, location_places: usize, edge_places: usize) -> Result<Records, Refusal> {
+        let (mut locations, mut edges): Records = Default::default();
+        let mut numbers: HashMap<Record, usize> = HashMap::new();
+        for shape in &routine.shapes {
+            if locations.len() == location_places {
+                return refuse(11, location_places);
+            }
+            numbers.insert(location(0, shape), locations.len());
+            locations.push(location(0, shape));
+        }
+        let mut from = 0;
+        while from < locations.len() {
+            for Found { branch, guards, target, updates } in find_edges(&locations[from], &routine.statements) {
+                let to = *numbers.entry(target).or_insert(locations.len());
+                if to == location_places {
+                    return refuse(11, from);
+                }
+                if to == locations.len() {
+                    locations.push(target);
+                }
+                if edges.len() == edge_places {
+                    return refuse(12, from);
+                }
+                edges.push(encode_edge(&Edge { branch, from, to, guards, updates }));
+            }
+            from += 1;
+        }
+        Ok((locations, edges))
+    }
+
+    #[test]
+    fn a_map_gives_the_same_listings_and_refusals() {
+        // Listings that fit, and refusals 11 and 12.
+        let mut met = [0; 3];
+        for (number, input) in sound_inputs(8).take(1500).chain(drop_inputs(8).take(1500)).enumerate() {
+            let routine = read_routine(&input).expect("a sound routine");
+            for places in [[LOCATIONS, EDGES], [128, 256], [number % 12, EDGES], [LOCATIONS, number % 23]] {
+                let due = by_map(&routine, places[0], places[1]);
+                let listing = explore(&routine, places[0], places[1]);
+                met[due.as_ref().map_or_else(|refusal| usize::from(refusal.number - 10), |_| 0)] += 1;
+                assert_eq!(listing.map(|listing| (listing.locations, listing.edges)), due, "{routine:?} in {places:?}");
+            }
+        }
+        assert!(met.iter().all(|&count| count >= 1000), "{met:?}");
     }
 }

@@ -4,7 +4,7 @@
 
 #include "../../controller/stack.h"
 
-const char *const call_names[CALLS] = {"translate", "record", "fold", "unfold", "step", "move", "walk"};
+const char *const call_names[CALLS] = {"translate", "record", "fold", "unfold", "step", "move", "walk", "search"};
 
 const enum slot lent_to[CALLS][7] = {
     {INPUT, LOCATIONS, EDGES, ANSWER, SLOTS},
@@ -14,10 +14,11 @@ const enum slot lent_to[CALLS][7] = {
     {POINTERS, CELLS, STATEMENT, ANSWER, PLACE, SLOTS},
     {CONFIGURATION, LOCATIONS, EDGES, SLOTS},
     {CONFIGURATION, LOCATIONS, EDGES, PATH, MADE, SLOTS},
+    {LOCATIONS, SOUGHT, NUMBER, SLOTS},
 };
 
 struct given given;
-static uint8_t refusal;
+static uint8_t refusal; /* of a search, whether there is such a record */
 
 static size_t *sizes(enum slot slot) { return (size_t *)(void *)loans[slot].at; }
 static uint32_t *words(enum slot slot) { return (uint32_t *)(void *)loans[slot].at; }
@@ -32,6 +33,7 @@ int writes(enum call which, enum slot slot)
     case UNFOLD: return slot != SHAPE && slot != COUNTERS;
     case MOVE:
     case WALK: return slot == CONFIGURATION || slot == MADE;
+    case SEARCH: return slot == NUMBER;
     default: return slot != STATEMENT;
     }
 }
@@ -91,8 +93,15 @@ static void call_walk(void *nothing)
                                 loans[PATH].length / sizeof(uint32_t), sizes(MADE));
 }
 
+static void call_search(void *nothing)
+{
+    (void)nothing;
+    refusal = currantplane_search(loans[LOCATIONS].at, loans[LOCATIONS].length, given.location_count, loans[SOUGHT].at,
+                                  loans[SOUGHT].length, sizes(NUMBER));
+}
+
 static void (*const made[CALLS])(void *) = {call_translate, call_record, call_fold, call_unfold,
-                                            call_step,      call_move,   call_walk};
+                                            call_step,      call_move,   call_walk, call_search};
 
 static struct stack stacks[CALLS];
 

@@ -7,7 +7,7 @@
 /* Each kind of look is one test. */
 enum kind {
     TRANSLATIONS, RULE, READERS, DROP_EDGES, PARTS, FOLDS, UNFOLDINGS, STEPS, RECORDS, MOVES, WALKS, BY_MOVES, CUT,
-    GUARDS, ONLY_READ, SHELF, KINDS
+    SEARCHES, LISTED, GUARDS, ONLY_READ, SHELF, KINDS
 };
 
 /* A trial or a case begins: what is given is forgotten, and buffers are arranged by its number. */
@@ -60,6 +60,9 @@ enum met {
     /* moves and walks */
     MOVE_TRIALS, WALK_TRIALS, MOVES_MADE, LONGEST_WALKS, TOO_LONG, EMPTY_WALKS, EMPTY_REFUSED, STOPPED_LATE,
     LARGE_COUNTERS, ABOVE_PLACES, BYTES_SHORT, NULL_EDGES, SINGLE_MOVES, CUT_WALKS,
+    /* searches */
+    SEARCH_TRIALS, FOUND_OF_SEVERAL, FOUND_NEWEST, FOUND_OLDEST, NONE_FOUND, PAST_COUNT, PAST_1024, COUNT_CUT,
+    OTHER_LENGTH, PART_OF_PLACE, LONG_TABLES, NULL_TABLE, NULL_RECORD, LOCATIONS_FOUND, EDGES_SOUGHT,
     /* damaged H records, by call and in all */
     DAMAGED_TRANSLATED, DAMAGED_UNFOLDED, DAMAGED,
     /* buffers, of all calls */
@@ -77,6 +80,7 @@ void unfold_trial(void);
 void step_trial(void);
 void move_trial(void);
 void walk_trial(void);
+void search_trial(void);
 
 struct heap {
     size_t pointers_length, cells_length;
@@ -104,11 +108,17 @@ void try_step(enum kind kind, const struct heap *before, const uint8_t *statemen
 /* Of an accepted translation whose tables stand there: every record is put together again from what the header's
  * functions read, the edges of drops are looked at, and some records are asked for. */
 void read_listing(const struct translation *t);
+/* Of the same: some locations and edges are looked for among the locations. */
+void search_listing(const struct translation *t);
 
 /* Shelf cases of walks. */
 void p1_walked(void);
 void walks_of_4096(void);
 void counters_of_32_bits(void);
+
+/* Of searches. */
+void newest_of_equal(void);
+void search_of_1024(void);
 
 /* The shelf cases: how many passed; those that failed are added to `failed`. */
 unsigned shelf_cases(unsigned *failed);

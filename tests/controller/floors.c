@@ -82,10 +82,25 @@ static struct {
     [NULL_EDGES] = {"  accepted, and the edges null", 50, 0},
     [SINGLE_MOVES] = {"moves one by one", 10000, 0},
     [CUT_WALKS] = {"walks cut in two", 5000, 0},
+    [SEARCH_TRIALS] = {"searches", 10000, 0},
+    [FOUND_OF_SEVERAL] = {"  the newest of several", 1500, 0},
+    [FOUND_NEWEST] = {"  right before the count", 1400, 0},
+    [FOUND_OLDEST] = {"  number 0, of a count above 1", 400, 0},
+    [NONE_FOUND] = {"  none", 3000, 0},
+    [PAST_COUNT] = {"    but right past the count", 400, 0},
+    [PAST_1024] = {"    but from 1,024 on", 30, 0},
+    [COUNT_CUT] = {"  with a count above the places", 2400, 0},
+    [OTHER_LENGTH] = {"  for a record not of 32 bytes", 1200, 0},
+    [PART_OF_PLACE] = {"  with bytes after the last place", 2000, 0},
+    [LONG_TABLES] = {"  with more than 1,024 places", 500, 0},
+    [NULL_TABLE] = {"  in a null table", 100, 0},
+    [NULL_RECORD] = {"  for a null record", 150, 0},
+    [LOCATIONS_FOUND] = {"locations of a listing found", 10000, 0},
+    [EDGES_SOUGHT] = {"edges of a listing not found", 5000, 0},
     [DAMAGED_TRANSLATED] = {"damaged H records, in translations", 7000, 0},
     [DAMAGED_UNFOLDED] = {"damaged H records, in unfoldings", 7000, 0},
     [DAMAGED] = {"  in all", 14000, 0},
-    [NULLS] = {"kinds of buffers often lent as null", SLOTS - 4, 0},
+    [NULLS] = {"kinds of buffers often lent as null", SLOTS - 5, 0},
     /* up to two more than the call tells: 0 to 6 for a translation and a step, 0 to 5 for a record */
     [ANSWERS] = {"lengths of answers often lent", 7 + 7 + 6, 0},
     [ODD_ADDRESSES] = {"buffers at odd addresses", 10000, 0},
@@ -142,7 +157,7 @@ void test_floors(void)
 {
     test_refusals();
     test_nodes();
-    /* all but the place, the node, the configuration and the moves made, which may not be null */
+    /* all but the place, the node, the configuration, the moves made and the number, which may not be null */
     for (int slot = 0; slot < SLOTS; slot++) met(NULLS, lent_null[slot] >= ENOUGH);
     for (int which = 0; which < CALLS; which++)
         for (int length = 0; length <= LONGEST_ANSWER; length++) met(ANSWERS, lent_answers[which][length] >= ENOUGH);

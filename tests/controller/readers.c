@@ -52,7 +52,7 @@ static int lies(void)
 static int answers(void)
 {
     struct currantplane_configuration at = {7, {9}};
-    size_t places[3] = {9, 9, 9}, made = 9;
+    size_t places[3] = {9, 9, 9}, made = 9, number = 9;
     uint8_t node = 9;
     int good = currantplane_translate(NULL, 0, NULL, 0, NULL, 0, NULL, 0) == CURRANTPLANE_BAD_LENGTH;
     good = good && currantplane_record(NULL, 0, NULL, 0, 0, 0, 0, 0, NULL, 0) == CURRANTPLANE_NO_RECORD;
@@ -61,6 +61,9 @@ static int answers(void)
     good = good && currantplane_step(NULL, 0, NULL, 0, NULL, 0, 0, 0, NULL, 0, &places[2]) == CURRANTPLANE_BAD_HEAP;
     good = good && currantplane_move(&at, NULL, 0, NULL, 0, 0, 0, 0) == CURRANTPLANE_NO_MOVE;
     good = good && currantplane_walk(&at, NULL, 0, NULL, 0, 0, 0, NULL, 0, &made) == CURRANTPLANE_NO_MOVE && made == 0;
+    good = good && currantplane_search(NULL, 0, 9, NULL, 0, &number) == CURRANTPLANE_NOT_FOUND && number == 0;
+    good = good && currantplane_search(edge, 64, 9, edge, 32, &number) == CURRANTPLANE_FOUND && number == 0;
+    good = good && currantplane_search(edge, 64, 9, edge + 32, 32, &number) == CURRANTPLANE_FOUND && number == 1;
     good = good && at.location == 7 && at.counters[0] == 9 && at.counters[11] == 0;
     return good && places[0] == 0 && places[1] == 0 && places[2] == 0 && node == 0;
 }

@@ -293,7 +293,8 @@ static void each_node(void)
     }
 }
 
-/* What is only read may overlap: one table for both; and a ring of six cells whose bytes are the pointers too. */
+/* What is only read may overlap: one table for both; a record that stands in the table; and a ring of six cells whose
+ * bytes are the pointers too. */
 static void overlaps(void)
 {
     static const uint8_t table[96], ring[6] = {1, 2, 3, 4, 5, 0};
@@ -303,6 +304,7 @@ static void overlaps(void)
     uint8_t shape[32], last = currantplane_record(table, 96, table, 96, 3, 3, CURRANTPLANE_EDGES, 2, answer, 3);
     uint32_t counters[12];
     look(SHELF, last == 0 && answer[0] == 0 && answer[1] == 64 && answer[2] == 32, "the last record");
+    look(SHELF, currantplane_search(table, 96, 3, table + 31, 32, &place) == 1 && place == 2, "bytes of the table");
     look(SHELF, currantplane_fold(ring, 6, ring, 6, shape, 32, counters, 12, &place) == 0 && place == 0, "the ring");
     look(SHELF, memcmp(shape, six_nodes, 32) == 0 && memcmp(counters, ones, sizeof ones) == 0, "its six nodes");
     static const uint8_t stop[32] = {CURRANTPLANE_RECORD_L, 0, 0, 0, N, N, N, N, N, N};
@@ -326,7 +328,8 @@ unsigned shelf_cases(unsigned *failed)
         {"a drop listed", drop_listed},               {"drops in turn, and leaks", drops_in_turn},
         {"op 14: 5", op_14},                          {"what is read may overlap", overlaps},
         {"P1 walked", p1_walked},                     {"4,096 moves, 4,097: 20", walks_of_4096},
-        {"counters past 32 bits: 21", counters_of_32_bits},
+        {"counters past 32 bits: 21", counters_of_32_bits}, {"the newest of equal records", newest_of_equal},
+        {"a search of 1,024 places", search_of_1024},
     };
     unsigned passed = 0;
     for (size_t i = 0; i < sizeof cases / sizeof cases[0]; i++) {

@@ -182,7 +182,10 @@ void translation_trial(void)
           lengths[1] == 32 * t.told.edges && lengths[1] <= t.edges_length && full.edges <= 2048);
     struct told came = translate_in_full(&t, &full);
     look_at_rule(&t, &came, try_translation(TRANSLATIONS, &t));
-    if (t.told.refusal == 0) read_listing(&t);
+    if (t.told.refusal == 0) {
+        read_listing(&t);
+        search_listing(&t);
+    }
     if (t.locations_length == BENCH_LOCATIONS && t.edges_length == BENCH_EDGES) count_bench(&t.told, &full);
     else count_other(&t, &full);
     met(PAST_FULL, no_place(full.refusal) != 0);

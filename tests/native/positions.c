@@ -52,14 +52,14 @@ static size_t reached(size_t places) {
     return low;
 }
 
-// how many records a search from the first on looks at for the first so many edges
+// how many records a search from the newest back looks at for the first so many edges
 static double looked_at(size_t count) {
     size_t known = 0, looked = 0;
     for (size_t i = 0; i < length; i += 32) known += input[i] == 0x48;
     translate(sizeof locations, sizeof edges);
     for (size_t i = 0; i < count; i++) {
         size_t to = edges[32 * i + 4] + 256u * edges[32 * i + 5];
-        looked += to < known ? to + 1 : known;
+        looked += to < known ? known - to : known;
         if (known <= to) known = to + 1;
     }
     return (double)looked;

@@ -1,12 +1,13 @@
 // The answers of the calls in numbers, written over the start of what the caller lends, as far as it reaches.
 use model::Ended;
+use model::Found;
 use model::Node;
 use model::Stepped;
 use model::Unfolded;
 ghost use mathlib.Core.Path.{_≡_};
 ghost use Prim.Native.Nat.{min};
 ghost use lib.ListN.{set};
-ghost use Rattle.model.specs.Answers.{refusalOf, stepAnswerOf, stepNumbers, unfoldedVerdict, verdictOf};
+ghost use Rattle.model.specs.Answers.{foundNumbers, foundOf, refusalOf, stepAnswerOf, stepNumbers, unfoldedVerdict, verdictOf};
 ghost use Rattle.model.specs.Image.{stepVerdict};
 ghost use Rattle.answers.specs.Numbers.{over, told, IsTold};
 
@@ -125,5 +126,22 @@ pub fn step_ended(stepped: Stepped) -> Ended
         Stepped::Faulted { fault: _ } => Ended::Accepted,
         Stepped::Stopped => Ended::Accepted,
         Stepped::Refused { number, place } => Ended::Refused { number, place },
+    }
+}
+
+// Answers 1 and writes the number that was found, or answers 0 for none and writes 0.
+pub fn tell_found(found: Found, number: &mut usize) -> u8
+    ensures { λ r. ⌜ (r ≡ foundNumbers (foundOf found) .0)
+        × (now (number .exit) ≡ foundNumbers (foundOf found) .1) ⌝ }
+{
+    match found {
+        Found::At { number: n } => {
+            *number = n;
+            1
+        }
+        Found::Nothing => {
+            *number = 0;
+            0
+        }
     }
 }

@@ -1,14 +1,16 @@
 // The calls for Rust and C: a slice passes as a pointer and a length. Answers are written over the start of the lent
 // slices, as far as these reach. Each call answers the refusal's number, 0 for none, and writes its place; of a move
-// and a walk, which advance a struct that is lent, it is always 0 and not written. What a call writes must not overlap
-// with anything else that is lent to it: the contracts are about slices that are apart. The calls are declared in
-// `bindings/` and `include/currantplane.h`, which `tests/declarations` compares with this file.
+// and a walk, which advance a struct that is lent, it is always 0 and not written. A search refuses nothing, and
+// answers whether there is such a record. What a call writes must not overlap with anything else that is lent to it:
+// the contracts are about slices that are apart. The calls are declared in `bindings/` and `include/currantplane.h`,
+// which `tests/declarations` compares with this file.
 use answers::lay;
 use answers::lay_counters;
 use answers::step_ended;
 use answers::step_numbers;
 use answers::tell;
 use answers::tell_ended;
+use answers::tell_found;
 use answers::tell_node;
 use answers::tell_unfolded;
 use model::Configuration;
@@ -17,8 +19,10 @@ use model::Node;
 use model::Translated;
 ghost use mathlib.Core.Path.{_≡_};
 ghost use lib.ListN.{length};
+ghost use Rattle.model.specs.Answers.{foundNumbers};
 ghost use Rattle.model.specs.Image.{foldImage, stepImage, unfoldImage};
 ghost use Rattle.model.specs.Part.{recordPart};
+ghost use Rattle.model.specs.Search.{searched};
 ghost use Rattle.model.specs.Structs.{tablesIn};
 ghost use Rattle.model.specs.Walking.{moved, walked};
 ghost use Rattle.currantplane.specs.Calls.{IsFolded, IsRecord, IsStepped, IsTranslated, IsUnfolded};
@@ -91,6 +95,21 @@ pub extern "C" fn currantplane_record<'a>(
     let size = part.len();
     tell(answer, place, number * size, size);
     refusal
+}
+
+// The newest of a table's first `count` records that equals a record. It refuses nothing: it answers 1 and writes the
+// record's number, or answers 0 for none and writes 0.
+#[no_mangle]
+pub extern "C" fn currantplane_search(
+    table: &[u8],
+    count: usize,
+    record: &[u8],
+    number: &mut usize,
+) -> u8
+    ensures { λ r. ⌜ (r ≡ foundNumbers (searched (now (table .entry)) count (now («record» .entry))) .0)
+        × (now (number .exit) ≡ foundNumbers (searched (now (table .entry)) count (now («record» .entry))) .1) ⌝ }
+{
+    tell_found(table_search::search_table(table, count, record), number)
 }
 
 #[no_mangle]

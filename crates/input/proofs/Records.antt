@@ -4,23 +4,25 @@ use native.Mathlib.Nat.{add-zero}
 use native.Mathlib.Numerals.{add-one}
 use native.Mathlib.Omega.{arith}
 use mathlib.Core.Path.{_≡_, refl, sym, ap, ap₂, _∙_}
-use mathlib.Core.Bool.{Bool, true, false, cond, _||_}
+use mathlib.Core.Bool.{Bool, true, false, cond}
 use mathlib.Core.Option.{none, some}
-use mathlib.Core.List.{List, [], _∷_, _++_}
+use mathlib.Core.List.{List, [], _∷_}
 use lib.Dec.{eqb, ltb}
 use lib.ListN.{length, getD, take, drop, drop-of-length-le, length-drop}
 use lib.Seq.{drop-cons, drop-drop, getD-drop, getD-take, length-take-le}
-use Rattle.model.specs.Base.{any, count, numbers, sameList}
+use borrow.Author.Tests.{le-ltb, lt-ltb}
+use Rattle.model.specs.Base.{any, count, sameList}
 use Rattle.model.specs.Records.{byte, checksRecord, firstFailed, isH, isS, recordAt, refusalAt}
+use Rattle.model.specs.Search.{equalAt}
 use Rattle.model.specs.Structs.{Tells}
 use Rattle.model.specs.declared.Failure.{Failure}
 use Rattle.model.specs.Translate.{badKind, badRecord, chunks}
 use Rattle.model.proofs.lists.Sorted.{kinds-sorted}
 use Rattle.model.specs.Listings.{recordsOf}
 use Rattle.model.proofs.lists.Logic.{bool-case, bool-ext, clash, or-l}
-use Rattle.model.proofs.lists.Numbers.{length-numbers, numbers-snoc}
-use Rattle.model.proofs.shapes.Same.{bytes-same, place-test, same-bytes-refl}
+use Rattle.model.proofs.shapes.Same.{bytes-same, same-bytes-refl}
 use Rattle.search.specs.Search.{foundAt}
+use Rattle.search.proofs.Found.{foundBelow}
 use Rattle.input.specs.RecordChecks.{kindFits, earlier, recordChecks}
 
 chunks-length : (n : ℕ) (s : List ℕ) → length (chunks n s) ≡ n
@@ -68,33 +70,21 @@ refusal-fail n i e r rs {f} t z = by-number (f .number) refl
         let h : firstFailed (checksRecord n e r) ≡ suc k = sym (t .number) ∙ q in
         rw (h, badRecord) (ap₂ (λ m v. some (refusalAt m i v)) (sym q) (sym (t .node)))
 
--- the first i records, by their numbers and as a list
-or-swap : (a b c : Bool) → a || (b || c) ≡ b || (a || c)
-or-swap true true c = refl
-or-swap true false c = refl
-or-swap false b c = refl
-
-any-snoc : {A : Type 0} (p : A → Bool) (l : List A) (x : A) → any p (l ++ x ∷ []) ≡ p x || any p l
-any-snoc p [] x = refl
-any-snoc p (y ∷ l) x = ap (λ b. p y || b) (any-snoc p l x) ∙ or-swap (p y) (p x) (any p l)
-
-any-earlier : (p : ℕ → Bool) (q : List ℕ → Bool) (s : List ℕ) → ((j : ℕ) → p j ≡ q (recordAt s j))
-    → (i : ℕ) → any p (numbers 0 i) ≡ any q (earlier s i)
-any-earlier p q s h zero = refl
-any-earlier p q s h (suc i) =
-    let z : 0 + i ≡ i = omega arith in
-    ap (any p) (numbers-snoc 0 i) ∙ any-snoc p (numbers 0 i) (0 + i) ∙ ap₂ _||_ (ap p z ∙ h i) (any-earlier p q s h i)
-
 bytes-sym : (a b : List ℕ) → sameList eqb a b ≡ sameList eqb b a
 bytes-sym a b = bool-ext (sameList eqb a b) (sameList eqb b a)
     (λ e. ap (sameList eqb b) (bytes-same a b e) ∙ same-bytes-refl b)
     (λ e. ap (sameList eqb a) (bytes-same b a e) ∙ same-bytes-refl a)
 
--- a record that is found among the first i is one of them
+-- a record that is found among the first i is one of them: both go from the newest back
+found-among : (s r : List ℕ) (n i : ℕ) → i ≤ n → ltb (foundBelow s r n i) n ≡ any (sameList eqb r) (earlier s i)
+found-among s r n zero h = le-ltb n n (omega arith)
+found-among s r n (suc i) h =
+    let e = bytes-sym (recordAt s i) r in
+    bool-case (equalAt s r i) (λ q. rw (q, sym e ∙ q) (lt-ltb i n (omega arith)))
+    (λ q. rw (q, sym e ∙ q) (found-among s r n i (omega arith)))
+
 pub found-earlier : (s r : List ℕ) (i : ℕ) → ltb (foundAt s r i) i ≡ any (sameList eqb r) (earlier s i)
-found-earlier s r i =
-    ap (ltb (foundAt s r i)) (sym (length-numbers 0 i)) ∙ place-test (λ j. sameList eqb (recordAt s j) r) (numbers 0 i)
-    ∙ any-earlier (λ j. sameList eqb (recordAt s j) r) (sameList eqb r) s (λ j. bytes-sym (recordAt s j) r) i
+found-earlier s r i = found-among s r i i (omega arith)
 
 module _ (s : List ℕ) (n : ℕ) (w : 32 * n ≡ length s) where
   pub records-length : length (recordsOf s) ≡ n

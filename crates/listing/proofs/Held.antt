@@ -1,6 +1,6 @@
 -- A listing held in the two tables after one edge more, and the two refusals: from what the code has found and written.
 use Prim.Native.Nat.{ℕ, _+_, _≤_, _<_}
-use mathlib.Core.Path.{_≡_, refl, ap, _∙_, subst}
+use mathlib.Core.Path.{_≡_, refl, sym, ap, _∙_, subst}
 use mathlib.Core.Bool.{Bool, true, false, cond}
 use mathlib.Core.List.{List, [], _∷_, _++_}
 use native.Mathlib.Omega.{arith}
@@ -9,9 +9,10 @@ use lib.ListN.{length}
 use borrow.Author.Tests.{le-ltb, lt-ltb, ltb-false}
 use Rattle.model.specs.Base.{mostEdges, mostLocations, placeOf}
 use Rattle.model.specs.Edges.{Loc, Edge, sameLoc, at, failed}
-use Rattle.model.specs.Notions.{SmallGuards}
+use Rattle.model.specs.Notions.{Distinct, SmallGuards}
 use Rattle.model.specs.Records.{GuardCode, locRecord, byte}
 use Rattle.model.specs.Translate.{Link, Listing, linkRecord, places, grown}
+use Rattle.model.proofs.listings.Listing.{extend-distinct}
 use Rattle.model.proofs.records.EdgeBack.{code-low, edge-length}
 use Rattle.model.specs.Listings.{WritableLoc}
 use Rattle.model.proofs.records.ReadBack.{record-length}
@@ -69,8 +70,8 @@ target-case false ls l tab r size nl j e K W p h =
     (omega (arith, ltb-false j nl e))
 
 holds-both : (t : Listing) (ls es : List ℕ) (a b : ℕ) (c : Counts) → LocsKept a (t .locs) ls (c .locations)
-    → LinksKept b (t .links) es (c .edges) → Holds t ls es c
-holds-both t ls es a b c K L =
+    → LinksKept b (t .links) es (c .edges) → Distinct (t .locs) → Holds t ls es c
+holds-both t ls es a b c K L once =
     let p = K .same in
     let q = L .same in
     record {
@@ -80,6 +81,7 @@ holds-both t ls es a b c K L =
       edgeNumber = L .number;
       locsFit = rw p (K .fits);
       edgesFit = rw q (L .fits);
+      distinct = once;
       goodLocs = K .good;
       goodLinks = L .good;
     }
@@ -94,7 +96,12 @@ module _ (t : Listing) (i : ℕ) (e : Edge) (ls es r us : List ℕ) (m : EdgeMad
   number-is : j ≡ placeOf (sameLoc (e .to)) (t .locs)
   number-is =
       found ∙ ap (foundAt ls r) (H .locNumber)
-      ∙ found-location (t .locs) (e .to) (length ls) ls r (H .goodLocs) W (H .locs) (B .target)
+      ∙ found-location (t .locs) (e .to) (length ls) ls r (H .distinct) (H .goodLocs) W (H .locs) (B .target)
+
+  -- a target that is new is added once
+  still-distinct : Distinct (grown i j e t .locs)
+  still-distinct =
+      subst (λ k. Distinct (grown i k e t .locs)) (sym number-is) (extend-distinct i (e ∷ []) t (H .distinct))
 
   -- 11: no place for a new location
   pub full-locations : places mostLocations (length ls) ≤ j → GrownTo t i e ls es (Full 11)
@@ -147,7 +154,7 @@ module _ (t : Listing) (i : ℕ) (e : Edge) (ls es r us : List ℕ) (m : EdgeMad
       let X : Holds (grown i j e t) ls′ es′ (countsAfter c n) =
       rw (p, q, s) (holds-both (grown i j e t) (targetKept ls (c .locations) j r)
       (placed es (c .edges) (edgeBytes (fieldsTo m i j) us)) (length ls) (length es)
-      (countsAfter c (countKept (c .locations) j)) K L) in
+      (countsAfter c (countKept (c .locations) j)) K L still-distinct) in
       let a : ltb j (places mostLocations (length ls′)) ≡ true =
       rw sl (lt-ltb j (places mostLocations (length ls)) h) in
       let b : ltb (length (t .links)) (places mostEdges (length es′)) ≡ true =

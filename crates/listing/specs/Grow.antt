@@ -11,7 +11,7 @@ use Rattle.model.specs.Records.{locRecord}
 use Rattle.model.specs.Structs.{IsEdge}
 use Rattle.model.specs.Translate.{Link, Listing, linkRecord, tableOf, places, grown}
 use Rattle.model.specs.Listings.{WritableLoc}
-use Rattle.model.specs.Notions.{In, SmallGuards}
+use Rattle.model.specs.Notions.{Distinct, In, SmallGuards}
 use Rattle.model.specs.declared.Counts.{Counts}
 use Rattle.model.specs.declared.EdgeMade.{EdgeMade}
 use Rattle.listing.specs.declared.Grown.{Grown}
@@ -25,6 +25,7 @@ pub record Holds (t : Listing) (ls es : List ℕ) (c : Counts) : Type 0 where
   pub edgeNumber : c .edges ≡ length (t .links)
   pub locsFit : length (t .locs) ≤ places mostLocations (length ls)
   pub edgesFit : length (t .links) ≤ places mostEdges (length es)
+  pub distinct : Distinct (t .locs)
   pub goodLocs : (l : Loc) → In l (t .locs) → WritableLoc l
   pub goodLinks : (k : Link) → In k (t .links) → length (k .edge .updates) ≤ mostNodes
 

@@ -11,3 +11,4 @@ pub mod Unplaced
 pub mod Small
 pub mod Parts
 pub mod Layouts
+pub mod Searches

@@ -6,3 +6,4 @@ pub mod Slices
 pub mod Loops
 pub mod Digits
 pub mod Sorted
+pub mod Highest

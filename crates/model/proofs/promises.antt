@@ -10,4 +10,5 @@ pub mod PromisesBench
 pub mod PromisesNodes
 pub mod PromisesDrops
 pub mod PromisesWalks
+pub mod PromisesSearch
 pub mod Shelf

@@ -2,6 +2,7 @@
 -- nothing.
 use Prim.Native.Nat.{ℕ}
 use mathlib.Core.List.{List, [], _∷_}
+use mathlib.Core.Option.{Option, none, some}
 use Rattle.model.specs.Records.{Refusal, refusal, refusalAt, Verdict, isAccepted, isRefused}
 use Rattle.model.specs.Translate.{Outcome}
 use Rattle.model.specs.Image.{Folding, Unfolding, StepAnswer, toNext, toFault, toStop, noStep, Stepping}
@@ -14,6 +15,8 @@ use Rattle.model.specs.declared.Unfolded.{Unfolded}
 use Rattle.model.specs.declared.Unfolded.the-variants as unfolded
 use Rattle.model.specs.declared.Stepped.{Stepped}
 use Rattle.model.specs.declared.Stepped.the-variants as stepped
+use Rattle.model.specs.declared.Found.{Found}
+use Rattle.model.specs.declared.Found.the-variants as found
 
 abbrev pub verdictOf : Ended → Verdict
 verdictOf ended.Accepted = isAccepted
@@ -55,6 +58,11 @@ stepAnswerOf (stepped.Refused n p) = noStep (refusal n p)
 abbrev pub steppingOf : Stepped → List ℕ → List ℕ → Stepping
 steppingOf s ps cs = record { answer = stepAnswerOf s; ptrBytes = ps; cellBytes = cs }
 
+-- the answer of a search: "the highest number .. whose record is equal, or none"
+abbrev pub foundOf : Found → Option ℕ
+foundOf (found.At n) = some n
+foundOf found.Nothing = none
+
 -- ---- in numbers alone, as the calls for Rust and C tell them: "A part of an answer with nothing to tell is 0."
 
 abbrev pub refusalOf : Verdict → Refusal
@@ -67,3 +75,8 @@ stepNumbers (toNext b n) = 0 ∷ 0 ∷ b ∷ n ∷ []
 stepNumbers (toFault f) = f ∷ 0 ∷ 0 ∷ 0 ∷ []
 stepNumbers toStop = 0 ∷ 1 ∷ 0 ∷ 0 ∷ []
 stepNumbers (noStep x) = 0 ∷ 0 ∷ 0 ∷ 0 ∷ []
+
+-- of a search 1 and the number, or 0 for none, and 0
+abbrev pub foundNumbers : Option ℕ → ℕ × ℕ
+foundNumbers (some n) = (1, n)
+foundNumbers none = (0, 0)

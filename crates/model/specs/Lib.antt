@@ -7,6 +7,7 @@ pub mod Records
 pub mod Translate
 pub mod Image
 pub mod Part
+pub mod Search
 pub mod Answers
 pub mod Runs
 pub mod Structs

@@ -81,6 +81,12 @@ pub enum Stepped {
     Refused { number: u8, place: usize },
 }
 
+// What a search answers: the number of the record that it found, or none.
+pub enum Found {
+    At { number: usize },
+    Nothing,
+}
+
 // A statement's record, decoded: the op, its pointers and its targets.
 pub struct Decoded {
     pub op: u8,

@@ -1,14 +1,14 @@
--- Laws on lists: parts of two lists compared, and places by number.
-use Prim.Native.Nat.{ℕ, zero, suc, _+_, _≤_, _<_}
-use mathlib.Core.Path.{_≡_, refl, sym, ap, ap₂, _∙_}
-use mathlib.Core.Bool.{Bool, cond, _&&_, and-assoc}
+-- Laws on lists: parts of two lists compared.
+use Prim.Native.Nat.{ℕ, zero, suc, _+_, _≤_}
+use mathlib.Core.Path.{_≡_, sym, ap, _∙_}
+use mathlib.Core.Bool.{Bool, _&&_, and-assoc}
 use mathlib.Core.List.{List, [], _∷_}
 use native.Mathlib.Nat.{suc-add, zero-add}
 use native.Mathlib.Omega.{arith}
 use lib.Dec.{eqb}
-use lib.ListN.{length, take, drop, getD, length-take, length-drop}
+use lib.ListN.{length, take, drop, length-take, length-drop}
 use lib.Seq.{drop-drop}
-use Rattle.model.specs.Base.{sameList, placeOf, numbers}
+use Rattle.model.specs.Base.{sameList}
 use Rattle.model.proofs.shapes.Same.{same-bytes-refl}
 
 pub part-length : (t : List ℕ) (a n : ℕ) → a + n ≤ length t → length (take n (drop a t)) ≡ n
@@ -32,13 +32,3 @@ same-cut (suc m) n (a ∷ x) (b ∷ y) = rw suc-add
 pub same-split : (m n : ℕ) (t : List ℕ) (a : ℕ) (r : List ℕ) (b : ℕ)
     → samePart (m + n) t a r b ≡ samePart m t a r b && samePart n t (a + m) r (b + m)
 same-split m n t a r b = same-cut m n (drop a t) (drop b r) ∙ rw (drop-drop m a t, drop-drop m b r)
-
--- the first place of a list, found by the numbers of its places
-pub place-numbers : {A : Type 0} (p : ℕ → Bool) (q : A → Bool) (l : List A) (d : A) (i : ℕ)
-    → ((j : ℕ) → j < length l → p (i + j) ≡ q (getD l j d)) → placeOf p (numbers i (length l)) ≡ placeOf q l
-place-numbers p q [] d i h = refl
-place-numbers p q (x ∷ l) d i h =
-    let z : i + 0 ≡ i = omega arith in
-    ap₂ (λ b n. cond b 0 (suc n)) (ap p (sym z) ∙ h 0 (omega arith))
-    (place-numbers p q l d (suc i) (λ j k. let e : suc i + j ≡ i + suc j = omega arith in
-    ap p e ∙ h (suc j) (omega arith)))

@@ -1,13 +1,18 @@
 -- What a search of a table finds. Assumes nothing.
 use Prim.Native.Nat.{ℕ, _+_, _*_}
 use mathlib.Core.List.{List}
-use lib.Dec.{eqb}
-use Rattle.model.specs.Base.{sameList, placeOf, numbers}
-use Rattle.model.specs.Records.{recordAt, word}
+use mathlib.Core.Option.{Option, none, some}
+use Rattle.model.specs.Records.{word}
+use Rattle.model.specs.Search.{equalAt, highestBelow}
 
--- the first record below n that equals r, or n
+-- the number that was found, or d
+abbrev pub numberOr : ℕ → Option ℕ → ℕ
+numberOr d (some i) = i
+numberOr d none = d
+
+-- the newest of the first n records that equals r, or n
 abbrev pub foundAt : List ℕ → List ℕ → ℕ → ℕ
-foundAt t r n = placeOf (λ i. sameList eqb (recordAt t i) r) (numbers 0 n)
+foundAt t r n = numberOr n (highestBelow n (equalAt t r))
 
 -- four bytes from n on as a number, the low byte first
 abbrev pub fourAt : List ℕ → ℕ → ℕ

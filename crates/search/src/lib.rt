@@ -61,18 +61,19 @@ fn same_by_key(table: &[u8], at: usize, rec: &[u8], k: u64) -> bool
     same_at(table, at, rec)
 }
 
-// The first of the table's `count` records that equals rec, or `count`.
+// The newest of the table's first `count` records that equals rec, or `count`: a target that is known is nearly always
+// among the last few.
 pub fn find(table: &[u8], count: usize, rec: &[u8]) -> usize
     requires { ⌜ (recordSize * count ≤ length (now table)) × (length (now rec) ≡ recordSize) ⌝ }
     ensures { λ r. ⌜ r ≡ foundAt (now (table .entry)) (now (rec .entry)) count ⌝ }
 {
     let k = key(rec, 0);
-    let mut i = 0;
-    while i < count {
+    let mut i = count;
+    while 0 < i {
+        i -= 1;
         if same_by_key(table, model::RECORD * i, rec, k) {
             return i;
         }
-        i += 1;
     }
     count
 }

@@ -3,6 +3,7 @@
 use std::fmt;
 
 use super::drop_counts::{wanted, DropCounts};
+use super::search_counts::SearchCounts;
 use super::walk_counts::WalkCounts;
 use super::{damages, relinks, undefined};
 use crate::damage::DAMAGES;
@@ -49,6 +50,8 @@ pub struct Counts {
     pub drops: DropCounts,
     /// Walks, and the clauses that tables broke.
     pub walks: WalkCounts,
+    /// Searches among the locations of listings and on drawn tables.
+    pub searches: SearchCounts,
     /// Damaged H records by refusal and node, and what else was wrong there.
     pub nodes_in_inputs: ByNode,
     pub nodes_in_unfolding: ByNode,
@@ -132,7 +135,8 @@ impl Counts {
     }
 
     /// How many tests of undefined pointers, relinks, drops, walks, broken
-    /// clauses and damaged H records are wanted at each place in each way.
+    /// clauses, damaged H records and searches are wanted at each place in each
+    /// way.
     pub fn floor(&self) -> u64 {
         1 + self.routines / EACH
     }
@@ -164,10 +168,11 @@ impl fmt::Display for Counts {
             ("heaps folded", self.heaps),
             ("most nodes of a heap", self.nodes),
         ];
-        for (name, count) in lines.into_iter().chain(self.drops.drawn()).chain(self.drops.totals()).chain(self.walks.totals()) {
+        let totals = self.drops.totals().into_iter().chain(self.walks.totals()).chain(self.searches.totals());
+        for (name, count) in lines.into_iter().chain(self.drops.drawn()).chain(totals) {
             writeln!(out, "{name}: {count}")?;
         }
-        for (name, count) in self.kinds() {
+        for (name, count) in self.kinds().into_iter().chain(self.searches.ways()) {
             writeln!(out, "{name}: {count}")?;
         }
         for (name, counts) in self.by_node() {

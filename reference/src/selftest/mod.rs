@@ -17,6 +17,8 @@ mod parts;
 mod refusals;
 mod relinks;
 mod runs;
+mod search_counts;
+mod searches;
 mod tables;
 mod undefined;
 mod walk_counts;
@@ -32,6 +34,7 @@ use crate::routines::{drop_often, random_routine};
 
 pub use counts::Counts;
 pub use drop_counts::DropCounts;
+pub use search_counts::SearchCounts;
 pub use walk_counts::WalkCounts;
 
 /// The seed and the number of routines if none are given.
@@ -40,16 +43,17 @@ pub const ROUTINES: u64 = 12_000;
 
 /// Tests so many routines. Answers what was counted, or what differs, or
 /// which refusal or fault was never met, or which tests of undefined pointers,
-/// relinks, drops, damaged H records or walks were too few.
+/// relinks, drops, damaged H records, walks or searches were too few.
 pub fn run(seed: u64, routines: u64) -> Result<Counts, String> {
     let mut random = Random::new(seed);
     // What a seed draws elsewhere does not hang on the parts, the damages, the
-    // drops and the walks.
+    // drops, the walks and the searches.
     let mut part_random = Random::new(!seed);
     let mut damage_random = Random::new(seed.rotate_left(32));
     let mut drop_random = Random::new(seed.rotate_left(16));
     let mut walk_random = Random::new(seed.rotate_left(48));
     let first_walk = walk_random.next();
+    let first_search = Random::new(seed.rotate_left(8)).next();
     let mut counts = Counts::default();
     for number in 0..routines {
         let drawn = random_routine(&mut random);
@@ -68,11 +72,18 @@ pub fn run(seed: u64, routines: u64) -> Result<Counts, String> {
         for turn in 0..walk_counts::DRAWN {
             walks::on_drawn_tables(&mut counts, first_walk.wrapping_add(number * walk_counts::DRAWN + turn))?;
         }
+        for turn in 0..search_counts::DRAWN {
+            searches::on_a_drawn_table(&mut counts, first_search.wrapping_add(number * search_counts::DRAWN + turn))?;
+        }
     }
-    match (counts.never_met(), counts.too_few()) {
-        (None, None) => Ok(counts),
-        (Some(missing), _) => Err(format!("{counts}never met: {missing}")),
-        (None, Some(few)) => Err(format!("{counts}too few: {few}")),
+    if let Some(missing) = counts.never_met() {
+        return Err(format!("{counts}never met: {missing}"));
+    }
+    let few: Vec<String> = [counts.too_few(), counts.searches.too_few(counts.floor())].into_iter().flatten().collect();
+    if few.is_empty() {
+        Ok(counts)
+    } else {
+        Err(format!("{counts}too few: {}", few.join(", ")))
     }
 }
 
@@ -139,6 +150,7 @@ fn test_routine(randoms: [&mut Random; 3], counts: &mut Counts, input: &[u8]) ->
     tables::test_short_tables(random, counts, input, &full, routine.shapes.len(), &automaton)?;
     parts::test(part_random, counts, &full)?;
     walks::on_a_listing(walk_random, counts, &full, &automaton)?;
+    searches::on_a_listing(counts, &full, routine.shapes.len(), &automaton)?;
     for _ in 0..3 {
         runs::follow_the_routine(random, counts, &routine, &automaton)?;
         runs::follow_the_edges(random, counts, &routine, &automaton)?;

@@ -8,8 +8,9 @@ pub mod dropped;
 pub mod edges;
 pub mod joined;
 pub mod rings;
+pub mod searches;
 pub mod small;
 pub mod stream;
 pub mod walks;
 
-pub use currantplane::{fold, make_move, make_walk, record, step, translate, unfold, Configuration, Node, Refusal};
+pub use currantplane::{fold, make_move, make_walk, record, search, step, translate, unfold, Configuration, Node, Refusal};

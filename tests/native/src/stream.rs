@@ -10,9 +10,11 @@
 //!   R  lengths of both tables, both counts, which table, number; where the record begins, its length
 //!   M  locations, edges, both counts, location, twelve counters, number of the edge; location and counters
 //!   W  the same with the bytes of a path, four for each number, for the one number; moves made, location and counters
+//!   N  table, count, record; in place of a refusal 1 and the number of the newest that is equal, or 0 and 0
 //!   Z  the end: how many trials there were
 
 use crate::draw::Image;
+use crate::searches::Search;
 use reference::walk_damage::DrawnWalk;
 use reference::{Configuration, Refusal, Stepped, Translated};
 
@@ -145,6 +147,15 @@ impl Stream {
         self.refusal(told.refusal);
         self.number(told.made);
         self.configuration(&told.configuration);
+    }
+
+    pub fn searching(&mut self, Search { table, count, record }: &Search) {
+        let told = reference::search(table, *count, record);
+        self.begin(b'N');
+        self.block(table);
+        self.number(*count);
+        self.block(record);
+        self.numbers(&[told.is_some().into(), told.unwrap_or(0)]);
     }
 }
 

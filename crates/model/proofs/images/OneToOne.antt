@@ -5,9 +5,10 @@ use Rattle.model.proofs.records.Checks.{not-both, refused-inj}
 use Rattle.model.specs.Notions.{Halted}
 use mathlib.Core.Path.{_∙_, _≡_, ap, ap₂, refl, sym}
 use mathlib.Core.List.{List, [], _∷_}
+use mathlib.Core.Option.{Option, none, some}
 use native.Mathlib.Omega.{arith}
 use lib.ListN.{drop}
-use Rattle.model.specs.Answers.{foldingOf, outcomeOf, stepAnswerOf, stepNumbers, steppingOf, unfoldedVerdict, unfoldingOf, verdictOf}
+use Rattle.model.specs.Answers.{foldingOf, foundNumbers, foundOf, outcomeOf, stepAnswerOf, stepNumbers, steppingOf, unfoldedVerdict, unfoldingOf, verdictOf}
 use Rattle.model.specs.Image.{Folding, StepAnswer, Stepping, Unfolding, noStep, toFault, toNext, toStop}
 use Rattle.model.specs.Records.{isAccepted, refusal, refusalAt}
 use Rattle.model.specs.Translate.{Outcome}
@@ -20,6 +21,8 @@ use Rattle.model.specs.declared.Stepped.{Stepped}
 use Rattle.model.specs.declared.Stepped.the-variants as stepped
 use Rattle.model.specs.declared.Translated.{Translated}
 use Rattle.model.specs.declared.Translated.the-variants as translated
+use Rattle.model.specs.declared.Found.{Found}
+use Rattle.model.specs.declared.Found.the-variants as found
 
 never {ℓ} : {C : Type ℓ} → _≡_ {A = ℕ} 0 1 → C
 never e = absurd (omega arith)
@@ -71,6 +74,18 @@ outcome-one (translated.Refused n p v) (translated.Listed l e) ls es q =
 outcome-one (translated.Refused n p v) (translated.Refused m r w) ls es q =
     let x : refusalAt n p (v .0) ≡ refusalAt m r (w .0) = refused-inj (ap (λ (o : Outcome). o .verdict) q) in
     λ i. translated.Refused (x i .number) (x i .place) (record { 0 = x i .node })
+
+pub found-one : (a b : Found) → foundOf a ≡ foundOf b → a ≡ b
+found-one (found.At n) (found.At m) e = cc
+found-one (found.At n) found.Nothing e = never (cc)
+found-one found.Nothing (found.At m) e = never (cc)
+found-one found.Nothing found.Nothing e = refl
+
+pub found-numbers-one : (x y : Option ℕ) → foundNumbers x ≡ foundNumbers y → x ≡ y
+found-numbers-one (some n) (some m) e = λ i. some (e i .1)
+found-numbers-one (some n) none e = never (sym (ap (λ z. z .0) e))
+found-numbers-one none (some m) e = never (ap (λ z. z .0) e)
+found-numbers-one none none e = refl
 
 -- only a step to a next statement tells a branch and that statement
 pub halted-numbers : (a : StepAnswer) → Halted a → drop 2 (stepNumbers a) ≡ 0 ∷ 0 ∷ []

@@ -195,7 +195,10 @@ module _ (r : Routine) (G : GoodStarts r) where
       (λ e k. let p = explored-fits i (locAt ls i) (getD-in ls (failed 0 leak) i (edge-below sts ls i e k)) in
       (good-edge sts (locAt ls i) (p .0) e k .1, edge-stmt sts (locAt ls i) (p .1) e k)) l h
 
-  explored-once : (i : ℕ) → Distinct (explored (r .stmts) (r .starts) i .locs)
+  pub explored-good : (i : ℕ) (l : Loc) → In l (explored (r .stmts) (r .starts) i .locs) → GoodLoc l
+  explored-good i l h = explored-fits i l h .0
+
+  pub explored-once : (i : ℕ) → Distinct (explored (r .stmts) (r .starts) i .locs)
   explored-once zero = distinct-map (at 0) (r .starts) (λ x y i j e. cc) (G .distinct)
   explored-once (suc i) =
       let t = explored (r .stmts) (r .starts) i in

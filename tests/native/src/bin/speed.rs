@@ -1,6 +1,8 @@
 //! speed: times of the proved library, of the second translator and, where it was linked, of a translator in C, on the same inputs in
 //! one run. Prints, and judges nothing but that the translator in C answers as the proved library does, damaged inputs too.
 
+#[path = "speed/searches.rs"]
+mod searches;
 #[path = "speed/walks.rs"]
 mod walks;
 
@@ -152,6 +154,8 @@ fn translations() {
             ours / c
         );
     }
+    names.retain(|path| ["-median", "-big-"].iter().any(|kind| path.to_string_lossy().contains(kind)));
+    searches::looks(&names);
     names.retain(|path| path.to_string_lossy().contains("-big-"));
     growth(&std::fs::read(&names[0]).unwrap());
     println!("\nwithout the checks of the input, and ours without the search for known locations, ns an edge:");
@@ -198,7 +202,7 @@ fn parts(input: &[u8]) -> [f64; 3] {
     let [mut ee, mut es, mut ss, mut et, mut st] = [0.0; 5];
     for (&places, times) in sizes.iter().zip(&least).skip(1) {
         let edges = reached(input, places);
-        let (e, s, t) = (edges as f64, looked_at(input, edges) as f64, times[0] - least[0][0]);
+        let (e, s, t) = (edges as f64, searches::looked_at(input, edges) as f64, times[0] - least[0][0]);
         // each point weighs as its relative error, so that the small tables count too
         let w = 1.0 / (t * t);
         (ee, es, ss, et, st) = (ee + w * e * e, es + w * e * s, ss + w * s * s, et + w * e * t, st + w * s * t);
@@ -206,20 +210,6 @@ fn parts(input: &[u8]) -> [f64; 3] {
     let d = ee * ss - es * es;
     let c = (least[5][1] - least[0][1]) / reached(input, sizes[5]) as f64;
     [(et * ss - st * es) / d, (st * ee - et * es) / d, c]
-}
-
-/// How many records a search from the first on looks at for the first so many edges of the listing.
-fn looked_at(input: &[u8], edges: usize) -> usize {
-    let mut table = vec![0; 65_536];
-    native::translate(input, &mut [0; 32_768], &mut table);
-    let mut known = input.chunks(32).filter(|record| record[0] == 0x48).count();
-    let mut looked = 0;
-    for record in table.chunks(32).take(edges) {
-        let to = usize::from(u16::from_le_bytes([record[4], record[5]]));
-        looked += if to < known { to + 1 } else { known };
-        known = known.max(to + 1);
-    }
-    looked
 }
 
 /// The edges found before the tables are full: the least number of edge places with which 11 still comes.

@@ -6,6 +6,7 @@ use native::damage::{among_shapes, any_values, counters_of, drawn_routine, many_
 use native::draw::{damage_record, damaged_image, image, statement, Draw};
 use native::joined::{any_image, drop_of};
 use native::rings::{exact, fork, full, plain_ring, ring, ring_at_border, FULL};
+use native::searches::drawn_search;
 use native::stream::Stream;
 use reference::selftest::damaged_shapes;
 use reference::walk_damage::{self, DrawnWalk};
@@ -25,6 +26,7 @@ const EACH_NODE: usize = 100;
 const BY_CHANCE: usize = 1_000;
 /// So many turns of the aims of walks.
 const TURNS: usize = 70;
+const SEARCHES: usize = 6_000;
 
 /// The bytes of the bench's tables.
 const BENCH: [usize; 2] = [4_096, 8_192];
@@ -257,9 +259,13 @@ fn walks(out: &mut Stream, d: &mut Draw) {
     }
 }
 
+fn searches(out: &mut Stream, d: &mut Draw) {
+    (0..SEARCHES).for_each(|_| out.searching(&drawn_search(d)));
+}
+
 fn batch(seed: u64) -> Stream {
     let (mut out, mut d) = (Stream::default(), Draw::new(seed));
-    for kind in [translations, folds, steps, drops, unfoldings, records, damaged, walks] {
+    for kind in [translations, folds, steps, drops, unfoldings, records, damaged, walks, searches] {
         kind(&mut out, &mut d);
     }
     out
