@@ -8,7 +8,7 @@ use Rattle.model.specs.Base.{mostLocations}
 use Rattle.model.specs.Edges.{Loc}
 use Rattle.model.specs.Records.{locRecord}
 use Rattle.model.specs.Translate.{check, good, places, tableOf}
-use Rattle.model.proofs.listings.FullListing.{explored-once}
+use Rattle.model.proofs.listings.Exact.{starts-distinct}
 use Rattle.model.proofs.records.Bytes.{table-empty}
 use Rattle.model.proofs.records.Checked.{check-good}
 use Rattle.model.specs.Notions.{In}
@@ -44,7 +44,7 @@ module _ (s : List ℕ) (n m : ℕ) (g : check s ≡ good (routineIn n s)) (A : 
     edgeNumber = refl;
     locsFit = omega (arith, count-is s n m g A);
     edgesFit = omega arith;
-    distinct = explored-once (routineIn n s) (check-good s (routineIn n s) g) 0;
+    distinct = starts-distinct (routineIn n s .starts) (check-good s (routineIn n s) g .distinct);
     goodLocs = start-writable s n m g A;
     goodLinks = λ k i. absurd i;
   }

@@ -61,8 +61,8 @@ fn same_by_key(table: &[u8], at: usize, rec: &[u8], k: u64) -> bool
     same_at(table, at, rec)
 }
 
-// The newest of the table's first `count` records that equals rec, or `count`: a target that is known is nearly always
-// among the last few.
+// The newest of the table's first `count` records that equals rec, or `count`: looked for from the newest back, as 02,
+// job 8, asks.
 pub fn find(table: &[u8], count: usize, rec: &[u8]) -> usize
     requires { ⌜ (recordSize * count ≤ length (now table)) × (length (now rec) ≡ recordSize) ⌝ }
     ensures { λ r. ⌜ r ≡ foundAt (now (table .entry)) (now (rec .entry)) count ⌝ }

@@ -20,7 +20,7 @@ use Rattle.model.specs.Notions.{Distinct, In}
 use Rattle.model.proofs.lists.Lists.{getD-in, in-append-cases, in-getD, in-joined, in-map, joined-in, joined-snoc, map-in}
 use Rattle.model.proofs.lists.Logic.{bool-case, not-true}
 use Rattle.model.proofs.lists.Numbers.{numbers-in, numbers-snoc}
-use Rattle.model.proofs.shapes.Same.{Prefix, prefix-getD, prefix-in, prefix-place, prefix-trans}
+use Rattle.model.proofs.shapes.Same.{Prefix, distinct-map, prefix-getD, prefix-in, prefix-place, prefix-trans}
 
 -- ---- lists
 
@@ -92,16 +92,8 @@ edge-below sts ls i e h = bool-case (ltb i (length ls)) (λ q. ltb-true i (lengt
     (λ q. absurd (subst (λ l. In e (edgesOf sts l))
     (List·getD-eq-default ls (failed 0 leak) (ltb-false i (length ls) q)) h))
 
-starts-distinct : (hs : List Heap) → Distinct hs → Distinct (map (at 0) hs)
-starts-distinct [] k = tt
-starts-distinct (h ∷ hs) k = (
-  (λ q. let r = in-map (at 0) (at 0 h) hs q in
-      let g = r .0 in
-      let z : at 0 h ≡ at 0 g = r .2 in
-      let e : g ≡ h = cc in
-      k .0 (subst (λ x. In x hs) e (r .1))),
-  starts-distinct hs (k .1),
-)
+pub starts-distinct : (hs : List Heap) → Distinct hs → Distinct (map (at 0) hs)
+starts-distinct hs = distinct-map (at 0) hs (λ x y i j e. cc)
 
 module _ (sts : List Stmt) (hs : List Heap) where
   explored-sound : (i : ℕ) (l : Loc) → In l (explored sts hs i .locs) → Reached sts hs l
@@ -111,7 +103,7 @@ module _ (sts : List Stmt) (hs : List Heap) where
       extend-all (Reached sts hs) i (edgesOf sts (locAt ls i)) (explored sts hs i) (explored-sound i)
       (λ e k. by-edge e (explored-sound i (locAt ls i) (getD-in ls (failed 0 leak) i (edge-below sts ls i e k))) k) l h
 
-  explored-distinct : Distinct hs → (i : ℕ) → Distinct (explored sts hs i .locs)
+  pub explored-distinct : Distinct hs → (i : ℕ) → Distinct (explored sts hs i .locs)
   explored-distinct k zero = starts-distinct hs k
   explored-distinct k (suc i) = extend-distinct i (edgesOf sts (locAt (explored sts hs i .locs) i))
       (explored sts hs i) (explored-distinct k i)

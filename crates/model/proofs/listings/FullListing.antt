@@ -14,8 +14,8 @@ use Rattle.model.specs.Records.{locRecord, slotByte, valByte}
 use Rattle.model.specs.Translate.{Listing, Routine, check, good}
 use Rattle.model.proofs.records.Checked.{GoodStarts, check-good}
 use Rattle.model.proofs.lists.Digits.{Below, code-below, code-injective, codeOf}
-use Rattle.model.proofs.listings.Exact.{edge-below}
-use Rattle.model.proofs.listings.Listing.{explored-end, explored-prefix, extend-all, extend-distinct}
+use Rattle.model.proofs.listings.Exact.{edge-below, explored-distinct}
+use Rattle.model.proofs.listings.Listing.{explored-end, explored-prefix, extend-all}
 use Rattle.model.specs.Listings.{IsFull, SmallSlot, SmallVal, WritableLoc, explored, locAt, GoodLoc}
 use Rattle.model.specs.Notions.{Distinct, In, NoDup}
 use Rattle.model.proofs.lists.Lists.{getD-in, in-append-cases, in-joined, in-map, in-single, mem-in}
@@ -24,7 +24,7 @@ use Rattle.model.proofs.listings.Moves.{good-writable}
 use Rattle.model.proofs.visits.Order.{pigeon}
 use Rattle.model.proofs.listings.Reached.{good-edge}
 use Rattle.model.proofs.records.ReadBack.{location-injective, record-length}
-use Rattle.model.proofs.shapes.Same.{prefix-length}
+use Rattle.model.proofs.shapes.Same.{distinct-map, prefix-length}
 
 -- ---- the record of a location as a number
 
@@ -78,15 +78,6 @@ loc-below c (failed s f) b k W x (inr (inr (inl e))) = omega (arith, fault-byte 
 loc-below c (failed s f) b k W x (inr (inr (inr i))) = omega (arith, zero-in x 29 i)
 
 -- ---- finitely many locations
-
-distinct-map : {A B : Type 0} (f : A → B) (l : List A) → ((x y : A) → In x l → In y l → f x ≡ f y → x ≡ y)
-    → Distinct l → Distinct (map f l)
-distinct-map f [] h d = tt
-distinct-map f (x ∷ l) h d = (
-  (λ i. let r = in-map f (f x) l i in d .0 (subst (λ z. In z l) (sym (h x (r .0) (inl refl) (inr (r .1)) (r .2)))
-      (r .1))),
-  distinct-map f l (λ y z i j. h y z (inr i) (inr j)) (d .1),
-)
 
 distinct-nodup : (l : List ℕ) → Distinct l → NoDup l
 distinct-nodup [] d = tt
@@ -198,12 +189,6 @@ module _ (r : Routine) (G : GoodStarts r) where
   pub explored-good : (i : ℕ) (l : Loc) → In l (explored (r .stmts) (r .starts) i .locs) → GoodLoc l
   explored-good i l h = explored-fits i l h .0
 
-  pub explored-once : (i : ℕ) → Distinct (explored (r .stmts) (r .starts) i .locs)
-  explored-once zero = distinct-map (at 0) (r .starts) (λ x y i j e. cc) (G .distinct)
-  explored-once (suc i) =
-      let t = explored (r .stmts) (r .starts) i in
-      extend-distinct i (edgesOf (r .stmts) (locAt (t .locs) i)) t (explored-once i)
-
 -- an exploration that never has more than b locations ends
 full-within : (r : Routine) (b : ℕ) → ((i : ℕ) → length (explored (r .stmts) (r .starts) i .locs) ≤ b) → (t : Listing)
     × IsFull r t
@@ -222,5 +207,5 @@ full-exists s r e =
     let G = check-good s r e in
     let c = radix (r .stmts) in
     full-within r (c ^ 32)
-    (λ i. locs-few c (radix-byte (r .stmts)) (explored (r .stmts) (r .starts) i .locs) (explored-once r G i)
-    (explored-fits r G i))
+    (λ i. locs-few c (radix-byte (r .stmts)) (explored (r .stmts) (r .starts) i .locs)
+    (explored-distinct (r .stmts) (r .starts) (G .distinct) i) (explored-fits r G i))

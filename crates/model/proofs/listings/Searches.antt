@@ -8,7 +8,7 @@ use mathlib.Core.List.{List, [], _++_, map}
 use mathlib.Core.Option.{Option, none, some}
 use native.Mathlib.Omega.{arith}
 use lib.Dec.{eqb, ltb}
-use lib.ListN.{drop, getD, length, length-drop, length-map}
+use lib.ListN.{drop, getD, length, length-drop, length-map, replicate}
 use lib.Seq.{length-take-le}
 use borrow.Author.Tests.{le-ltb, lt-ltb, ltb-false, ltb-true}
 use Rattle.model.specs.Base.{any, placeOf, sameList}
@@ -19,8 +19,8 @@ use Rattle.model.specs.Notions.{Distinct, In}
 use Rattle.model.specs.Records.{isAccepted, locRecord, recordAt}
 use Rattle.model.specs.Search.{Equal, TellsNewest, cutCount, equalAt, highestBelow, numberBelow, searched}
 use Rattle.model.specs.Translate.{Listing, Routine, places, tableOf, translate}
-use Rattle.model.proofs.listings.Exact.{edge-below}
-use Rattle.model.proofs.listings.FullListing.{explored-good, explored-once}
+use Rattle.model.proofs.listings.Exact.{edge-below, explored-distinct}
+use Rattle.model.proofs.listings.FullListing.{explored-good}
 use Rattle.model.proofs.listings.Listing.{extend-all, extend-distinct}
 use Rattle.model.proofs.listings.Moves.{good-writable}
 use Rattle.model.proofs.listings.Outcomes.{fitting, records-distinct}
@@ -34,6 +34,15 @@ use Rattle.model.proofs.records.ReadBack.{location-injective, record-le
 use Rattle.model.proofs.shapes.Same.{bytes-same, distinct-at, loc-same, place-found, place-none, place-passes, same-bytes-refl, same-loc-refl}
 
 -- ---- any table, count and record
+
+-- the one record of a table is found, and where there is no place nothing is, as it is computed
+one-found : searched (replicate 32 7) 1 (replicate 32 7) ≡ some 0
+unfolding searched
+one-found = refl
+
+no-place : searched [] 1 [] ≡ none
+unfolding searched
+no-place = refl
 
 module _ (t : List ℕ) (n : ℕ) (r : List ℕ) where
   equal-is : (i : ℕ) → i < cutCount t n → equalAt t r i ≡ true → Equal t n r i
@@ -142,7 +151,7 @@ module _ (r : Routine) (G : GoodStarts r) (i : ℕ) (es later : List Edge)
   t = explored (r .stmts) (r .starts) i
 
   now-once : Distinct (extend i es t .locs)
-  now-once = extend-distinct i es t (explored-once r G i)
+  now-once = extend-distinct i es t (explored-distinct (r .stmts) (r .starts) (G .distinct) i)
 
   now-good : (l : Loc) → In l (extend i es t .locs) → GoodLoc l
   now-good = extend-all GoodLoc i es t (explored-good r G i) (λ e h.

@@ -47,8 +47,8 @@ one-search = (found-one, found-numbers-one)
 -- "All listings, numbers and refusals come out equal": whenever an edge is added, its target is looked for among the
 -- locations known then. These are distinct, so that the newest record that is equal is the first one, whose number
 -- `addEdges` gives the target; and none is equal where that number is the next. This is so before each edge of each
--- location, of every routine that passes the checks, whatever the target and in a table of any length that has the
--- places.
+-- location, of every routine that passes the checks, whatever location is looked for that a record can hold, as every
+-- target is, and in a table of any length that has the places.
 abbrev pub KnownIsFirst : Type 0
 KnownIsFirst = (s : List ℕ) (r : Routine) → check s ≡ good r
     → (i : ℕ) (es later : List Edge)

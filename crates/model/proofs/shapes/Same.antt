@@ -5,7 +5,7 @@ use mathlib.Core.Path.{_∙_, _≡_, ap, ap₂, refl, subst, sym}
 use mathlib.Core.Logic.{inl, inr, ⊎-elim}
 use mathlib.Core.Option.{none, some}
 use mathlib.Core.Bool.{Bool, false, true}
-use mathlib.Core.List.{List, [], _++_, _∷_, append-assoc, append-nil}
+use mathlib.Core.List.{List, [], _++_, _∷_, append-assoc, append-nil, map}
 use native.Mathlib.Omega.{arith}
 use lib.Dec.{eqb, ltb}
 use lib.ListN.{List·getD-append, getD, getElem?, length, length-append}
@@ -15,7 +15,7 @@ use Rattle.model.specs.Edges.{Loc, at, failed, sameLoc}
 use Rattle.model.specs.Heap.{Heap, Slot, Val, cell, holds, null, sameHeap, sameSlot, sameVal, undef, unused}
 use Rattle.model.specs.Machine.{Fault, atNull, atUndef, faultNumber, leak}
 use Rattle.model.specs.Notions.{Distinct, In}
-use Rattle.model.proofs.lists.Lists.{getD-in, in-append-cases, in-append-l, some-inj, some-none}
+use Rattle.model.proofs.lists.Lists.{getD-in, in-append-cases, in-append-l, in-map, some-inj, some-none}
 use Rattle.model.proofs.lists.Logic.{and-both, and-l, and-r, bool-case, clash, eqb-same, or-false-l, or-false-r}
 
 pub val-same : (v w : Val) → sameVal v w ≡ true → v ≡ w
@@ -148,6 +148,15 @@ distinct-at (x ∷ l) d zero zero k h h′ e = refl
 distinct-at (x ∷ l) d zero (suc j) k h h′ e = absurd (k .0 (subst (λ z. In z l) (sym e) (getD-in l d j (omega arith))))
 distinct-at (x ∷ l) d (suc i) zero k h h′ e = absurd (k .0 (subst (λ z. In z l) e (getD-in l d i (omega arith))))
 distinct-at (x ∷ l) d (suc i) (suc j) k h h′ e = ap suc (distinct-at l d i j (k .1) (omega arith) (omega arith) e)
+
+pub distinct-map : {A B : Type 0} (f : A → B) (l : List A) → ((x y : A) → In x l → In y l → f x ≡ f y → x ≡ y)
+    → Distinct l → Distinct (map f l)
+distinct-map f [] h d = tt
+distinct-map f (x ∷ l) h d = (
+  (λ i. let r = in-map f (f x) l i in d .0 (subst (λ z. In z l) (sym (h x (r .0) (inl refl) (inr (r .1)) (r .2)))
+      (r .1))),
+  distinct-map f l (λ y z i j. h y z (inr i) (inr j)) (d .1),
+)
 
 pub distinct-snoc : {A : Type 0} (l : List A) (x : A) → Distinct l → (In x l → ⊥) → Distinct (l ++ x ∷ [])
 distinct-snoc [] x k h = ((λ z. z), tt)
