@@ -8,7 +8,7 @@ ghost use Rattle.model.specs.Base.{sameList, recordSize};
 ghost use Rattle.search.specs.Search.{foundAt, fourAt, eightAt, keyAt};
 
 // Four bytes as a number, the low byte first.
-fn four(t: &[u8], at: usize) -> u32
+pub fn four(t: &[u8], at: usize) -> u32
     requires { ⌜ at + 4 ≤ length (now t) ⌝ }
     ensures { λ r. ⌜ r ≡ fourAt (now (t .entry)) at ⌝ }
 {
@@ -42,7 +42,7 @@ fn same_eight(table: &[u8], at: usize, rec: &[u8], from: usize) -> bool
 }
 
 // Whether the 32 bytes at `at` are those of rec.
-fn same_at(table: &[u8], at: usize, rec: &[u8]) -> bool
+pub fn same_at(table: &[u8], at: usize, rec: &[u8]) -> bool
     requires { ⌜ (at + recordSize ≤ length (now table)) × (length (now rec) ≡ recordSize) ⌝ }
     ensures { λ r. ⌜ r ≡ sameList eqb (take recordSize (drop at (now (table .entry)))) (now (rec .entry)) ⌝ }
 {
