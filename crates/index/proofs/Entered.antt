@@ -6,17 +6,17 @@ use mathlib.Core.List.{List, [], _∷_, _++_, map, map-append}
 use mathlib.Core.Option.{Option, none, some}
 use native.Mathlib.Omega.{arith}
 use native.Mathlib.Numerals.{add-one}
-use lib.Dec.{eqb}
+use lib.Dec.{eqb, ltb}
 use lib.ListN.{List·getD-append, getD, getD-replicate, length, length-append, length-map, length-replicate, length-set, replicate, set, take}
 use lib.Seq.{getD-append-seam, getD-set-other, getD-set-same, length-take-le, take-all, take-suc}
-use borrow.Author.Tests.{eq-eqb, eqb-false}
+use borrow.Author.Tests.{eq-eqb, eqb-false, ltb-false}
 use Rattle.model.specs.Notions.{In}
 use Rattle.model.specs.Records.{recordAt}
 use Rattle.model.specs.Search.{highestBelow}
 use Rattle.model.specs.Translate.{tableOf}
 use Rattle.model.proofs.lists.Logic.{eq-case}
 use Rattle.model.proofs.records.Bytes.{table-record}
-use Rattle.index.specs.Index.{Indexed, after, chainOf, entered, hasHash, hashOf, headOf}
+use Rattle.index.specs.Index.{Indexed, after, chainOf, entered, hasHash, hashOf, headOf, indexKept}
 use Rattle.index.proofs.Chains.{highest-agree}
 
 module _ (hs : List ℕ) (h : ℕ) where
@@ -96,6 +96,18 @@ module _ (hs : List ℕ) (h : ℕ) where
       heads = heads;
       chains = chains;
     }
+
+-- a location with number j of n is kept: it is known, or it is entered
+module _ (hs : List ℕ) (ix : List ℕ) (I : Indexed hs ix) (n j h : ℕ) (count : n ≡ length hs) (few : j < 1024)
+    (low : h < 512) where
+  by-known : (b : Bool) → ltb j n ≡ b → Indexed (cond b hs (hs ++ h ∷ [])) (cond b ix (entered ix n h))
+  by-known true e = I
+  by-known false e =
+      let le = ltb-false j n e in
+      subst (λ k. Indexed (hs ++ h ∷ []) (entered ix k h)) (sym count) (entered-indexed hs h ix I (omega arith) low)
+
+  pub kept-indexed : Indexed (cond (ltb j n) hs (hs ++ h ∷ [])) (indexKept ix n j h)
+  kept-indexed = by-known (ltb j n) refl
 
 -- no location is entered
 pub none-indexed : Indexed [] (replicate 1536 0)
