@@ -37,9 +37,10 @@ abbrev pub listedBy : Counts → Translated
 listedBy c = translated.Listed (c .locations) (c .edges)
 
 -- a listing held in the tables
-listed-held : (t : Listing) (ls es : List ℕ) (c : Counts) (a b : ℕ) → length ls ≡ a → length es ≡ b → Holds t ls es c
+listed-held : (t : Listing) (ls es ix : List ℕ) (c : Counts) (a b : ℕ) → length ls ≡ a → length es ≡ b
+    → Holds t ls es ix c
     → outcomeOf (listedBy c) ls es ≡ listedWith a b t
-listed-held t ls es c a b p q H =
+listed-held t ls es ix c a b p q H =
     (λ k. outcomeOf (translated.Listed (H .locNumber k) (H .edgeNumber k)) (H .locs k) (H .edges k))
     ∙ (λ k. listedWith (p k) (q k) t)
 
