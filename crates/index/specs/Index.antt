@@ -26,8 +26,8 @@ indexSize = 1536
 -- locations of large listings.
 abbrev pub hashSum : List ℕ → ℕ
 hashSum r =
-    fourAt r 1 * 0x1337_79b1 + fourAt r 5 * 0x1c3a_f9d3 + fourAt r 9 * 0x15a4_0e35 + fourAt r 13 * 0x1b87_3593
-    + fourAt r 17 * 0xf4b_a5ed
+    fourAt r 0 * 0x1337_79b1 + fourAt r 4 * 0x1c3a_f9d3 + fourAt r 8 * 0x15a4_0e35 + fourAt r 12 * 0x1b87_3593
+    + fourAt r 16 * 0xf4b_a5ed + fourAt r 20 * 0x2b_a5ed
 
 abbrev pub hashOf : List ℕ → ℕ
 hashOf r = (hashSum r / 0x4000_0000) % hashCount
