@@ -13,7 +13,7 @@ use Rattle.model.specs.Base.{mostLocations, recordSize}
 use Rattle.model.specs.Notions.{In}
 use Rattle.model.specs.Search.{highestBelow}
 use Rattle.model.specs.Translate.{tableOf}
-use Rattle.search.specs.Search.{fourAt}
+use Rattle.word.specs.Words.{fourAt}
 
 -- how many hashes there are, and how many places the index has: one for each hash, and one for each of 1,024 locations
 abbrev pub hashCount : ℕ

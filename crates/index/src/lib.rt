@@ -1,6 +1,6 @@
 // The index of the locations known in one translation, by hashes of their records, lent by the caller: a search looks
 // at the records with one hash alone, from the newest back. A hash that spreads badly costs time and nothing else.
-use search::four;
+use word::four;
 ghost use mathlib.Core.Path.{_≡_};
 ghost use Prim.Native.Nat.{_+_, _*_, _<_, _≤_};
 ghost use lib.ListN.{getD, length};
