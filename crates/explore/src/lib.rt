@@ -19,7 +19,7 @@ fn copy_record(part: &[u8], rec: &mut [u8])
     requires { ⌜ (recordSize ≤ length (now part)) × (length (now rec) ≡ recordSize) ⌝ }
     ensures { λ _. ⌜ now (rec .exit) ≡ take recordSize (now (part .entry)) ⌝ }
 {
-    bytes::copy(&part[..model::RECORD], rec);
+    word::copy_record(part, rec);
 }
 
 // Where a statement's record begins in the input.

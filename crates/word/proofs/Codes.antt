@@ -2,11 +2,11 @@
 use Prim.Native.Nat.{ℕ, suc, _+_, _*_, _/_, _%_, _^_, _≤_, _<_}
 use mathlib.Core.Path.{_≡_, refl, sym, ap, ap₂, subst, _∙_}
 use mathlib.Core.Logic.{inl, inr}
-use mathlib.Core.List.{List, [], _∷_, _++_, append-assoc}
+use mathlib.Core.List.{List, [], _∷_, _++_, append-assoc, append-nil}
 use native.Mathlib.Nat.{add-assoc, add-mul-div-left, add-mul-mod-self-left, div-eq-of-lt, mod-eq-of-lt, mul-add, mul-assoc, pow-succ', pow-zero}
 use native.Mathlib.Omega.{arith}
-use lib.ListN.{take, drop, getD, length, length-take, length-drop, take-append-drop}
-use lib.Seq.{drop-at, drop-cons, drop-drop, length-take-le, take-add, take-at}
+use lib.ListN.{take, drop, drop-of-length-le, getD, length, length-take, length-drop, set, take-append-drop}
+use lib.Seq.{drop-at, drop-cons, drop-drop, length-take-le, take-add, take-all, take-at}
 use Rattle.model.specs.Notions.{In}
 use Rattle.model.specs.Records.{word}
 use Rattle.model.proofs.lists.Digits.{Below, codeOf}
@@ -101,3 +101,52 @@ copied-more a from to h =
     ap₂ (λ x y. x ++ (take 8 (drop a from) ++ y)) front back
     ∙ sym (append-assoc (take a from) (take 8 (drop a from)) (drop (a + 8) to))
     ∙ ap (λ x. x ++ drop (a + 8) to) (sym (take-add a 8 from))
+
+-- a record copied over one of its length is the record
+pub copied-all : (from to : List ℕ) → length from ≡ 32 → length to ≡ 32 → copiedTo 32 from to ≡ from
+copied-all from to h k =
+    let short : length to ≤ 32 = omega arith in
+    ap₂ _++_ (take-all 32 from (omega arith)) (drop-of-length-le to short) ∙ append-nil from
+
+-- ---- the first word of a record
+
+-- a record whose second byte is replaced in its first word
+pub second-put : (l : List ℕ) (t : ℕ) → 8 ≤ length l → Bytes l → t < 256
+    → bytesOf 8 (eightAt l 0 % 256 + 256 * t + 0x1_0000 * (eightAt l 0 / 0x1_0000)) ++ drop 8 l ≡ set l 1 t
+second-put [] t h B k = absurd (omega arith)
+second-put (a ∷ []) t h B k = absurd (omega arith)
+second-put (a ∷ b ∷ r) t h B k =
+    let l = a ∷ b ∷ r in
+    let d = a ∷ t ∷ take 6 r in
+    let n : length (take 6 r) ≡ 6 = length-take-le 6 r (omega arith) in
+    let e : eightAt l 0 ≡ a + 256 * (b + 256 * codeOf 256 (take 6 r)) = eight-code l 0 h in
+    let x : eightAt l 0 % 256 + 256 * t + 0x1_0000 * (eightAt l 0 / 0x1_0000) ≡ codeOf 256 d =
+    omega (arith, e, B 0, B 1) in
+    let m : 8 ≡ length d = omega (arith, n) in
+    let low : Below 256 d = λ y i. second-low y i in
+    ap (λ z. z ++ drop 6 r) ((λ i. bytesOf (m i) (x i)) ∙ bytes-code d low)
+    ∙ ap (λ z. a ∷ t ∷ z) (take-append-drop 6 r)
+  where
+    second-low : (y : ℕ) → In y (a ∷ t ∷ take 6 r) → y < 256
+    second-low y (inl e) = subst (λ z. z < 256) (sym e) (B 0)
+    second-low y (inr (inl e)) = subst (λ z. z < 256) (sym e) k
+    second-low y (inr (inr i)) = part-below (a ∷ b ∷ r) 2 6 B y i
+
+-- a word of three bytes, and zeros
+pub three-bytes : (a b c : ℕ) → a < 256 → b < 256 → c < 256
+    → bytesOf 8 (a + 0x100 * b + 0x1_0000 * c) ≡ a ∷ b ∷ c ∷ 0 ∷ 0 ∷ 0 ∷ 0 ∷ 0 ∷ []
+three-bytes a b c h k l =
+    let d = a ∷ b ∷ c ∷ 0 ∷ 0 ∷ 0 ∷ 0 ∷ 0 ∷ [] in
+    let x : a + 0x100 * b + 0x1_0000 * c ≡ codeOf 256 d = omega arith in
+    ap (bytesOf 8) x ∙ bytes-code d low
+  where
+    low : (y : ℕ) → In y (a ∷ b ∷ c ∷ 0 ∷ 0 ∷ 0 ∷ 0 ∷ 0 ∷ []) → y < 256
+    low y (inl e) = omega (arith, e)
+    low y (inr (inl e)) = omega (arith, e)
+    low y (inr (inr (inl e))) = omega (arith, e)
+    low y (inr (inr (inr (inl e)))) = omega (arith, e)
+    low y (inr (inr (inr (inr (inl e))))) = omega (arith, e)
+    low y (inr (inr (inr (inr (inr (inl e)))))) = omega (arith, e)
+    low y (inr (inr (inr (inr (inr (inr (inl e))))))) = omega (arith, e)
+    low y (inr (inr (inr (inr (inr (inr (inr (inl e)))))))) = omega (arith, e)
+    low y (inr (inr (inr (inr (inr (inr (inr (inr i)))))))) = absurd i
