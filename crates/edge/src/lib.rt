@@ -104,7 +104,10 @@ fn move_to(location: &[u8], to: Statement, target: &mut [u8])
 {
     word::copy_record(location, target);
     let first = word::eight(location, 0);
-    word::put_eight(target, first % 256 + 256 * (to.0 as u64) + 0x1_0000 * (first / 0x1_0000));
+    word::put_eight(
+        target,
+        first % 256 + 256 * (to.0 as u64) + 0x1_0000 * (first / 0x1_0000),
+    );
 }
 
 // The edge of a statement that is done and keeps the shape: the counters stay too.

@@ -2,7 +2,7 @@
 use Prim.Native.Nat.{ℕ, zero, suc, _+_, _*_, _≤_, _<_}
 use mathlib.Core.Path.{_≡_, refl, sym, ap, _∙_}
 use mathlib.Core.Bool.{Bool, true, false, cond}
-use mathlib.Core.List.{List, [], map}
+use mathlib.Core.List.{List, [], _∷_, map}
 use mathlib.Core.Option.{Option, none, some}
 use native.Mathlib.Omega.{arith}
 use lib.ListN.{getD, length, length-map}
@@ -16,11 +16,14 @@ use Rattle.model.proofs.records.Bytes.{table-record}
 use Rattle.model.proofs.shapes.Same.{bytes-same}
 use Rattle.search.specs.Search.{foundAt, numberOr}
 use Rattle.search.proofs.Found.{found-next, foundBelow}
-use Rattle.index.specs.Index.{FindReady, after, hasHash, hashOf}
+use Rattle.index.specs.Index.{FindReady, after, chainOf, hasHash, hashOf, headOf}
 
--- of two that pass, the higher stands in the index as the number after it, as it is computed
-two-pass : after (highestBelow 2 (λ i. true)) ≡ 2
-two-pass = refl
+-- of three locations, the last two with one hash, the head is the newest and its chain the other, as it is computed
+head-newest : headOf (5 ∷ 7 ∷ 7 ∷ []) 7 ≡ 3
+head-newest = refl
+
+chain-before : chainOf (5 ∷ 7 ∷ 7 ∷ []) 2 ≡ 2
+chain-before = refl
 
 module _ (p : ℕ → Bool) (n : ℕ) where
   most : (o : Option ℕ) → TellsHighest n p o → after o ≤ n

@@ -11,6 +11,7 @@ ghost use Rattle.index.specs.Index.{EnterAllReady, EntersAll, FindReady,
 
 // How many hashes there are, and how many places the index has: one for each hash and each location.
 pub const HASHES: usize = 512;
+
 pub const SIZE: usize = 1536;
 
 // The hash of a record: of its first 24 bytes, since those after them are zero. They are read at the places where they

@@ -38,7 +38,10 @@ pub fn write_fault(part: &mut [u8], statement: Statement, fault: u8)
 {
     blank(part);
     // the first eight bytes at once, since they are read as words soon after
-    word::put_eight(part, 0x4c + 0x100 * (statement.0 as u64) + 0x1_0000 * (fault as u64));
+    word::put_eight(
+        part,
+        0x4c + 0x100 * (statement.0 as u64) + 0x1_0000 * (fault as u64),
+    );
 }
 
 // An L record with the shape that the record rec has: the part is that of the location table from 32 times its number
