@@ -11,7 +11,7 @@ use Rattle.model.specs.Heap.{Heap, Val, cell, null, ptr, undef, unused}
 use Rattle.model.specs.Image.{cellSlot, heapOf}
 use Rattle.model.specs.Machine.{action}
 use Rattle.model.specs.Records.{opCount, opOf, valOf}
-use Rattle.model.specs.Structs.{keepsAt, opIn}
+use Rattle.model.specs.Structs.{cutsAt, keepsAt, opIn}
 use Rattle.model.specs.Notions.{In}
 use Rattle.model.proofs.lists.Lists.{getD-map, map-in, mem-in}
 use Rattle.model.proofs.lists.Logic.{eq-case}
@@ -19,7 +19,7 @@ use Rattle.model.proofs.records.Bytes.{val-cell}
 use Rattle.model.proofs.records.Ops.{each-op}
 use Rattle.model.specs.declared.Decoded.{Decoded}
 use Rattle.effect.specs.Effect.{Named}
-use Rattle.image_run.specs.Taken.{Stands, TakenReady, cutsAt, nextAt, takes}
+use Rattle.image_run.specs.Taken.{Stands, TakenReady, nextAt, takes}
 
 -- ---- which value it is
 

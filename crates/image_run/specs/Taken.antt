@@ -1,9 +1,7 @@
 -- What a statement takes away: the value through which the cells that it loses, if any, were reached. Assumes nothing.
 use Prim.Native.Nat.{ℕ}
 use mathlib.Core.Path.{_≡_}
-use mathlib.Core.Bool.{Bool, _||_}
 use mathlib.Core.List.{List}
-use lib.Dec.{eqb}
 use lib.ListN.{length, getD}
 use Rattle.model.specs.Base.{pointerCount}
 use Rattle.model.specs.Heap.{Val, cell, null, undef, Slot, unused, Heap, ptr}
@@ -29,10 +27,6 @@ takes (link u s) h = nextAt (h .slots) (ptr h u)
 takes (splice u w) h = nextAt (h .slots) (ptr h u)
 takes (make u) h = ptr h u
 takes (release u) h = nextAt (h .slots) (ptr h u)
-
--- the ops, by number, that take the next of u's cell away
-abbrev pub cutsAt : ℕ → Bool
-cutsAt op = eqb op 4 || eqb op 5 || eqb op 7 || eqb op 12
 
 -- a value that is a cell is one of the list's
 abbrev pub Stands : Val → List Val → Type 0

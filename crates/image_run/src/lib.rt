@@ -11,7 +11,7 @@ ghost use Rattle.model.specs.Image.{cellSlot, heapOf};
 ghost use Rattle.model.specs.Records.{valOf};
 ghost use Rattle.model.specs.Structs.{keepsAt, opIn};
 ghost use Rattle.effect.specs.Effect.{Named};
-ghost use Rattle.image_run.specs.Taken.{Stands, TakenReady, cutsAt, nextAt, takes};
+ghost use Rattle.image_run.specs.Taken.{Stands, TakenReady, nextAt, takes};
 ghost use Rattle.image_run.specs.Run.{StepReady, RunOn, Finished};
 
 // Whether the op leaves the heap: stop, the tests, choose and skip.
@@ -19,13 +19,6 @@ fn leaves_heap(op: u8) -> bool
     ensures { λ r. ⌜ r ≡ keepsAt op ⌝ }
 {
     (op == 0) | ((8 <= op) & (op <= 11))
-}
-
-// Whether the op takes the next of u's cell away: u.next := null, u.next := w, free u, u.next := w.next.
-fn cuts_next(op: u8) -> bool
-    ensures { λ r. ⌜ r ≡ cutsAt op ⌝ }
-{
-    (op == 4) | (op == 5) | (op == 7) | (op == 12)
 }
 
 // The next of the cell that the value at names; null where it names none.
@@ -51,7 +44,7 @@ fn taken(d: Decoded, pointers: &[u8], cells: &[u8]) -> u8
     }
     let i = d.u.0 as usize;
     let v = pointers[i];
-    if cuts_next(d.op) {
+    if statement::cuts_next(d.op) {
         next_at(v, cells)
     } else {
         v
