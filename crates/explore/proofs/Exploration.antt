@@ -21,7 +21,8 @@ use Rattle.explore.specs.declared.Explored.the-variants as explored
 use Rattle.explore.specs.Explore.{AllExplored, ExploreReady, LocationExplored, StatementsOk, exploredIn}
 use Rattle.location_edges.specs.Added.{AddedTo, LocsOk}
 
--- The listing, of no fewer locations than m, stands in the tables ls and es, with its index; exploring it from location i on gives o.
+-- The listing, of no fewer locations than m, stands in the tables ls and es, with its index; exploring it from
+-- location i on gives o.
 pub record Left (m n cl ce : ℕ) (sts : List Stmt) (o : Explored) (ls es ix : List ℕ) (c : Counts) (i : ℕ)
     : Type 0 where
   pub list : Listing

@@ -130,7 +130,8 @@ module _ (ix : List ℕ) (h : ℕ) (t : List ℕ) (n : ℕ) (r : List ℕ) (i : 
 
   pub follow-chain : equalAt t r j ≡ false → Follows ix h t n r (getD ix (512 + j) 0)
   follow-chain o =
-      follow ix h t n r R j (getD ix (512 + j) 0) (omega (arith, F .below)) (F .rest ∙ found-next t r n i j e o) chain-is
+      follow ix h t n r R j (getD ix (512 + j) 0) (omega (arith, F .below))
+      (F .rest ∙ found-next t r n i j e o) chain-is
 
   pub place-within : 32 * j + 32 ≤ length t
   place-within = omega (arith, F .below, R .count, R .indexOf .fits)

@@ -26,7 +26,8 @@ module _ (hs : List ℕ) (h : ℕ) where
   -- of the hashes before the new one, the last with the hash g below j
   same-below : (g j : ℕ) → j < length hs + 1 → highestBelow j (hasHash hs g) ≡ highestBelow j (hasHash more g)
   same-below g j lt =
-      highest-agree (hasHash hs g) (hasHash more g) j (λ i k. ap (λ x. eqb x g) (sym (List·getD-append hs (h ∷ []) 0 i (omega arith))))
+      highest-agree (hasHash hs g) (hasHash more g) j (λ i k. ap (λ x. eqb x g)
+      (sym (List·getD-append hs (h ∷ []) 0 i (omega arith))))
 
   -- the hash of the new one
   newest : getD more (length hs) 0 ≡ h

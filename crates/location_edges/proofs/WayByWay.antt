@@ -22,7 +22,8 @@ use Rattle.location_edges.specs.LocationEdges.{AreWays, AtShape, EdgesAd
 use Rattle.location_edges.proofs.Added.{add-full, add-step, more, more-fine}
 use Rattle.location_edges.proofs.EdgesByWay.{edges-all, edges-none, edgesFrom, next-way}
 
--- The listing stands in the tables ls and es, with its index; adding all edges to t₀ gives the same as adding those left to it.
+-- The listing stands in the tables ls and es, with its index; adding all edges to t₀ gives the same as adding
+-- those left to it.
 pub record Left (n i cl ce : ℕ) (edges left : List Edge) (t₀ : Listing) (ls es ix : List ℕ) (c : Counts)
     : Type 0 where
   pub list : Listing

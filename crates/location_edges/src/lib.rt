@@ -24,8 +24,8 @@ fn add_way(
     i: usize,
 ) -> Grown
     requires { ⌜ WayGiven (now location) d way (now locations) (now edges) (now index) counts i ⌝ }
-    ensures { λ r. ⌜ WayAdded (now (location .entry)) d way (now (locations .entry)) (now (edges .entry)) (now (index .entry))
-        counts i (now (locations .exit)) (now (edges .exit)) (now (index .exit)) r ⌝ }
+    ensures { λ r. ⌜ WayAdded (now (location .entry)) d way (now (locations .entry)) (now (edges .entry))
+        (now (index .entry)) counts i (now (locations .exit)) (now (edges .exit)) (now (index .exit)) r ⌝ }
 {
     let mut target = [0u8; model::RECORD];
     let mut updates = [0u16; 16];
@@ -44,9 +44,10 @@ fn add_ways(
     counts: Counts,
     i: usize,
 ) -> Grown
-    requires { ⌜ ShapeGiven (now location) d (now locations) (now edges) (now index) counts i × AreWays (now location) d ways ⌝ }
-    ensures { λ r. ⌜ EdgesAdded (now (location .entry)) d (now (locations .entry)) (now (edges .entry)) (now (index .entry))
-        counts i (now (locations .exit)) (now (edges .exit)) (now (index .exit)) r ⌝ }
+    requires { ⌜ ShapeGiven (now location) d (now locations) (now edges) (now index) counts i
+        × AreWays (now location) d ways ⌝ }
+    ensures { λ r. ⌜ EdgesAdded (now (location .entry)) d (now (locations .entry)) (now (edges .entry))
+        (now (index .entry)) counts i (now (locations .exit)) (now (edges .exit)) (now (index .exit)) r ⌝ }
 {
     let mut held = counts;
     let mut j = 0;
@@ -74,8 +75,8 @@ pub fn add_edges(
     i: usize,
 ) -> Grown
     requires { ⌜ ShapeGiven (now location) d (now locations) (now edges) (now index) counts i ⌝ }
-    ensures { λ r. ⌜ EdgesAdded (now (location .entry)) d (now (locations .entry)) (now (edges .entry)) (now (index .entry))
-        counts i (now (locations .exit)) (now (edges .exit)) (now (index .exit)) r ⌝ }
+    ensures { λ r. ⌜ EdgesAdded (now (location .entry)) d (now (locations .entry)) (now (edges .entry))
+        (now (index .entry)) counts i (now (locations .exit)) (now (edges .exit)) (now (index .exit)) r ⌝ }
 {
     let view = way::view(d, &location[4..10]);
     let count = way::way_count(d.op, view);

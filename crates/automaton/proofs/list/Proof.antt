@@ -14,7 +14,8 @@ enter-all-requires c κs =
 
 explore-all-requires : tie.Need-explore-all-requires
 explore-all-requires c κs =
-    let b = c .before .before .before .before .before .before .before .before .before .before .before .before .before .before in
+    let b = c .before .before .before .before .before .before .before .before .before .before .before .before .before
+    .before in
     let a = b .args in
     let k = c .before .before .before .before .before .before .before .before .before .enter-starts in
     ready-to-explore _ (a .n) (a .m) (a .locations .now) _ _ (b .pre) (k .ensures) (k .kept .1 .1 .1 .0)
@@ -26,7 +27,8 @@ returns c =
     let x = d .explore-all in
     let i = d .before .before .before .before .before .enter-all in
     let k = d .before .before .before .before .before .before .before .before .before .before .enter-starts in
-    let b = d .before .before .before .before .before .before .before .before .before .before .before .before .before .before .before in
+    let b = d .before .before .before .before .before .before .before .before .before .before .before .before .before
+    .before .before in
     let a = b .args in
     let g = c .before .counts .given in
     all-listed _ (a .n) (a .m) (a .locations .now) _ _ (b .pre) (k .ensures) (k .kept .1 .1 .1 .0) _ (i .ensures)
@@ -34,12 +36,14 @@ returns c =
 
 returns-2 : tie.Need-returns-2
 returns-2 c =
-    let e = c .before .before .before .before .before .before .before .before .before .before .before .before .before .before .before in
+    let e = c .before .before .before .before .before .before .before .before .before .before .before .before .before
+    .before .before in
     let g = c .before .before .before .before .before .before .before .before .number .given in
     let x = e .explore-all in
     let i = e .before .before .before .before .before .enter-all in
     let k = e .before .before .before .before .before .before .before .before .before .before .enter-starts in
-    let b = e .before .before .before .before .before .before .before .before .before .before .before .before .before .before .before in
+    let b = e .before .before .before .before .before .before .before .before .before .before .before .before .before
+    .before .before in
     let a = b .args in
     let z = c .before .before .before .before .clear-both .ensures in
     none-left _ (a .n) (a .m) (a .locations .now) _ _ (b .pre) (k .ensures) (k .kept .1 .1 .1 .0) _ (i .ensures)

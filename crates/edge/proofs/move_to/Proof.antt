@@ -19,10 +19,12 @@ returns c =
     let s = c .before .before .before .before .before .before .before .before .before .before .before .before in
     let a = s .args in
     let l = a .location .now in
-    let g = c .before .before .before .before .before .before .before .before .before .before .before .shared-slice-known .given in
+    let g = c .before .before .before .before .before .before .before .before .before .before .before
+    .shared-slice-known .given in
     c .before .before .put-eight .ensures
     ∙ ap₂ (withSecond (a .to .0)) (c .before .before .before .before .before .eight .ensures)
-    (c .before .before .before .before .before .before .before .before .copy-record .ensures ∙ copied-all l (a .target .now) (s .pre .0) (s .pre .1))
+    (c .before .before .before .before .before .before .before .before .copy-record .ensures
+    ∙ copied-all l (a .target .now) (s .pre .0) (s .pre .1))
     ∙ second-put l (a .to .0) (omega (arith, s .pre .0)) (λ i. omega (arith, g i)) (search needs)
 
 pub move-to-spec : {M : Type 1} → statement M

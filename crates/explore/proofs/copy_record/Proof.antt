@@ -14,7 +14,8 @@ returns c =
     let a = s .args in
     let short : length (a .rec .now) ≤ 32 = omega (arith, s .pre .1) in
     c .before .before .copy-record .ensures
-    ∙ ap (λ l. take 32 (a .part .now) ++ l) (drop-of-length-le (a .rec .now) short) ∙ append-nil (take 32 (a .part .now))
+    ∙ ap (λ l. take 32 (a .part .now) ++ l) (drop-of-length-le (a .rec .now) short)
+    ∙ append-nil (take 32 (a .part .now))
 
 pub copy-record-spec : {M : Type 1} → statement M
 copy-record-spec = tie.close (tie.spec (λ c κs. search needs) (λ c. search needs) returns)

@@ -21,35 +21,43 @@ loop-holds : tie.Need-loop-holds Inv-loop μ-loop
 loop-holds c = (refl, refl, refl, explores-start _ _ _ _ _ _)
 
 -- at the loop's head no location is lost, and there are at most 1,024
-since : (c : tie.At-loop Inv-loop μ-loop) → c .before .before .before .before .before .args .counts .locations ≤ c .loop .held .locations
+since : (c : tie.At-loop Inv-loop μ-loop) → c .before .before .before .before .before .args .counts .locations
+    ≤ c .loop .held .locations
 since c = grown-since _ _ _ _ _ _ _ _ _ _ _ (c .loop .inv .3) (c .before .before .before .before .before .pre)
 
 few : (c : tie.At-loop Inv-loop μ-loop) → c .loop .held .locations ≤ mostLocations
-few c = most-locations _ _ _ _ _ _ (next-ready _ _ _ _ _ _ _ _ _ _ _ (c .loop .inv .3) (c .before .before .before .before .before .pre))
+few c = most-locations _ _ _ _ _ _ (next-ready _ _ _ _ _ _ _ _ _ _ _ (c .loop .inv .3) (c .before .before .before
+    .before .before .pre))
 
 explore-location-requires : tie.Need-explore-location-requires Inv-loop μ-loop
 explore-location-requires c κs =
-    let d = c .before .before .before .before .before in
-    (next-ready _ _ _ _ _ _ _ _ _ _ _ (d .loop .inv .3) (d .before .before .before .before .before .pre), omega (arith, since d))
+    let d = c .before .before .before .before .before in (
+      next-ready _ _ _ _ _ _ _ _ _ _ _ (d .loop .inv .3) (d .before .before .before .before .before .pre),
+      omega (arith, since d),
+    )
 
 returns : tie.Need-returns Inv-loop μ-loop
 returns c =
     let w = c .before .before .before .before .before .before .before .before .before .explore-location in
-    let d = c .before .before .before .before .before .before .before .before .before .before .before .before .before .before .before in
+    let d = c .before .before .before .before .before .before .before .before .before .before .before .before .before
+    .before .before in
     let l = d .loop in
     explores-full _ _ _ _ _ _ _ _ _ _ (l .i) (l .inv .3) (l .inv .0) (l .inv .1) (omega (arith, since d)) _ _ _
     (w .result) (w .ensures) _ (c .before .number .given .1)
 
 add-i : tie.Need-add-i Inv-loop μ-loop
-add-i c = let d = c .before .before .before .before .before .before .before .before .before .before .before .before .before .before .before in omega (arith, few d, since d)
+add-i c = let d = c .before .before .before .before .before .before .before .before .before .before .before .before
+    .before .before .before in omega (arith, few d, since d)
 
 loop-less : tie.Need-loop-less Inv-loop μ-loop
-loop-less c = let d = c .before .before .before .before .before .before .before .before .before .before .before .before .before .before .before in omega (arith, few d, since d)
+loop-less c = let d = c .before .before .before .before .before .before .before .before .before .before .before
+    .before .before .before .before in omega (arith, few d, since d)
 
 loop-again : tie.Need-loop-again Inv-loop μ-loop
 loop-again c =
     let w = c .before .before .before .before .before .before .before .before .before .explore-location in
-    let d = c .before .before .before .before .before .before .before .before .before .before .before .before .before .before .before in
+    let d = c .before .before .before .before .before .before .before .before .before .before .before .before .before
+    .before .before in
     let l = d .loop in (
       w .kept .1 .1 .0 ∙ l .inv .0,
       w .kept .1 .1 .1 .0 ∙ l .inv .1,

@@ -44,7 +44,8 @@ loop-again c =
       omega arith,
       k .kept .1 .1 .0 ∙ l .inv .1,
       λ rs q w n. subst (Indexed _) (sym (k .ensures))
-          (entered-next (a .table .now) rs q w (omega (arith, p .few)) (l .j) (l .index) (omega arith) (l .inv .2 rs q w n)),
+          (entered-next (a .table .now) rs q w (omega (arith, p .few)) (l .j) (l .index) (omega arith)
+          (l .inv .2 rs q w n)),
     )
 
 returns : tie.Need-returns Inv-loop μ-loop

@@ -20,7 +20,9 @@ entry-requires c κs =
     omega (arith, low _ _ _ _ _ R, R .indexOf .indexed .size)
 
 loop-holds : tie.Need-loop-holds Inv-loop μ-loop
-loop-holds c = subst (Follows _ _ _ _ _) (sym (c .entry .ensures)) (follow-head _ _ _ _ _ (c .before .before .before .before .pre))
+loop-holds c =
+    subst (Follows _ _ _ _ _) (sym (c .entry .ensures))
+    (follow-head _ _ _ _ _ (c .before .before .before .before .pre))
 
 -- the location before i
 before : (c : tie.In-loop Inv-loop μ-loop) → c .before .loop .i ≡ suc (c .before .loop .i - 1)
@@ -57,7 +59,8 @@ loop-again c =
     let d = c .before .before .before in
     let l = d .before .loop in
     subst (Follows _ _ _ _ _) (sym (c .entry2 .ensures))
-    (follow-chain _ _ _ _ _ _ (l .inv) (l .i - 1) (before d) (sym (c .before .before .same-at .ensures) ∙ c .before .if1 .left))
+    (follow-chain _ _ _ _ _ _ (l .inv) (l .i - 1) (before d)
+    (sym (c .before .before .same-at .ensures) ∙ c .before .if1 .left))
 
 returns-2 : tie.Need-returns-2 Inv-loop μ-loop
 returns-2 c =

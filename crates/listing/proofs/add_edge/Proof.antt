@@ -33,7 +33,8 @@ returns c t e H W B =
     (omega (arith, c .if1 .taken, c .before .places .ensures))
 
 -- the number that was found is a place
-placed : (c : tie.Else1) → c .before .before .find .result < places mostLocations (length (c .before .before .before .before .before .before .before .before .before .before .before .args .locations .now))
+placed : (c : tie.Else1) → c .before .before .find .result < places mostLocations (length (c .before .before .before
+    .before .before .before .before .before .before .before .before .args .locations .now))
 placed c = omega (arith, c .if1 .left, c .before .places .ensures)
 
 returns-2 : tie.Need-returns-2
@@ -45,7 +46,9 @@ returns-2 c t e H W B =
     (omega (arith, c .if2 .taken, c .before .places2 .ensures))
 
 -- there is a place for the edge
-room : (c : tie.Else2) → c .before .before .before .before .before .before .before .before .before .before .before .before .before .args .counts .edges < places mostEdges (length (c .before .before .before .before .before .before .before .before .before .before .before .before .before .args .edges .now))
+room : (c : tie.Else2) → c .before .before .before .before .before .before .before .before .before .before .before
+    .before .before .args .counts .edges < places mostEdges (length (c .before .before .before .before .before .before
+    .before .before .before .before .before .before .before .args .edges .now))
 room c = omega (arith, c .if2 .left, c .before .places2 .ensures)
 
 keep-location-requires : tie.Need-keep-location-requires
@@ -69,7 +72,14 @@ put-edge-requires c κs =
     let p = s .pre in
     rw (c .fields-to .ensures) (
       place-within mostEdges (length (s .args .edges .now)) (s .args .counts .edges) (room d),
-      (p .low, omega (arith, placed (d .before .before)), p .bytes .few, p .room, branch-fits (p .bytes) (p .branch) (p .guarded)),
+      (
+        p .low,
+        omega (arith, placed (d .before .before)),
+        p .bytes .few,
+        p .room,
+        branch-fits (p .bytes) (p .branch)
+            (p .guarded),
+      ),
     )
 
 returns-3 : tie.Need-returns-3
@@ -82,7 +92,8 @@ returns-3 c t e H W B =
     let fields = c .before .before .before .fields-to in
     one-more t (a .from) e _ _ _ _ _ _ _ H W B (f .result) (f .ensures) (placed d) (room g) _ _ _ (kept .result)
     (kept .ensures .0) (kept .ensures .1)
-    (fields .result) (fields .ensures) (c .before .before .put-edge .ensures) (d .before .before .before .before .before .hash .result)
+    (fields .result) (fields .ensures) (c .before .before .put-edge .ensures) (d .before .before .before .before
+    .before .hash .result)
     (d .before .before .before .before .before .hash .ensures .0) (kept .ensures .2)
 
 pub add-edge-spec : {M : Type 1} → statement M

@@ -18,7 +18,8 @@ one-edge-requires c κs =
 add-edge-requires : tie.Need-add-edge-requires
 add-edge-requires c κs =
     let o = c .before .before .before .before .before .before .before .one-edge in
-    let p = c .before .before .before .before .before .before .before .before .before .before .before .before .before .before .pre in
+    let p = c .before .before .before .before .before .before .before .before .before .before .before .before .before
+    .before .pre in
     let E = o .ensures (p .number) (p .shape) (p .isEdge .ready) (p .edge) (p .isEdge .made) in
     record {
       list = p .list;

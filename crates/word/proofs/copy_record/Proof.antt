@@ -8,12 +8,16 @@ use Rattle.word.proofs.copy_record.Tie as tie
 
 returns : tie.Need-returns
 returns c =
-    let s = c .before .before .before .before .before .before .before .before .before .before .before .before .before .before .before .before .before .before in
+    let s = c .before .before .before .before .before .before .before .before .before .before .before .before .before
+    .before .before .before .before .before in
     let f = s .args .from .now in
     let t = s .args .to .now in
-    let one = c .before .before .before .before .before .before .before .before .before .before .before .before .before .before .copy-eight .ensures in
-    let two = c .before .before .before .before .before .before .before .before .before .before .copy-eight2 .ensures ∙ ap (pasted 8 f) one ∙ copied-more 8 f t (omega (arith, s .pre .0)) in
-    let three = c .before .before .before .before .before .before .copy-eight3 .ensures ∙ ap (pasted 16 f) two ∙ copied-more 16 f t (omega (arith, s .pre .0)) in
+    let one = c .before .before .before .before .before .before .before .before .before .before .before .before
+    .before .before .copy-eight .ensures in
+    let two = c .before .before .before .before .before .before .before .before .before .before .copy-eight2 .ensures
+    ∙ ap (pasted 8 f) one ∙ copied-more 8 f t (omega (arith, s .pre .0)) in
+    let three = c .before .before .before .before .before .before .copy-eight3 .ensures ∙ ap (pasted 16 f) two
+    ∙ copied-more 16 f t (omega (arith, s .pre .0)) in
     c .before .before .copy-eight4 .ensures ∙ ap (pasted 24 f) three ∙ copied-more 24 f t (omega (arith, s .pre .0))
 
 pub copy-record-spec : {M : Type 1} → statement M
