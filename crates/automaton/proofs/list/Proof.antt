@@ -21,6 +21,9 @@ explore-all-requires c κs =
     ready-to-explore _ (a .n) (a .m) (a .locations .now) _ _ (b .pre) (k .ensures) (k .kept .1 .1 .1 .0)
     _ (c .before .before .before .before .enter-all .ensures)
 
+known-counts : tie.Need-enum-known-counts
+known-counts c = search needs
+
 returns : tie.Need-returns
 returns c =
     let d = c .before .before .before .before .before .before .before .before in
@@ -59,7 +62,7 @@ list-spec =
     enter-all-requires
     (λ c. search needs)
     explore-all-requires
-    (λ c. search needs)
+    known-counts
     (λ c. search needs)
     (λ c κs. search needs)
     (λ c. search needs)
