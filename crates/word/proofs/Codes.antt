@@ -1,17 +1,17 @@
 -- Bytes as digits in base 256: a part of a list as a number, and the bytes of that number are the part.
-use Prim.Native.Nat.{ℕ, suc, _+_, _*_, _/_, _%_, _^_, _≤_, _<_}
+use Prim.Native.Nat.{ℕ, zero, suc, _+_, _*_, _/_, _%_, _^_, _≤_, _<_}
 use mathlib.Core.Path.{_≡_, refl, sym, ap, ap₂, subst, _∙_}
 use mathlib.Core.Logic.{inl, inr}
 use mathlib.Core.List.{List, [], _∷_, _++_, append-assoc, append-nil}
 use native.Mathlib.Nat.{add-assoc, add-mul-div-left, add-mul-mod-self-left, div-eq-of-lt, mod-eq-of-lt, mul-add, mul-assoc, pow-succ', pow-zero}
 use native.Mathlib.Omega.{arith}
-use lib.ListN.{take, drop, drop-of-length-le, getD, length, length-take, length-drop, set, take-append-drop}
+use lib.ListN.{take, drop, drop-of-length-le, getD, length, length-take, length-drop, replicate, set, take-append-drop}
 use lib.Seq.{drop-at, drop-cons, drop-drop, length-take-le, take-add, take-all, take-at}
 use Rattle.model.specs.Notions.{In}
 use Rattle.model.specs.Records.{word}
 use Rattle.model.proofs.lists.Digits.{Below, codeOf}
 use Rattle.model.proofs.lists.Lists.{in-append-l, in-drop, in-getD}
-use Rattle.word.specs.Words.{bytesOf, eightAt, fourAt}
+use Rattle.word.specs.Words.{bytesOf, eightAt, fourAt, numberOf}
 
 pub part-length : (t : List ℕ) (a n : ℕ) → a + n ≤ length t → length (take n (drop a t)) ≡ n
 part-length t a n h = simp (length-take, length-drop) (omega arith)
@@ -80,6 +80,25 @@ eight-back t a h B =
     let l = take 8 (drop a t) in
     let n = sym (part-length t a 8 h) in
     (λ i. bytesOf (n i) (eight-code t a h i)) ∙ bytes-code l (part-below t a 8 B)
+
+number-code : (l : List ℕ) → numberOf l ≡ codeOf 256 l
+number-code [] = refl
+number-code (x ∷ l) = ap (λ n. x + 256 * n) (number-code l)
+
+bytes-zero : (k : ℕ) → bytesOf k 0 ≡ replicate k 0
+bytes-zero zero = refl
+bytes-zero (suc k) = ap (λ l. 0 ∷ l) (bytes-zero k)
+
+-- more bytes than a number has are zeros
+pub bytes-pad : (l : List ℕ) (n k : ℕ) → Below 256 l → n ≡ length l + k → bytesOf n (numberOf l) ≡ l ++ replicate k 0
+bytes-pad [] n k h e = let q : n ≡ k = omega (arith, e) in ap (λ m. bytesOf m 0) q ∙ bytes-zero k
+bytes-pad (x ∷ l) zero k h e = absurd (omega (arith, e))
+bytes-pad (x ∷ l) (suc n) k h e =
+    let lt = h x (inl refl) in
+    let c = numberOf l in
+    ap₂ _∷_ (add-mul-mod-self-left x 256 c ∙ mod-eq-of-lt lt)
+    (ap (bytesOf n) (add-mul-div-left x c {y = 256} (omega arith) ∙ omega (arith, div-eq-of-lt lt))
+    ∙ bytes-pad l n k (λ y i. h y (inr i)) (omega (arith, e)))
 
 -- ---- a record copied eight bytes at a time
 

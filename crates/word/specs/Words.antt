@@ -15,3 +15,8 @@ eightAt t n = fourAt t n + 0x1_0000_0000 * fourAt t (n + 4)
 abbrev pub bytesOf : ℕ → ℕ → List ℕ
 bytesOf zero x = []
 bytesOf (suc n) x = x % 256 ∷ bytesOf n (x / 256)
+
+-- bytes as one number
+abbrev pub numberOf : List ℕ → ℕ
+numberOf [] = 0
+numberOf (b ∷ l) = b + 256 * numberOf l

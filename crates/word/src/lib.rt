@@ -47,6 +47,14 @@ pub fn put_eight(part: &mut [u8], x: u64)
     part[7] = (x / 256 / 256 / 256 / 256 / 256 / 256 / 256 % 256) as u8;
 }
 
+// Writes a number over the eight bytes at a place.
+pub fn put_at(to: &mut [u8], at: usize, x: u64)
+    requires { ⌜ at + 8 ≤ length (now to) ⌝ }
+    ensures { λ _. ⌜ now (to .exit) ≡ take at (now (to .entry)) ++ (bytesOf 8 x ++ drop (at + 8) (now (to .entry))) ⌝ }
+{
+    put_eight(&mut to[at..], x);
+}
+
 // Copies eight bytes of a record over those of another at the same place.
 fn copy_eight(from: &[u8], at: usize, to: &mut [u8])
     requires { ⌜ (at + 8 ≤ length (now from)) × (at + 8 ≤ length (now to)) ⌝ }
