@@ -21,6 +21,10 @@ coded-none f l h = record {
   low = one-le-pow (6 - length l) 256 (omega arith);
 }
 
+-- the number of all values
+pub coded-most : (f : ℕ → ℕ) (l : List ℕ) (i n : ℕ) → CodedFrom f l i n → i ≡ 0 → n < 0x1_0000_0000_0000
+coded-most f l i n C z = let p : 256 ^ (6 - i) ≡ 256 ^ 6 = ap (λ k. 256 ^ (6 - k)) z in omega (arith, C .low, p)
+
 module _ (f : ℕ → ℕ) (l : List ℕ) (i n j b : ℕ) (C : CodedFrom f l i n) (e : i ≡ suc j) where
   -- so small that one byte more fits
   pub coded-small : n < 0x100_0000_0000

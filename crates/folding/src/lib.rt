@@ -59,7 +59,8 @@ pub fn fold_shape(pointers: &[u8], cells: &[u8], last: &[u8], node: &[u8], shape
 // The values, each in terms of nodes. From the last on: each goes below those behind it.
 pub fn code_values(values: &[u8], node: &[u8]) -> u64
     requires { ⌜ (length (now values) ≤ 6) × AllIn (now node) (now values) ⌝ }
-    ensures { λ r. ⌜ r ≡ numberOf (map (foldByte (now (node .entry))) (now (values .entry))) ⌝ }
+    ensures { λ r. ⌜ (r ≡ numberOf (map (foldByte (now (node .entry))) (now (values .entry))))
+        × (r < 0x1_0000_0000_0000) ⌝ }
 {
     let mut code: u64 = 0;
     let mut i = values.len();
@@ -73,8 +74,9 @@ pub fn code_values(values: &[u8], node: &[u8]) -> u64
 // What the cells `last` hold, in terms of nodes.
 pub fn code_successors(cells: &[u8], last: &[u8], node: &[u8]) -> u64
     requires { ⌜ (length (now last) ≤ 6) × LastsIn (now node) (now cells) (now last) ⌝ }
-    ensures { λ r. ⌜ r
-        ≡ numberOf (map (λ c. foldByte (now (node .entry)) (getD (now (cells .entry)) c 0)) (now (last .entry))) ⌝ }
+    ensures { λ r. ⌜ (r
+        ≡ numberOf (map (λ c. foldByte (now (node .entry)) (getD (now (cells .entry)) c 0)) (now (last .entry))))
+        × (r < 0x1_0000_0000_0000) ⌝ }
 {
     let mut code: u64 = 0;
     let mut i = last.len();

@@ -7,7 +7,7 @@ use lib.ListN.{drop, getD, length}
 use borrow.Author.Needs.{needs}
 use Rattle.word.specs.Words.{numberOf}
 use Rattle.folding.specs.Fold.{foldByte}
-use Rattle.folding.proofs.Coded.{CodedFrom, coded-next, coded-none, coded-small}
+use Rattle.folding.proofs.Coded.{CodedFrom, coded-most, coded-next, coded-none, coded-small}
 use Rattle.folding.proofs.code_successors.Statement.{statement}
 use Rattle.folding.proofs.code_successors.Tie as tie
 
@@ -43,7 +43,8 @@ returns c =
     let l = c .before .loop in
     let a = c .before .before .before .before .before .args in
     let z : l .i ≡ 0 = search needs in
-    l .inv .1 .isCode ∙ ap (λ k. numberOf (map (λ c. foldByte (a .node .now) (getD (a .cells .now) c 0)) (drop k (a .last .now)))) z
+    (l .inv .1 .isCode ∙ ap (λ k. numberOf (map (λ c. foldByte (a .node .now) (getD (a .cells .now) c 0)) (drop k (a .last .now)))) z,
+    coded-most _ _ _ _ (l .inv .1) z)
 
 pub code-successors-spec : {M : Type 1} → statement M
 code-successors-spec =

@@ -7,7 +7,7 @@ use lib.ListN.{drop, getD, length}
 use borrow.Author.Needs.{needs}
 use Rattle.word.specs.Words.{numberOf}
 use Rattle.folding.specs.Fold.{foldByte}
-use Rattle.folding.proofs.Coded.{CodedFrom, coded-next, coded-none, coded-small}
+use Rattle.folding.proofs.Coded.{CodedFrom, coded-most, coded-next, coded-none, coded-small}
 use Rattle.folding.proofs.code_values.Statement.{statement}
 use Rattle.folding.proofs.code_values.Tie as tie
 
@@ -43,7 +43,8 @@ returns c =
     let l = c .before .loop in
     let a = c .before .before .before .before .args in
     let z : l .i ≡ 0 = search needs in
-    l .inv .1 .isCode ∙ ap (λ k. numberOf (map (foldByte (a .node .now)) (drop k (a .values .now)))) z
+    (l .inv .1 .isCode ∙ ap (λ k. numberOf (map (foldByte (a .node .now)) (drop k (a .values .now)))) z,
+    coded-most _ _ _ _ (l .inv .1) z)
 
 pub code-values-spec : {M : Type 1} → statement M
 code-values-spec =
