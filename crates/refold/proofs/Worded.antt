@@ -49,8 +49,12 @@ module _ (a b c d e f low : ℕ) (L : Below 256 (a ∷ b ∷ c ∷ d ∷ e ∷ f
 
   below : (a < 256) × (b < 256) × (c < 256) × (d < 256) × (e < 256) × (f < 256)
   below = (
-    L a (inl refl), L b (inr (inl refl)), L c (inr (inr (inl refl))), L d (inr (inr (inr (inl refl)))),
-    L e (inr (inr (inr (inr (inl refl))))), L f (inr (inr (inr (inr (inr (inl refl)))))),
+    L a (inl refl),
+    L b (inr (inl refl)),
+    L c (inr (inr (inl refl))),
+    L d (inr (inr (inr (inl refl)))),
+    L e (inr (inr (inr (inr (inl refl))))),
+    L f (inr (inr (inr (inr (inr (inl refl)))))),
   )
 
   first-word : bytesOf 8 ((P % 0x1_0000_0000) * 0x1_0000_0000) ≡ 0 ∷ 0 ∷ 0 ∷ 0 ∷ a ∷ b ∷ c ∷ d ∷ []

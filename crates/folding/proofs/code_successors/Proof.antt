@@ -34,17 +34,20 @@ small c = coded-small _ _ _ _ (c .before .loop .i - 1) 0 (c .before .loop .inv .
 
 loop-again : tie.Need-loop-again Inv-loop μ-loop
 loop-again c =
-    let l = c .before .before .before .before .loop in
-    (l .inv .0, coded-next _ _ _ _ (l .i - 1) _ (l .inv .1) (last-one (c .before .before .before)) (l .inv .0) (search needs)
-    (c .fold-byte .ensures))
+    let l = c .before .before .before .before .loop in (
+      l .inv .0,
+      coded-next _ _ _ _ (l .i - 1) _ (l .inv .1) (last-one (c .before .before .before)) (l .inv .0) (search needs)
+          (c .fold-byte .ensures),
+    )
 
 returns : tie.Need-returns Inv-loop μ-loop
 returns c =
     let l = c .before .loop in
     let a = c .before .before .before .before .before .args in
-    let z : l .i ≡ 0 = search needs in
-    (l .inv .1 .isCode ∙ ap (λ k. numberOf (map (λ c. foldByte (a .node .now) (getD (a .cells .now) c 0)) (drop k (a .last .now)))) z,
-    coded-most _ _ _ _ (l .inv .1) z)
+    let z : l .i ≡ 0 = search needs in (
+      l .inv .1 .isCode ∙ ap (λ k. numberOf (map (λ c. foldByte (a .node .now) (getD (a .cells .now) c 0)) (drop k (a .last .now)))) z,
+      coded-most _ _ _ _ (l .inv .1) z,
+    )
 
 pub code-successors-spec : {M : Type 1} → statement M
 code-successors-spec =

@@ -26,9 +26,10 @@ slice-aggregate-code-successors c =
 code-successors-requires : tie.Need-code-successors-requires
 code-successors-requires c κs =
     let h = half (c .before .before) in
-    let s = c .before .before .before .before .before .before .before .before in
-    (omega (arith, h .0, length-take-le (c .before .before .in-second .result) (s .args .last .now) (h .1)),
-    front-in (s .args .node .now) (s .args .cells .now) (s .args .last .now) (c .before .before .in-second .result) (h .1) (s .pre .lasts))
+    let s = c .before .before .before .before .before .before .before .before in (
+      omega (arith, h .0, length-take-le (c .before .before .in-second .result) (s .args .last .now) (h .1)),
+      front-in (s .args .node .now) (s .args .cells .now) (s .args .last .now) (c .before .before .in-second .result) (h .1) (s .pre .lasts),
+    )
 
 code-successors-requires-2 : tie.Need-code-successors-requires-2
 code-successors-requires-2 c κs =
