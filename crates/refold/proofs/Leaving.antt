@@ -112,7 +112,8 @@ module _ {ps cs visit held : List ℕ} {w : Weights} {t us : List ℕ} (L : Leav
         let twelve = S .twelve in
         let room = L .room in
         record {
-          target = λ s. headed-is 0x4c s m g blank q refl (length-map ps valOf ∙ L .image .six) number twelve (S .bytes);
+          target = λ s. headed-is 0x4c s m g blank q refl (length-map ps valOf ∙ L .image .six) number twelve (S
+              .bytes);
           number = number;
           few = twelve;
           updates = ap (λ i. take i us′) number

@@ -32,7 +32,8 @@ fn put_words(p: u64, low: u64, high: u64, target: &mut [u8])
 fn write_shape(pointers: &[u8], cells: &[u8], last: &[u8], node: &[u8], target: &mut [u8])
     requires { ⌜ ShapeFits (now pointers) (now cells) (now last) (now node) (now target) ⌝ }
     ensures { λ _. ⌜ now (target .exit)
-        ≡ shapeBytes (foldedBytes (now (node .entry)) (now (pointers .entry)) (now (cells .entry)) (now (last .entry))) ⌝ }
+        ≡ shapeBytes (foldedBytes (now (node .entry)) (now (pointers .entry)) (now (cells .entry))
+        (now (last .entry))) ⌝ }
 {
     let half = in_second(last.len());
     let p = folding::code_values(pointers, node);

@@ -26,7 +26,8 @@ last-one : (c : tie.In-loop Inv-loop μ-loop) → c .before .loop .i ≡ suc (c 
 last-one c = let h = c .loop-test .taken in omega arith
 
 -- it is one of the list, and the number so far has room for one byte more
-within : (c : tie.In-loop Inv-loop μ-loop) → c .before .loop .i - 1 < length (c .before .before .before .before .before .args .last .now)
+within : (c : tie.In-loop Inv-loop μ-loop) → c .before .loop .i - 1 < length (c .before .before .before .before
+    .before .args .last .now)
 within c = omega (arith, c .before .loop .inv .1 .within, last-one c)
 
 small : (c : tie.In-loop Inv-loop μ-loop) → c .before .loop .code < 0x100_0000_0000
@@ -45,7 +46,8 @@ returns c =
     let l = c .before .loop in
     let a = c .before .before .before .before .before .args in
     let z : l .i ≡ 0 = search needs in (
-      l .inv .1 .isCode ∙ ap (λ k. numberOf (map (λ c. foldByte (a .node .now) (getD (a .cells .now) c 0)) (drop k (a .last .now)))) z,
+      l .inv .1 .isCode ∙ ap (λ k. numberOf (map (λ c. foldByte (a .node .now) (getD (a .cells .now) c 0)) (drop k (a
+          .last .now)))) z,
       coded-most _ _ _ _ (l .inv .1) z,
     )
 
@@ -60,8 +62,10 @@ code-successors-spec =
     (λ c. within (c .before))
     (λ c. record { fits = omega (arith, c .shared-slice-known4 .given (c .before .before .loop .i - 1)) })
     (λ c. record { fits = omega (arith, small (c .before)) })
-    (λ c. c .before .before .before .before .before .before .before .pre .1 (c .before .before .before .loop .i - 1) (within (c .before .before)) .0)
-    (λ c κs. c .before .before .before .before .before .before .before .pre .1 (c .before .before .before .loop .i - 1) (within (c .before .before)) .1)
+    (λ c. c .before .before .before .before .before .before .before .pre .1 (c .before .before .before .loop .i - 1)
+    (within (c .before .before)) .0)
+    (λ c κs. c .before .before .before .before .before .before .before .pre .1 (c .before .before .before .loop .i - 1)
+    (within (c .before .before)) .1)
     (λ c. search needs)
     (λ c. record { fits = omega (arith, small (c .before .before .before)) })
     (λ c. omega (arith, last-one (c .before .before .before)))

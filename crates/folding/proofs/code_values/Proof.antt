@@ -26,7 +26,8 @@ last-one : (c : tie.In-loop Inv-loop μ-loop) → c .before .loop .i ≡ suc (c 
 last-one c = let h = c .loop-test .taken in omega arith
 
 -- it is one of the list, and the number so far has room for one byte more
-within : (c : tie.In-loop Inv-loop μ-loop) → c .before .loop .i - 1 < length (c .before .before .before .before .args .values .now)
+within : (c : tie.In-loop Inv-loop μ-loop) → c .before .loop .i - 1 < length (c .before .before .before .before .args
+    .values .now)
 within c = omega (arith, c .before .loop .inv .1 .within, last-one c)
 
 small : (c : tie.In-loop Inv-loop μ-loop) → c .before .loop .code < 0x100_0000_0000

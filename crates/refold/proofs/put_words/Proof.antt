@@ -16,7 +16,8 @@ with a x l = take a l ++ (x ++ drop (a + 8) l)
 
 returns : tie.Need-returns
 returns c =
-    let s = c .before .before .before .before .before .before .before .before .before .before .before .before .before .before .before .before .before in
+    let s = c .before .before .before .before .before .before .before .before .before .before .before .before .before
+    .before .before .before .before in
     let g = s .args in
     let t = g .target .now in
     let x : List ℕ = bytesOf 8 ((g .p % 0x1_0000_0000) * 0x1_0000_0000) in
@@ -25,8 +26,10 @@ returns c =
     let short : length t ≤ 32 = omega (arith, s .pre .2) in
     c .before .before .put-at4 .ensures
     ∙ ap (with 24 (bytesOf 8 0)) (c .before .before .before .before .before .before .put-at3 .ensures
-    ∙ ap (with 16 z) (c .before .before .before .before .before .before .before .before .before .before .put-at2 .ensures
-    ∙ ap (with 8 y) (c .before .before .before .before .before .before .before .before .before .before .before .before .before .before .put-at .ensures) ∙ put-next x y t 8 refl)
+    ∙ ap (with 16 z) (c .before .before .before .before .before .before .before .before .before .before .put-at2
+    .ensures
+    ∙ ap (with 8 y) (c .before .before .before .before .before .before .before .before .before .before .before .before
+    .before .before .put-at .ensures) ∙ put-next x y t 8 refl)
     ∙ put-next (x ++ y) z t 16 refl)
     ∙ put-next ((x ++ y) ++ z) (bytesOf 8 0) t 24 refl
     ∙ ap (λ l. (((x ++ y) ++ z) ++ bytesOf 8 0) ++ l) (drop-of-length-le t short)

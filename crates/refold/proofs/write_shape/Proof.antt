@@ -21,14 +21,16 @@ half c = let e = c .in-second .ensures in (omega (arith, e), omega (arith, e))
 slice-aggregate-code-successors : tie.Need-slice-aggregate-code-successors
 slice-aggregate-code-successors c =
     let h = half (c .before .before) in
-    sym (length-take-le (c .before .before .in-second .result) (c .before .before .before .before .before .before .before .before .args .last .now) (h .1))
+    sym (length-take-le (c .before .before .in-second .result) (c .before .before .before .before .before .before
+    .before .before .args .last .now) (h .1))
 
 code-successors-requires : tie.Need-code-successors-requires
 code-successors-requires c κs =
     let h = half (c .before .before) in
     let s = c .before .before .before .before .before .before .before .before in (
       omega (arith, h .0, length-take-le (c .before .before .in-second .result) (s .args .last .now) (h .1)),
-      front-in (s .args .node .now) (s .args .cells .now) (s .args .last .now) (c .before .before .in-second .result) (h .1) (s .pre .lasts),
+      front-in (s .args .node .now) (s .args .cells .now) (s .args .last .now) (c .before .before .in-second .result)
+          (h .1) (s .pre .lasts),
     )
 
 code-successors-requires-2 : tie.Need-code-successors-requires-2
@@ -55,9 +57,11 @@ returns c =
     let bytes = d .before .before .before .before .before .shared-slice-known .given in
     let held = d .before .before .before .before .shared-slice-known2 .given in
     let nodes = d .before .before .shared-slice-known4 .given in
-    let low = c .before .before .before .before .before .before .code-successors .ensures .0 ∙ ap (λ k. numberOf (map g (take k last))) e in
+    let low = c .before .before .before .before .before .before .code-successors .ensures .0 ∙ ap (λ k. numberOf (map g
+    (take k last))) e in
     let high =
-    c .before .before .before .before .code-successors2 .ensures .0 ∙ ap (λ l. numberOf (map g l)) (rest-is last (d .in-second .result))
+    c .before .before .before .before .code-successors2 .ensures .0 ∙ ap (λ l. numberOf (map g l)) (rest-is last (d
+    .in-second .result))
     ∙ ap (λ k. numberOf (map g (drop k last))) e in
     let v = c .before .before .before .before .before .before .before .before .code-values .ensures .0 in
     c .before .before .put-words .ensures ∙ (λ i. shapeWords (v i) (low i) (high i))
