@@ -11,7 +11,8 @@
  *     says, aligned as that asks, and is not null.
  *   - Nothing that a call writes overlaps with anything else that it is given. What is only read may overlap.
  * Nothing is kept after a call, nothing is allocated and nothing is locked: there is no state between calls, and
- * calls that write to buffers of their own may run at the same time. No call was seen to use 1 KB of stack.
+ * calls that write to buffers of their own may run at the same time. A translation was seen to use less than 4 KB of
+ * stack, every other call less than 1.5 KB.
  *
  * Each call answers the number of the refusal, 0 for none (enum currantplane_refusal), and tells its place, 0 where
  * nothing is refused; move and walk do not tell it, since it is always 0. Refusals 9, 18 and 19 are about a node of a

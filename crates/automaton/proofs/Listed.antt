@@ -1,5 +1,6 @@
 -- The listing of a checked input: from the starting shapes entered and what the exploration left to the outcome.
 use Prim.Native.Nat.{ℕ, _≤_}
+use native.Mathlib.Omega.{arith}
 use mathlib.Core.Path.{_≡_, ap, sym, _∙_}
 use mathlib.Core.List.{List, map}
 use lib.ListN.{length, replicate}
@@ -11,6 +12,7 @@ use Rattle.model.specs.declared.Translated.the-variants as translated
 use Rattle.model.specs.declared.Counts.{Counts}
 use Rattle.input.specs.Input.{routineIn}
 use Rattle.input.proofs.Facts.{starts-length}
+use Rattle.index.specs.Index.{EnterAllReady, EntersAll, indexSize}
 use Rattle.explore.specs.Explore.{AllExplored, ExploredTo, ExploreReady, exploredIn}
 use Rattle.explore.specs.declared.Explored.{Explored}
 use Rattle.explore.specs.declared.Explored.the-variants as explored
@@ -31,31 +33,38 @@ module _ (s : List ℕ) (n m : ℕ) (ls es ks : List ℕ) (R : ListReady s n m l
   few : length (routineIn n s .starts) ≤ places mostLocations (length ks)
   few = rw (starts-length s n m (R .starts .accepted .whole)) room
 
-  pub ready-to-explore : ExploreReady s n ks es (startCounts m)
-  ready-to-explore = explore-ready s n m (R .starts .isGood) (R .starts .accepted) ks es held-in (R .blank) room
+  -- the starting shapes can be entered into an index of zeros
+  pub index-ready : (ix : List ℕ) → ix ≡ replicate indexSize 0 → EnterAllReady ks m ix
+  index-ready ix z = let h = room in record { blank = z; few = omega arith; fits = omega arith }
 
-  module _ (ls′ es′ : List ℕ) (o : Explored) (X : AllExplored s n ks es (startCounts m) ls′ es′ o)
-      (p : length ls′ ≡ length ks) (q : length es′ ≡ length es) where
-    explored-to : ExploredTo n (exploredIn ks es (routineIn n s .stmts) (startListing (routineIn n s))) ls′ es′ o
-    explored-to =
-        let g = R .starts .isGood in
-        let A = R .starts .accepted in
-        X (routineIn n s .stmts) (startListing (routineIn n s)) (statements-ok s n m g A)
-        (starts-held s n m g A ks es held-in (R .blank) room) (starts-fine s n m g A)
+  -- ix is the index of the starting shapes
+  module _ (ix : List ℕ) (indexed : EntersAll ks m ix) where
+    pub ready-to-explore : ExploreReady s n ks es ix (startCounts m)
+    ready-to-explore =
+        explore-ready s n m (R .starts .isGood) (R .starts .accepted) ks es ix held-in (R .blank) room indexed
 
-    -- all is listed
-    pub all-listed : (k : Counts) → o ≡ explored.Listed k
-        → outcomeOf (listedBy k) ls′ es′ ≡ translate s (length ls) (length es)
-    all-listed k e =
-        outcome-listed s (length ks) (length es) (routineIn n s) (R .starts .isGood) n ls′ es′ few k p q
-        (rw e at explored-to)
-        ∙ ap (λ x. translate s x (length es)) same
+    module _ (ls′ es′ ix′ : List ℕ) (o : Explored) (X : AllExplored s n ks es ix (startCounts m) ls′ es′ ix′ o)
+        (p : length ls′ ≡ length ks) (q : length es′ ≡ length es) where
+      explored-to : ExploredTo n (exploredIn ks es (routineIn n s .stmts) (startListing (routineIn n s))) ls′ es′ ix′ o
+      explored-to =
+          let g = R .starts .isGood in
+          let A = R .starts .accepted in
+          X (routineIn n s .stmts) (startListing (routineIn n s)) (statements-ok s n m g A)
+          (starts-held s n m g A ks es ix held-in (R .blank) room indexed) (starts-fine s n m g A)
 
-    -- no place: both tables are cleared
-    pub none-left : (ls″ es″ : List ℕ) (k x : ℕ) → o ≡ explored.Full k x → ls″ ≡ replicate (length ls′) 0
-        → es″ ≡ replicate (length es′) 0
-        → outcomeOf (translated.Refused k x noNode) ls″ es″ ≡ translate s (length ls) (length es)
-    none-left ls″ es″ k x e d d′ =
-        outcome-full s (length ks) (length es) (routineIn n s) (R .starts .isGood) n ls′ es′ few k x ls″ es″
-        (rw p at d) (rw q at d′) (rw e at explored-to)
-        ∙ ap (λ y. translate s y (length es)) same
+      -- all is listed
+      pub all-listed : (k : Counts) → o ≡ explored.Listed k
+          → outcomeOf (listedBy k) ls′ es′ ≡ translate s (length ls) (length es)
+      all-listed k e =
+          outcome-listed s (length ks) (length es) (routineIn n s) (R .starts .isGood) n ls′ es′ ix′ few k p q
+          (rw e at explored-to)
+          ∙ ap (λ x. translate s x (length es)) same
+
+      -- no place: both tables are cleared
+      pub none-left : (ls″ es″ : List ℕ) (k x : ℕ) → o ≡ explored.Full k x → ls″ ≡ replicate (length ls′) 0
+          → es″ ≡ replicate (length es′) 0
+          → outcomeOf (translated.Refused k x noNode) ls″ es″ ≡ translate s (length ls) (length es)
+      none-left ls″ es″ k x e d d′ =
+          outcome-full s (length ks) (length es) (routineIn n s) (R .starts .isGood) n ls′ es′ ix′ few k x ls″ es″
+          (rw p at d) (rw q at d′) (rw e at explored-to)
+          ∙ ap (λ y. translate s y (length es)) same

@@ -37,9 +37,10 @@ abbrev pub listedBy : Counts → Translated
 listedBy c = translated.Listed (c .locations) (c .edges)
 
 -- a listing held in the tables
-listed-held : (t : Listing) (ls es : List ℕ) (c : Counts) (a b : ℕ) → length ls ≡ a → length es ≡ b → Holds t ls es c
+listed-held : (t : Listing) (ls es ix : List ℕ) (c : Counts) (a b : ℕ) → length ls ≡ a → length es ≡ b
+    → Holds t ls es ix c
     → outcomeOf (listedBy c) ls es ≡ listedWith a b t
-listed-held t ls es c a b p q H =
+listed-held t ls es ix c a b p q H =
     (λ k. outcomeOf (translated.Listed (H .locNumber k) (H .edgeNumber k)) (H .locs k) (H .edges k))
     ∙ (λ k. listedWith (p k) (q k) t)
 
@@ -87,22 +88,24 @@ module _ (s : List ℕ) (a b : ℕ) where
     outcome-few ls es h d e = refused-blank a b 11 cl noNode ls es d e ∙ translate-full (refusal 11 cl) (listing-few h)
 
     -- the exploration ends, or finds no place
-    module _ (n : ℕ) (ls es : List ℕ) (room : length (r .starts) ≤ places mostLocations a) where
+    module _ (n : ℕ) (ls es ix : List ℕ) (room : length (r .starts) ≤ places mostLocations a) where
       pub outcome-listed : (k : Counts) → length ls ≡ a → length es ≡ b
-          → ExploredTo n (exploredFrom r a b) ls es (explored.Listed k) → outcomeOf (listedBy k) ls es ≡ translate s a b
+          → ExploredTo n (exploredFrom r a b) ls es ix (explored.Listed k)
+          → outcomeOf (listedBy k) ls es ≡ translate s a b
       outcome-listed k p q X = by-end (exploredFrom r a b) refl X
         where
-          by-end : (o : Explored) → exploredFrom r a b ≡ o → ExploredTo n o ls es (explored.Listed k)
+          by-end : (o : Explored) → exploredFrom r a b ≡ o → ExploredTo n o ls es ix (explored.Listed k)
               → outcomeOf (listedBy k) ls es ≡ translate s a b
-          by-end (listed t) e Y = listed-held t ls es k a b p q (Y .0) ∙ translate-listed t (listing-starts room ∙ e)
+          by-end (listed t) e Y = listed-held t ls es ix k a b p q (Y .0)
+              ∙ translate-listed t (listing-starts room ∙ e)
           by-end (full x) e Y = absurd Y
 
       pub outcome-full : (k p : ℕ) (ls′ es′ : List ℕ) → ls′ ≡ replicate a 0 → es′ ≡ replicate b 0
-          → ExploredTo n (exploredFrom r a b) ls es (explored.Full k p)
+          → ExploredTo n (exploredFrom r a b) ls es ix (explored.Full k p)
           → outcomeOf (translated.Refused k p noNode) ls′ es′ ≡ translate s a b
       outcome-full k p ls′ es′ d d′ X = by-end (exploredFrom r a b) refl X
         where
-          by-end : (o : Explored) → exploredFrom r a b ≡ o → ExploredTo n o ls es (explored.Full k p)
+          by-end : (o : Explored) → exploredFrom r a b ≡ o → ExploredTo n o ls es ix (explored.Full k p)
               → outcomeOf (translated.Refused k p noNode) ls′ es′ ≡ translate s a b
           by-end (listed t) e Y = absurd Y
           by-end (full x) e Y =

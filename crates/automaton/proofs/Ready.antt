@@ -3,18 +3,20 @@ use Prim.Native.Nat.{ℕ, _≤_}
 use native.Mathlib.Omega.{arith}
 use mathlib.Core.Path.{_≡_, refl, sym, subst, _∙_}
 use mathlib.Core.List.{List, map}
-use lib.ListN.{length, replicate}
+use lib.ListN.{length, length-map, replicate}
 use Rattle.model.specs.Base.{mostLocations}
 use Rattle.model.specs.Edges.{Loc}
 use Rattle.model.specs.Records.{locRecord}
 use Rattle.model.specs.Translate.{check, good, places, tableOf}
 use Rattle.model.proofs.listings.Exact.{starts-distinct}
-use Rattle.model.proofs.records.Bytes.{table-empty}
+use Rattle.model.proofs.records.Bytes.{records-wide, table-empty}
+use Rattle.model.proofs.records.ReadBack.{record-length}
 use Rattle.model.proofs.records.Checked.{check-good}
 use Rattle.model.specs.Notions.{In}
 use Rattle.input.specs.Input.{routineIn}
 use Rattle.input.specs.Accepted.{Accepted}
 use Rattle.input.proofs.Facts.{accepted-wide, stmt-at, stmts-length}
+use Rattle.index.specs.Index.{EntersAll}
 use Rattle.listing.specs.Grow.{Holds}
 use Rattle.explore.specs.Explore.{StatementsOk, ExploreReady}
 use Rattle.location_edges.specs.Added.{LocsOk, LocOk}
@@ -34,16 +36,19 @@ module _ (s : List ℕ) (n m : ℕ) (g : check s ≡ good (routineIn n s)) (A : 
       subst (LocOk n) (sym (y .1)) (y .2, A .someStatements)
 
   -- the listing of the starting shapes, before the first edge
-  pub starts-held : (ls es : List ℕ) → ls ≡ tableOf (length ls) (map locRecord (startLocs n s))
-      → es ≡ replicate (length es) 0 → m ≤ places mostLocations (length ls)
-      → Holds (startListing (routineIn n s)) ls es (startCounts m)
-  starts-held ls es p q room = record {
+  pub starts-held : (ls es ix : List ℕ) → ls ≡ tableOf (length ls) (map locRecord (startLocs n s))
+      → es ≡ replicate (length es) 0 → m ≤ places mostLocations (length ls) → EntersAll ls m ix
+      → Holds (startListing (routineIn n s)) ls es ix (startCounts m)
+  starts-held ls es ix p q room I = record {
     locs = p;
     edges = q ∙ sym (table-empty (length es));
     locNumber = sym (count-is s n m g A);
     edgeNumber = refl;
     locsFit = omega (arith, count-is s n m g A);
     edgesFit = omega arith;
+    indexed = I (map locRecord (startLocs n s)) p
+        (records-wide locRecord (startLocs n s) (λ l i. record-length l (start-writable s n m g A l i)))
+        (sym (length-map (startLocs n s) locRecord ∙ count-is s n m g A));
     distinct = starts-distinct (routineIn n s .starts) (check-good s (routineIn n s) g .distinct);
     goodLocs = start-writable s n m g A;
     goodLinks = λ k i. absurd i;
@@ -65,13 +70,13 @@ module _ (s : List ℕ) (n m : ℕ) (g : check s ≡ good (routineIn n s)) (A : 
     read = stmt-at s n m (A .whole);
   }
 
-  pub explore-ready : (ls es : List ℕ) → ls ≡ tableOf (length ls) (map locRecord (startLocs n s))
-      → es ≡ replicate (length es) 0 → m ≤ places mostLocations (length ls)
-      → ExploreReady s n ls es (startCounts m)
-  explore-ready ls es p q room = record {
+  pub explore-ready : (ls es ix : List ℕ) → ls ≡ tableOf (length ls) (map locRecord (startLocs n s))
+      → es ≡ replicate (length es) 0 → m ≤ places mostLocations (length ls) → EntersAll ls m ix
+      → ExploreReady s n ls es ix (startCounts m)
+  explore-ready ls es ix p q room I = record {
     statements = routineIn n s .stmts;
     readable = statements-ok;
     list = startListing (routineIn n s);
-    held = starts-held ls es p q room;
+    held = starts-held ls es ix p q room I;
     fine = starts-fine;
   }

@@ -32,7 +32,9 @@ fn list(input: &[u8], n: usize, m: usize, locations: &mut [u8], edges: &mut [u8]
         locations: m,
         edges: 0,
     };
-    match explore::explore_all(input, n, locations, edges, starts) {
+    let mut index = [0u16; index::SIZE];
+    index::enter_all(&locations[..], m, &mut index);
+    match explore::explore_all(input, n, locations, edges, &mut index, starts) {
         Explored::Listed { counts } => Translated::Listed {
             locations: counts.locations,
             edges: counts.edges,

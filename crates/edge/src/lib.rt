@@ -97,13 +97,17 @@ fn run_edge(
     edge_on(d, gone.branch, way.guards, m, target)
 }
 
-// Writes the location's record with another statement.
+// Writes the location's record with another statement: by words, since it is read as words soon after.
 fn move_to(location: &[u8], to: Statement, target: &mut [u8])
     requires { ⌜ (length (now location) ≡ recordSize) × (length (now target) ≡ recordSize) ⌝ }
     ensures { λ _. ⌜ now (target .exit) ≡ set (now (location .entry)) 1 (to .0) ⌝ }
 {
-    bytes::copy(location, target);
-    target[1] = to.0;
+    word::copy_record(location, target);
+    let first = word::eight(location, 0);
+    word::put_eight(
+        target,
+        first % 256 + 256 * (to.0 as u64) + 0x1_0000 * (first / 0x1_0000),
+    );
 }
 
 // The edge of a statement that is done and keeps the shape: the counters stay too.

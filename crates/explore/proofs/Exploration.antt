@@ -21,23 +21,26 @@ use Rattle.explore.specs.declared.Explored.the-variants as explored
 use Rattle.explore.specs.Explore.{AllExplored, ExploreReady, LocationExplored, StatementsOk, exploredIn}
 use Rattle.location_edges.specs.Added.{AddedTo, LocsOk}
 
--- The listing, of no fewer locations than m, stands in the tables ls and es; exploring it from location i on gives o.
-pub record Left (m n cl ce : ℕ) (sts : List Stmt) (o : Explored) (ls es : List ℕ) (c : Counts) (i : ℕ) : Type 0 where
+-- The listing, of no fewer locations than m, stands in the tables ls and es, with its index; exploring it from
+-- location i on gives o.
+pub record Left (m n cl ce : ℕ) (sts : List Stmt) (o : Explored) (ls es ix : List ℕ) (c : Counts) (i : ℕ)
+    : Type 0 where
   pub list : Listing
-  pub held : Holds list ls es c
+  pub held : Holds list ls es ix c
   pub fine : LocsOk n list
   pub grew : m ≤ c .locations
   pub rest : o ≡ explore sts cl ce (cl - i) i list
 
 -- the outcome where an edge has no place, and where all have one
-added-case : (n i : ℕ) (o : Explored) (ls es : List ℕ) (c : Counts) → AddedTo n i o ls es (Added c)
-    → (u : Listing) × (o ≡ listed u) × Holds u ls es c × LocsOk n u
-added-case n i (listed u) ls es c A = (u, refl, A .0, A .1)
-added-case n i (full x) ls es c A = absurd A
+added-case : (n i : ℕ) (o : Explored) (ls es ix : List ℕ) (c : Counts) → AddedTo n i o ls es ix (Added c)
+    → (u : Listing) × (o ≡ listed u) × Holds u ls es ix c × LocsOk n u
+added-case n i (listed u) ls es ix c A = (u, refl, A .0, A .1)
+added-case n i (full x) ls es ix c A = absurd A
 
-full-case : (n i : ℕ) (o : Explored) (ls es : List ℕ) (m : ℕ) → AddedTo n i o ls es (Full m) → o ≡ full (refusal m i)
-full-case n i (listed u) ls es m A = absurd A
-full-case n i (full x) ls es m A = ap full A
+full-case : (n i : ℕ) (o : Explored) (ls es ix : List ℕ) (m : ℕ) → AddedTo n i o ls es ix (Full m)
+    → o ≡ full (refusal m i)
+full-case n i (listed u) ls es ix m A = absurd A
+full-case n i (full x) ls es ix m A = ap full A
 
 -- edges that are added leave the locations that were there
 more-locations : (i : ℕ) (es : List Edge) (t u : Listing) → u ≡ extend i es t → length (t .locs) ≤ length (u .locs)
@@ -49,11 +52,11 @@ explore-done sts cl ce zero i t h = refl
 explore-done sts cl ce (suc f) i t h = explore-end sts cl ce f i t h
 
 -- there are at most 1,024 locations
-pub most-locations : (s : List ℕ) (n : ℕ) (ls es : List ℕ) (c : Counts) → ExploreReady s n ls es c
+pub most-locations : (s : List ℕ) (n : ℕ) (ls es ix : List ℕ) (c : Counts) → ExploreReady s n ls es ix c
     → c .locations ≤ mostLocations
-most-locations s n ls es c R = let H = R .held in omega (arith, H .locNumber, H .locsFit)
+most-locations s n ls es ix c R = let H = R .held in omega (arith, H .locNumber, H .locsFit)
 
-module _ (s : List ℕ) (n : ℕ) (ls es : List ℕ) (c : Counts) where
+module _ (s : List ℕ) (n : ℕ) (ls es ix : List ℕ) (c : Counts) where
   abbrev cl : ℕ
   cl = places mostLocations (length ls)
 
@@ -61,36 +64,36 @@ module _ (s : List ℕ) (n : ℕ) (ls es : List ℕ) (c : Counts) where
   ce = places mostEdges (length es)
 
   -- whichever the statements and whichever listing was held at first, in ls and es
-  abbrev pub Explores : List ℕ → List ℕ → Counts → ℕ → Type 0
-  Explores ls′ es′ c′ i =
-      (sts : List Stmt) (t : Listing) → StatementsOk s n sts → Holds t ls es c → LocsOk n t
-      → Left (c .locations) n cl ce sts (exploredIn ls es sts t) ls′ es′ c′ i
+  abbrev pub Explores : List ℕ → List ℕ → List ℕ → Counts → ℕ → Type 0
+  Explores ls′ es′ ix′ c′ i =
+      (sts : List Stmt) (t : Listing) → StatementsOk s n sts → Holds t ls es ix c → LocsOk n t
+      → Left (c .locations) n cl ce sts (exploredIn ls es sts t) ls′ es′ ix′ c′ i
 
-  pub explores-start : Explores ls es c 0
+  pub explores-start : Explores ls es ix c 0
   explores-start sts t K H O =
       let e : cl ≡ cl - 0 = omega arith in
       record { list = t; held = H; fine = O; grew = omega arith; rest = ap (λ f. explore sts cl ce f 0 t) e }
 
-  module _ (ls′ es′ : List ℕ) (c′ : Counts) (i : ℕ) (X : Explores ls′ es′ c′ i) where
+  module _ (ls′ es′ ix′ : List ℕ) (c′ : Counts) (i : ℕ) (X : Explores ls′ es′ ix′ c′ i) where
     -- what is given to the next turn
-    pub next-ready : ExploreReady s n ls es c → ExploreReady s n ls′ es′ c′
+    pub next-ready : ExploreReady s n ls es ix c → ExploreReady s n ls′ es′ ix′ c′
     next-ready R =
         let L = X (R .statements) (R .list) (R .readable) (R .held) (R .fine) in
         record { statements = R .statements; readable = R .readable; list = L .list; held = L .held; fine = L .fine }
 
     -- no location is lost on the way
-    pub grown-since : ExploreReady s n ls es c → c .locations ≤ c′ .locations
+    pub grown-since : ExploreReady s n ls es ix c → c .locations ≤ c′ .locations
     grown-since R = X (R .statements) (R .list) (R .readable) (R .held) (R .fine) .grew
 
     module _ (p : length ls′ ≡ length ls) (q : length es′ ≡ length es) where
-      fits : (t : Listing) → Holds t ls′ es′ c′ → Placed cl ce t
+      fits : (t : Listing) → Holds t ls′ es′ ix′ c′ → Placed cl ce t
       fits t H = (rw p at (H .locsFit), rw q at (H .edgesFit))
 
-      fuel : (t : Listing) → Holds t ls′ es′ c′ → i < c′ .locations → cl - i ≡ suc (cl - (i + 1))
+      fuel : (t : Listing) → Holds t ls′ es′ ix′ c′ → i < c′ .locations → cl - i ≡ suc (cl - (i + 1))
       fuel t H lt = let few = fits t H .0 in let num = H .locNumber in omega arith
 
       -- no location is left
-      pub explores-end : c′ .locations ≤ i → AllExplored s n ls es c ls′ es′ (explored.Listed c′)
+      pub explores-end : c′ .locations ≤ i → AllExplored s n ls es ix c ls′ es′ ix′ (explored.Listed c′)
       explores-end h sts t K H O =
           let L = X sts t K H O in
           let num = L .held .locNumber in
@@ -98,17 +101,17 @@ module _ (s : List ℕ) (n : ℕ) (ls es : List ℕ) (c : Counts) where
           L .rest ∙ explore-done sts cl ce (cl - i) i (L .list) (omega arith) in
           rw o (L .held, L .fine)
 
-      module _ (lt : i < c′ .locations) (ls″ es″ : List ℕ) (x : Grown)
-          (T : LocationExplored s n ls′ es′ c′ i ls″ es″ x) where
+      module _ (lt : i < c′ .locations) (ls″ es″ ix″ : List ℕ) (x : Grown)
+          (T : LocationExplored s n ls′ es′ ix′ c′ i ls″ es″ ix″ x) where
         -- the next location
-        pub explores-next : (a : Counts) → x ≡ Added a → Explores ls″ es″ a (i + 1)
+        pub explores-next : (a : Counts) → x ≡ Added a → Explores ls″ es″ ix″ a (i + 1)
         explores-next a e sts t K H O =
             let L = X sts t K H O in
             let u = L .list in
             let edges = edgesOf sts (locAt (u .locs) i) in
-            let A : AddedTo n i (addEdges cl ce i edges u) ls″ es″ (Added a) =
+            let A : AddedTo n i (addEdges cl ce i edges u) ls″ es″ ix″ (Added a) =
             rw (p, q, e) at (T sts u K (L .held) (L .fine)) in
-            let y = added-case n i (addEdges cl ce i edges u) ls″ es″ a A in
+            let y = added-case n i (addEdges cl ce i edges u) ls″ es″ ix″ a A in
             let num = L .held .locNumber in
             let longer = add-listed cl ce i edges u (y .0) (fits u (L .held)) (y .1) .0 in
             let more = more-locations i edges u (y .0) longer in
@@ -123,14 +126,14 @@ module _ (s : List ℕ) (n : ℕ) (ls es : List ℕ) (c : Counts) where
             }
 
         -- no place for an edge of this location
-        pub explores-full : (m : ℕ) → x ≡ Full m → AllExplored s n ls es c ls″ es″ (explored.Full m i)
+        pub explores-full : (m : ℕ) → x ≡ Full m → AllExplored s n ls es ix c ls″ es″ ix″ (explored.Full m i)
         explores-full m e sts t K H O =
             let L = X sts t K H O in
             let u = L .list in
             let edges = edgesOf sts (locAt (u .locs) i) in
-            let A : AddedTo n i (addEdges cl ce i edges u) ls″ es″ (Full m) =
+            let A : AddedTo n i (addEdges cl ce i edges u) ls″ es″ ix″ (Full m) =
             rw (p, q, e) at (T sts u K (L .held) (L .fine)) in
-            let y = full-case n i (addEdges cl ce i edges u) ls″ es″ m A in
+            let y = full-case n i (addEdges cl ce i edges u) ls″ es″ ix″ m A in
             let num = L .held .locNumber in
             let o : exploredIn ls es sts t ≡ full (refusal m i) =
             L .rest ∙ ap (λ f. explore sts cl ce f i u) (fuel u (L .held) lt)

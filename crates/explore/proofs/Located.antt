@@ -44,7 +44,7 @@ among n r S =
     let f = statement-fields n r (S .accepted) in
     record { fields = record { known = f .0; isU = f .1; isW = f .2 }; leads = leads n r (S .accepted); few = S .few }
 
-module _ (t : Listing) (ls es : List ℕ) (c : Counts) (i : ℕ) (H : Holds t ls es c) (lt : i < c .locations) where
+module _ (t : Listing) (ls es ix : List ℕ) (c : Counts) (i : ℕ) (H : Holds t ls es ix c) (lt : i < c .locations) where
   below : i < length (t .locs)
   below = omega (arith, H .locNumber)
 
@@ -65,7 +65,7 @@ module _ (t : Listing) (ls es : List ℕ) (c : Counts) (i : ℕ) (H : Holds t ls
 
   -- a fault
   pub fault-added : (n : ℕ) (sts : List Stmt) (l : List ℕ) → LocsOk n t → l ≡ recordAt ls i → (byte l 2 ≡ 0 → ⊥)
-      → AddedTo n i (addedIn ls es i (edgesOf sts (locAt (t .locs) i)) t) ls es (Added c)
+      → AddedTo n i (addedIn ls es i (edgesOf sts (locAt (t .locs) i)) t) ls es ix (Added c)
   fault-added n sts l O e non =
       rw (fault-edges sts (locAt (t .locs) i) (λ z. non (ap (λ x. byte x 2) (e ∙ record-is) ∙ z))) (H, O)
 
@@ -128,7 +128,7 @@ module _ (t : Listing) (ls es : List ℕ) (c : Counts) (i : ℕ) (H : Holds t ls
         }
 
     -- it is given, and its edges are added
-    pub shape-given : ShapeGiven l d ls es c i
+    pub shape-given : ShapeGiven l d ls es ix c i
     shape-given =
         let F = found in
         record {
@@ -141,19 +141,20 @@ module _ (t : Listing) (ls es : List ℕ) (c : Counts) (i : ℕ) (H : Holds t ls
           low = omega (arith, low);
         }
 
-    pub shape-added : (ls′ es′ : List ℕ) (x : Grown) → EdgesAdded l d ls es c i ls′ es′ x
-        → AddedTo n i (addedIn ls es i (edgesOf sts (locAt (t .locs) i)) t) ls′ es′ x
-    shape-added ls′ es′ x X =
+    pub shape-added : (ls′ es′ ix′ : List ℕ) (x : Grown) → EdgesAdded l d ls es ix c i ls′ es′ ix′ x
+        → AddedTo n i (addedIn ls es i (edgesOf sts (locAt (t .locs) i)) t) ls′ es′ ix′ x
+    shape-added ls′ es′ ix′ x X =
         let F = found in
         let p : edgesOf sts (locAt (t .locs) i) ≡ edgesAt (F .number) (stmtIn d) (F .shape) =
         ap (edgesOf sts) (F .isLocation) ∙ ap (λ y. edgesAt (F .number) y (F .shape)) (F .isStatement) in
         rw p (X n (F .number) (F .shape) t (F .here) H (R .fine))
 
 -- the part of the input that the statement's record is
-pub statement-within : (s : List ℕ) (n : ℕ) (ls es : List ℕ) (c : Counts) (i : ℕ) → ExploreReady s n ls es c
+pub statement-within : (s : List ℕ) (n : ℕ) (ls es ix : List ℕ) (c : Counts) (i : ℕ)
+    → ExploreReady s n ls es ix c
     → i < c .locations → (l : List ℕ) → l ≡ recordAt ls i → byte l 2 ≡ 0 → 32 * byte l 1 + 32 ≤ length s
-statement-within s n ls es c i R lt l e z =
-    omega (arith, statement-low (R .list) ls es c i (R .held) lt n l (R .fine) e z, R .readable .room)
+statement-within s n ls es ix c i R lt l e z =
+    omega (arith, statement-low (R .list) ls es ix c i (R .held) lt n l (R .fine) e z, R .readable .room)
 
 pub part-is : (s : List ℕ) (b start : ℕ) → start ≡ 32 * b → take ((start + 32) - start) (drop start s) ≡ recordAt s b
 part-is s b start q = let e : (start + 32) - start ≡ 32 = omega arith in rw (e, q)

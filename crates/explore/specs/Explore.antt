@@ -34,18 +34,18 @@ pub record StatementsOk (s : List ℕ) (n : ℕ) (sts : List Stmt) : Type 0 wher
   pub read : (i : ℕ) → i < n → stmtAt sts i ≡ stmtOf (recordAt s i)
 
 -- the tables hold what an exploration gives; or it found no place
-abbrev pub ExploredTo : ℕ → Explored → List ℕ → List ℕ → declared.Explored → Type 0
-ExploredTo n (listed t) ls es (explored.Listed c) = Holds t ls es c × LocsOk n t
-ExploredTo n (listed t) ls es (explored.Full m p) = ⊥
-ExploredTo n (full x) ls es (explored.Listed c) = ⊥
-ExploredTo n (full x) ls es (explored.Full m p) = x ≡ refusal m p
+abbrev pub ExploredTo : ℕ → Explored → List ℕ → List ℕ → List ℕ → declared.Explored → Type 0
+ExploredTo n (listed t) ls es ix (explored.Listed c) = Holds t ls es ix c × LocsOk n t
+ExploredTo n (listed t) ls es ix (explored.Full m p) = ⊥
+ExploredTo n (full x) ls es ix (explored.Listed c) = ⊥
+ExploredTo n (full x) ls es ix (explored.Full m p) = x ≡ refusal m p
 
 -- some statements and some listing are given
-pub record ExploreReady (s : List ℕ) (n : ℕ) (ls es : List ℕ) (c : Counts) : Type 0 where
+pub record ExploreReady (s : List ℕ) (n : ℕ) (ls es ix : List ℕ) (c : Counts) : Type 0 where
   pub statements : List Stmt
   pub readable : StatementsOk s n statements
   pub list : Listing
-  pub held : Holds list ls es c
+  pub held : Holds list ls es ix c
   pub fine : LocsOk n list
 
 -- the listing t explored, with the places of the tables ls and es
@@ -54,13 +54,15 @@ exploredIn ls es sts t =
     explore sts (places mostLocations (length ls)) (places mostEdges (length es)) (places mostLocations (length ls)) 0 t
 
 -- whichever the statements and whichever listing was held, the edges of location i are added
-abbrev pub LocationExplored : List ℕ → ℕ → List ℕ → List ℕ → Counts → ℕ → List ℕ → List ℕ → Grown → Type 0
-LocationExplored s n ls es c i ls′ es′ x =
-    (sts : List Stmt) (t : Listing) → StatementsOk s n sts → Holds t ls es c → LocsOk n t
-    → AddedTo n i (addedIn ls es i (edgesOf sts (locAt (t .locs) i)) t) ls′ es′ x
+abbrev pub LocationExplored : List ℕ → ℕ → List ℕ → List ℕ → List ℕ → Counts → ℕ → List ℕ → List ℕ → List ℕ → Grown
+    → Type 0
+LocationExplored s n ls es ix c i ls′ es′ ix′ x =
+    (sts : List Stmt) (t : Listing) → StatementsOk s n sts → Holds t ls es ix c → LocsOk n t
+    → AddedTo n i (addedIn ls es i (edgesOf sts (locAt (t .locs) i)) t) ls′ es′ ix′ x
 
 -- the same for all locations
-abbrev pub AllExplored : List ℕ → ℕ → List ℕ → List ℕ → Counts → List ℕ → List ℕ → declared.Explored → Type 0
-AllExplored s n ls es c ls′ es′ x =
-    (sts : List Stmt) (t : Listing) → StatementsOk s n sts → Holds t ls es c → LocsOk n t
-    → ExploredTo n (exploredIn ls es sts t) ls′ es′ x
+abbrev pub AllExplored : List ℕ → ℕ → List ℕ → List ℕ → List ℕ → Counts → List ℕ → List ℕ → List ℕ → declared.Explored
+    → Type 0
+AllExplored s n ls es ix c ls′ es′ ix′ x =
+    (sts : List Stmt) (t : Listing) → StatementsOk s n sts → Holds t ls es ix c → LocsOk n t
+    → ExploredTo n (exploredIn ls es sts t) ls′ es′ ix′ x

@@ -19,7 +19,7 @@ fn copy_record(part: &[u8], rec: &mut [u8])
     requires { ⌜ (recordSize ≤ length (now part)) × (length (now rec) ≡ recordSize) ⌝ }
     ensures { λ _. ⌜ now (rec .exit) ≡ take recordSize (now (part .entry)) ⌝ }
 {
-    bytes::copy(&part[..model::RECORD], rec);
+    word::copy_record(part, rec);
 }
 
 // Where a statement's record begins in the input.
@@ -35,12 +35,13 @@ pub fn explore_location(
     n: usize,
     locations: &mut [u8],
     edges: &mut [u8],
+    index: &mut [u16],
     counts: Counts,
     i: usize,
 ) -> Grown
-    requires { ⌜ ExploreReady (now input) n (now locations) (now edges) counts × (i < counts .locations) ⌝ }
-    ensures { λ r. ⌜ LocationExplored (now (input .entry)) n (now (locations .entry)) (now (edges .entry)) counts i
-        (now (locations .exit)) (now (edges .exit)) r ⌝ }
+    requires { ⌜ ExploreReady (now input) n (now locations) (now edges) (now index) counts × (i < counts .locations) ⌝ }
+    ensures { λ r. ⌜ LocationExplored (now (input .entry)) n (now (locations .entry)) (now (edges .entry))
+        (now (index .entry)) counts i (now (locations .exit)) (now (edges .exit)) (now (index .exit)) r ⌝ }
 {
     let mut location = [0u8; model::RECORD];
     let at = model::RECORD * i;
@@ -51,7 +52,7 @@ pub fn explore_location(
     let start = record_start(Statement(location[1]));
     let end = start + model::RECORD;
     let d = statement::decode(&input[start..end]);
-    location_edges::add_edges(d, &location, locations, edges, counts, i)
+    location_edges::add_edges(d, &location, locations, edges, index, counts, i)
 }
 
 // Explores all locations, by number.
@@ -60,16 +61,17 @@ pub fn explore_all(
     n: usize,
     locations: &mut [u8],
     edges: &mut [u8],
+    index: &mut [u16],
     counts: Counts,
 ) -> Explored
-    requires { ⌜ ExploreReady (now input) n (now locations) (now edges) counts ⌝ }
-    ensures { λ r. ⌜ AllExplored (now (input .entry)) n (now (locations .entry)) (now (edges .entry)) counts
-        (now (locations .exit)) (now (edges .exit)) r ⌝ }
+    requires { ⌜ ExploreReady (now input) n (now locations) (now edges) (now index) counts ⌝ }
+    ensures { λ r. ⌜ AllExplored (now (input .entry)) n (now (locations .entry)) (now (edges .entry))
+        (now (index .entry)) counts (now (locations .exit)) (now (edges .exit)) (now (index .exit)) r ⌝ }
 {
     let mut held = counts;
     let mut i = 0;
     while i < held.locations {
-        match explore_location(input, n, locations, edges, held, i) {
+        match explore_location(input, n, locations, edges, index, held, i) {
             Grown::Added { counts: more } => {
                 held = more;
             }

@@ -1,3 +1,4 @@
 pub mod ListLaws
 pub mod ShapeLaws
 pub mod ImageLaws
+pub mod Coded

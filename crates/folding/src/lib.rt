@@ -4,6 +4,7 @@ ghost use mathlib.Core.List.{_++_, map};
 ghost use Prim.Native.Nat.{_+_, _<_, _≤_};
 ghost use lib.ListN.{length, getD, drop};
 ghost use Rattle.model.specs.Base.{pointerCount};
+ghost use Rattle.word.specs.Words.{numberOf};
 ghost use Rattle.folding.specs.Fold.{foldByte, foldedBytes, AllIn, FoldReady, LastsIn};
 
 // A byte in terms of nodes: a cell becomes its node.
@@ -51,4 +52,38 @@ pub fn fold_shape(pointers: &[u8], cells: &[u8], last: &[u8], node: &[u8], shape
 {
     fold_values(pointers, node, shape);
     fold_successors(cells, last, node, &mut shape[6..]);
+}
+
+// ---- the same as numbers, a byte for each value, the first lowest: what is read as words soon after is written so
+
+// The values, each in terms of nodes. From the last on: each goes below those behind it.
+pub fn code_values(values: &[u8], node: &[u8]) -> u64
+    requires { ⌜ (length (now values) ≤ 6) × AllIn (now node) (now values) ⌝ }
+    ensures { λ r. ⌜ (r ≡ numberOf (map (foldByte (now (node .entry))) (now (values .entry))))
+        × (r < 0x1_0000_0000_0000) ⌝ }
+{
+    let mut code: u64 = 0;
+    let mut i = values.len();
+    while 0 < i {
+        i -= 1;
+        code = code * 256 + fold_byte(values[i], node) as u64;
+    }
+    code
+}
+
+// What the cells `last` hold, in terms of nodes.
+pub fn code_successors(cells: &[u8], last: &[u8], node: &[u8]) -> u64
+    requires { ⌜ (length (now last) ≤ 6) × LastsIn (now node) (now cells) (now last) ⌝ }
+    ensures { λ r. ⌜ (r
+        ≡ numberOf (map (λ c. foldByte (now (node .entry)) (getD (now (cells .entry)) c 0)) (now (last .entry))))
+        × (r < 0x1_0000_0000_0000) ⌝ }
+{
+    let mut code: u64 = 0;
+    let mut i = last.len();
+    while 0 < i {
+        i -= 1;
+        let c = last[i] as usize;
+        code = code * 256 + fold_byte(cells[c], node) as u64;
+    }
+    code
 }

@@ -1,1 +1,3 @@
+pub mod Kept
+pub mod TakenLaws
 pub mod RunLaws

@@ -29,7 +29,7 @@ more-fine n i e t F k l q = bool-case (ltb (placeOf (sameLoc (e .to)) (t .locs))
     (λ b. in-append-cases l (t .locs) (e .to ∷ []) (rw b at q) (F l)
     (λ w. subst (LocOk n) (sym (in-single l (e .to) w)) k))
 
-module _ (t : Listing) (i : ℕ) (e : Edge) (rest : List Edge) (ls es : List ℕ) where
+module _ (t : Listing) (i : ℕ) (e : Edge) (rest : List Edge) (ls es ix : List ℕ) where
   abbrev cl : ℕ
   cl = places mostLocations (length ls)
 
@@ -37,12 +37,12 @@ module _ (t : Listing) (i : ℕ) (e : Edge) (rest : List Edge) (ls es : List ℕ
   ce = places mostEdges (length es)
 
   -- the first of the edges is added
-  pub add-step : (c : Counts) → GrownTo t i e ls es (Added c)
+  pub add-step : (c : Counts) → GrownTo t i e ls es ix (Added c)
       → addEdges cl ce i (e ∷ rest) t ≡ addEdges cl ce i rest (more i e t)
   add-step c G = rw (G .0, addEdges) (rw (G .1, addEdges))
 
   -- no place for the first of the edges
-  pub add-full : (m : ℕ) → GrownTo t i e ls es (Full m) → addEdges cl ce i (e ∷ rest) t ≡ full (refusal m i)
+  pub add-full : (m : ℕ) → GrownTo t i e ls es ix (Full m) → addEdges cl ce i (e ∷ rest) t ≡ full (refusal m i)
   add-full m G =
       let lo = G .2 in
       let hi = G .3 in

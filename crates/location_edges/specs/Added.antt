@@ -22,11 +22,11 @@ abbrev pub LocsOk : ℕ → Listing → Type 0
 LocsOk n t = (l : Loc) → In l (t .locs) → LocOk n l
 
 -- the tables hold what the edges of location i give; or one of them found no place
-abbrev pub AddedTo : ℕ → ℕ → Explored → List ℕ → List ℕ → Grown → Type 0
-AddedTo n i (listed t) ls es (grown.Added c) = Holds t ls es c × LocsOk n t
-AddedTo n i (listed t) ls es (grown.Full m) = ⊥
-AddedTo n i (full x) ls es (grown.Added c) = ⊥
-AddedTo n i (full x) ls es (grown.Full m) = x ≡ refusal m i
+abbrev pub AddedTo : ℕ → ℕ → Explored → List ℕ → List ℕ → List ℕ → Grown → Type 0
+AddedTo n i (listed t) ls es ix (grown.Added c) = Holds t ls es ix c × LocsOk n t
+AddedTo n i (listed t) ls es ix (grown.Full m) = ⊥
+AddedTo n i (full x) ls es ix (grown.Added c) = ⊥
+AddedTo n i (full x) ls es ix (grown.Full m) = x ≡ refusal m i
 
 -- edges of location i added to the listing t, with the places of the tables ls and es
 abbrev pub addedIn : List ℕ → List ℕ → ℕ → List Edge → Listing → Explored

@@ -47,19 +47,21 @@ pub record WayEdge (l : List ℕ) (d : Decoded) (s : ℕ) (h : Heap) (y : Way) (
   pub guarded : SmallGuards mostNodes (E .guards)
 
 -- the way makes some edge, and some listing is held
-pub record WayGiven (l : List ℕ) (d : Decoded) (y : Way) (ls es : List ℕ) (c : Counts) (i : ℕ) : Type 0 where
+pub record WayGiven (l : List ℕ) (d : Decoded) (y : Way) (ls es ix : List ℕ) (c : Counts) (i : ℕ) : Type 0 where
   pub number : ℕ
   pub shape : Heap
   pub edge : Edge
   pub isEdge : WayEdge l d number shape y edge
   pub list : Listing
-  pub held : Holds list ls es c
+  pub held : Holds list ls es ix c
   pub low : i < 65536
 
 -- whichever edge the way makes and whichever listing was held, the edge is added
-abbrev pub WayAdded : List ℕ → Decoded → Way → List ℕ → List ℕ → Counts → ℕ → List ℕ → List ℕ → Grown → Type 0
-WayAdded l d y ls es c i ls′ es′ x =
-    (s : ℕ) (h : Heap) (E : Edge) (t : Listing) → WayEdge l d s h y E → Holds t ls es c → GrownTo t i E ls′ es′ x
+abbrev pub WayAdded : List ℕ → Decoded → Way → List ℕ → List ℕ → List ℕ → Counts → ℕ → List ℕ → List ℕ → List ℕ → Grown
+    → Type 0
+WayAdded l d y ls es ix c i ls′ es′ ix′ x =
+    (s : ℕ) (h : Heap) (E : Edge) (t : Listing) → WayEdge l d s h y E → Holds t ls es ix c
+    → GrownTo t i E ls′ es′ ix′ x
 
 -- w has what the statement looks at, and the number of its ways
 pub record Counted (d : Decoded) (h : Heap) (w : Ways) : Type 0 where
@@ -70,17 +72,18 @@ abbrev pub AreWays : List ℕ → Decoded → Ways → Type 0
 AreWays l d w = (n s : ℕ) (h : Heap) → AtShape l d n s h → Counted d h w
 
 -- some location is given, and some listing is held
-pub record ShapeGiven (l : List ℕ) (d : Decoded) (ls es : List ℕ) (c : Counts) (i : ℕ) : Type 0 where
+pub record ShapeGiven (l : List ℕ) (d : Decoded) (ls es ix : List ℕ) (c : Counts) (i : ℕ) : Type 0 where
   pub statements : ℕ
   pub number : ℕ
   pub shape : Heap
   pub here : AtShape l d statements number shape
   pub list : Listing
-  pub held : Holds list ls es c
+  pub held : Holds list ls es ix c
   pub low : i < 65536
 
 -- whichever location was given and whichever listing was held, the location's edges are added
-abbrev pub EdgesAdded : List ℕ → Decoded → List ℕ → List ℕ → Counts → ℕ → List ℕ → List ℕ → Grown → Type 0
-EdgesAdded l d ls es c i ls′ es′ x =
-    (n s : ℕ) (h : Heap) (t : Listing) → AtShape l d n s h → Holds t ls es c → LocsOk n t
-    → AddedTo n i (addedIn ls es i (edgesAt s (stmtIn d) h) t) ls′ es′ x
+abbrev pub EdgesAdded : List ℕ → Decoded → List ℕ → List ℕ → List ℕ → Counts → ℕ → List ℕ → List ℕ → List ℕ → Grown
+    → Type 0
+EdgesAdded l d ls es ix c i ls′ es′ ix′ x =
+    (n s : ℕ) (h : Heap) (t : Listing) → AtShape l d n s h → Holds t ls es ix c → LocsOk n t
+    → AddedTo n i (addedIn ls es i (edgesAt s (stmtIn d) h) t) ls′ es′ ix′ x

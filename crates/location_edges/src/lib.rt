@@ -19,17 +19,18 @@ fn add_way(
     way: Way,
     locations: &mut [u8],
     edges: &mut [u8],
+    index: &mut [u16],
     counts: Counts,
     i: usize,
 ) -> Grown
-    requires { ⌜ WayGiven (now location) d way (now locations) (now edges) counts i ⌝ }
-    ensures { λ r. ⌜ WayAdded (now (location .entry)) d way (now (locations .entry)) (now (edges .entry)) counts i
-        (now (locations .exit)) (now (edges .exit)) r ⌝ }
+    requires { ⌜ WayGiven (now location) d way (now locations) (now edges) (now index) counts i ⌝ }
+    ensures { λ r. ⌜ WayAdded (now (location .entry)) d way (now (locations .entry)) (now (edges .entry))
+        (now (index .entry)) counts i (now (locations .exit)) (now (edges .exit)) (now (index .exit)) r ⌝ }
 {
     let mut target = [0u8; model::RECORD];
     let mut updates = [0u16; 16];
     let made = edge::one_edge(location, d, way, &mut target, &mut updates);
-    listing::add_edge(locations, edges, counts, i, made, &target, &updates)
+    listing::add_edge(locations, edges, index, counts, i, made, &target, &updates)
 }
 
 // Adds the edges by the ways, in order. One call for all of them, which the compiler then inlines.
@@ -39,18 +40,20 @@ fn add_ways(
     ways: Ways,
     locations: &mut [u8],
     edges: &mut [u8],
+    index: &mut [u16],
     counts: Counts,
     i: usize,
 ) -> Grown
-    requires { ⌜ ShapeGiven (now location) d (now locations) (now edges) counts i × AreWays (now location) d ways ⌝ }
-    ensures { λ r. ⌜ EdgesAdded (now (location .entry)) d (now (locations .entry)) (now (edges .entry)) counts i
-        (now (locations .exit)) (now (edges .exit)) r ⌝ }
+    requires { ⌜ ShapeGiven (now location) d (now locations) (now edges) (now index) counts i
+        × AreWays (now location) d ways ⌝ }
+    ensures { λ r. ⌜ EdgesAdded (now (location .entry)) d (now (locations .entry)) (now (edges .entry))
+        (now (index .entry)) counts i (now (locations .exit)) (now (edges .exit)) (now (index .exit)) r ⌝ }
 {
     let mut held = counts;
     let mut j = 0;
     while j < ways.count {
         let way = way::way_at(ways.view, j);
-        match add_way(d, location, way, locations, edges, held, i) {
+        match add_way(d, location, way, locations, edges, index, held, i) {
             Grown::Added { counts: more } => {
                 held = more;
             }
@@ -67,12 +70,13 @@ pub fn add_edges(
     location: &[u8],
     locations: &mut [u8],
     edges: &mut [u8],
+    index: &mut [u16],
     counts: Counts,
     i: usize,
 ) -> Grown
-    requires { ⌜ ShapeGiven (now location) d (now locations) (now edges) counts i ⌝ }
-    ensures { λ r. ⌜ EdgesAdded (now (location .entry)) d (now (locations .entry)) (now (edges .entry)) counts i
-        (now (locations .exit)) (now (edges .exit)) r ⌝ }
+    requires { ⌜ ShapeGiven (now location) d (now locations) (now edges) (now index) counts i ⌝ }
+    ensures { λ r. ⌜ EdgesAdded (now (location .entry)) d (now (locations .entry)) (now (edges .entry))
+        (now (index .entry)) counts i (now (locations .exit)) (now (edges .exit)) (now (index .exit)) r ⌝ }
 {
     let view = way::view(d, &location[4..10]);
     let count = way::way_count(d.op, view);
@@ -82,6 +86,7 @@ pub fn add_edges(
         Ways { view, count },
         locations,
         edges,
+        index,
         counts,
         i,
     )

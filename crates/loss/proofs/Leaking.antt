@@ -20,13 +20,13 @@ use Rattle.model.specs.declared.Decoded.{Decoded}
 use Rattle.way.specs.Ready.{WayReady}
 use Rattle.way.specs.declared.Way.{Way}
 use Rattle.way.proofs.Ready.{location-wide, node-below, node-used, nodes-few, nodes-is, shape-is}
-use Rattle.loss.specs.Loss.{AloneHolds, Leaks, Overwrites, cutsAt}
+use Rattle.loss.specs.Loss.{AloneHolds, Leaks, Overwrites}
 use Rattle.loss.proofs.Ops.{Reads, copies, cuts, cuts-op, follows, neither, reads, reads-op, sets, sets-op}
 use mathlib.Core.Option.{some}
 use Rattle.model.specs.Machine.{Op, Source, Action, action, carryOut, collects, kind, settle, point, keep, valueOf, perform, from, fault, leak, nil, follow, link, held, make, release, compare, splice, stay}
 use Rattle.model.proofs.expansion.Unheld.{free-leaks, NoNext, split-used, split-none, set-leaks, write-leaks, held-other, new-leaks}
 use Rattle.model.specs.Edges.{splitHeap, twoNodes, view}
-use Rattle.model.specs.Structs.{keepsAt, opIn}
+use Rattle.model.specs.Structs.{cutsAt, keepsAt, opIn}
 use Rattle.model.proofs.expansion.Splits.{pair-is, pair-view, view-collects, view-is}
 use Rattle.model.proofs.records.Ops.{op-collects}
 use Rattle.model.proofs.ways.Relinks.{split-leaks}

@@ -7,8 +7,7 @@ use lib.Dec.{eqb}
 use Rattle.model.specs.Machine.{Action, Source, action, follow, from, link, make, nil, point, release, compare, splice, stay}
 use Rattle.model.specs.Records.{opCount, opOf}
 use Rattle.model.proofs.records.Ops.{each-op}
-use Rattle.model.specs.Structs.{keepsAt}
-use Rattle.loss.specs.Loss.{cutsAt}
+use Rattle.model.specs.Structs.{cutsAt, keepsAt}
 
 -- the pointer whose cell loses its next by the action
 abbrev pub cuts : Action → Option ℕ

@@ -2,9 +2,8 @@
 -- run. Assumes nothing.
 use Prim.Native.Nat.{ℕ, _+_, _<_, _≤_}
 use mathlib.Core.Path.{_≡_}
-use mathlib.Core.Bool.{Bool, false, _||_}
+use mathlib.Core.Bool.{false}
 use mathlib.Core.List.{List}
-use lib.Dec.{eqb}
 use lib.ListN.{length}
 use Rattle.model.specs.Heap.{Heap}
 use Rattle.model.specs.Machine.{fault, leak, carryOut}
@@ -14,10 +13,6 @@ use Rattle.model.specs.declared.Decoded.{Decoded}
 use Rattle.way.specs.Ready.{WayReady}
 use Rattle.way.specs.Way.{wayIn}
 use Rattle.way.specs.declared.Way.{Way}
-
--- the ops that take the next of u's cell away
-abbrev pub cutsAt : ℕ → Bool
-cutsAt op = eqb op 4 || eqb op 5 || eqb op 7 || eqb op 12
 
 -- the byte at place a stands at no other place of the pointers and the successors
 abbrev pub StandsOnce : List ℕ → ℕ → Type 0

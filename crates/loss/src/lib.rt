@@ -9,14 +9,7 @@ ghost use mathlib.Core.Path.{_≡_};
 ghost use lib.ListN.{length};
 ghost use Rattle.model.specs.Base.{mostNodes, recordSize, pointerCount};
 ghost use Rattle.model.specs.Records.{byte};
-ghost use Rattle.loss.specs.Loss.{AloneHolds, Leaks, LossReady, Overwrites, StandsOnce, cutsAt};
-
-// Whether the op takes the next of u's cell away: u.next := null, u.next := w, free u, u.next := w.next.
-fn cuts_next(op: u8) -> bool
-    ensures { λ r. ⌜ r ≡ cutsAt op ⌝ }
-{
-    (op == 4) | (op == 5) | (op == 7) | (op == 12)
-}
+ghost use Rattle.loss.specs.Loss.{AloneHolds, Leaks, LossReady, Overwrites, StandsOnce};
 
 // Whether the way splits the node that pointer u holds.
 fn splits_at(location: &[u8], u: Pointer, way: Way) -> bool
@@ -78,7 +71,7 @@ pub fn surely_lost(location: &[u8], d: Decoded, way: Way) -> bool
     requires { ⌜ LossReady (now location) d way ⌝ }
     ensures { λ r. ⌜ (r ≡ true → Leaks (now (location .entry)) d way) ⌝ }
 {
-    if cuts_next(d.op) {
+    if statement::cuts_next(d.op) {
         splits_at(location, d.u, way)
     } else if overwrites(location, d.op, d.u, d.w) {
         alone_holds(location, d.u)

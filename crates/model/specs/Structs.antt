@@ -42,6 +42,10 @@ pub record DecodedOk (d : Decoded) : Type 0 where
 abbrev pub keepsAt : ℕ → Bool
 keepsAt op = eqb op 0 || (leb 8 op && leb op 11)
 
+-- the ops, by number, that take the next of u's cell away: u.next := null, u.next := w, free u, u.next := w.next
+abbrev pub cutsAt : ℕ → Bool
+cutsAt op = eqb op 4 || eqb op 5 || eqb op 7 || eqb op 12
+
 abbrev pub stmtIn : Decoded → Stmt
 stmtIn d = record { op = opIn d; firstTarget = d .first .0; secondTarget = d .second .0 }
 

@@ -126,6 +126,7 @@ module _ {r : List ℕ} {p c : ℕ} {ps cs : List ℕ} {d : Decoded} (C : Checke
               room = rw (length-map cs cellSlot) at (not-true x (and-l (not x) (accepts (opIn d) (entry p c) h) g));
             };
             fresh = room-accept (opIn d) (entry p c) h (and-r (not x) (accepts (opIn d) (entry p c) h) g);
+            isKept = i .2 .isKept;
           }
 
       taken : (x : Stepping) → x ≡ stmtAnswer (stmtIn d) p c ps cs → x ≡ stepImage r p c ps cs

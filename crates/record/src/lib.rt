@@ -37,9 +37,11 @@ pub fn write_fault(part: &mut [u8], statement: Statement, fault: u8)
     ensures { λ _. ⌜ now (part .exit) ≡ faultBytes (statement .0) fault ++ drop recordSize (now (part .entry)) ⌝ }
 {
     blank(part);
-    part[0] = 0x4c;
-    part[1] = statement.0;
-    part[2] = fault;
+    // the first eight bytes at once, since they are read as words soon after
+    word::put_eight(
+        part,
+        0x4c + 0x100 * (statement.0 as u64) + 0x1_0000 * (fault as u64),
+    );
 }
 
 // An L record with the shape that the record rec has: the part is that of the location table from 32 times its number

@@ -1,1 +1,2 @@
 pub mod Refold
+pub mod Worded

@@ -1,71 +1,23 @@
 -- Bytes compared eight at a time: as digits in base 256 they are one number, and different bytes are different numbers.
-use Prim.Native.Nat.{ℕ, suc, _+_, _*_, _^_, _≤_, _<_}
-use mathlib.Core.Path.{_≡_, sym, ap, ap₂, subst, _∙_}
+use Prim.Native.Nat.{ℕ, _+_, _≤_}
+use mathlib.Core.Path.{_≡_, sym, ap, ap₂, _∙_}
 use mathlib.Core.Bool.{true, false, _&&_}
-use mathlib.Core.List.{List, [], _∷_, _++_}
-use native.Mathlib.Nat.{add-assoc, mul-add, mul-assoc, pow-succ', pow-zero}
+use mathlib.Core.List.{List}
 use native.Mathlib.Omega.{arith}
 use lib.Dec.{eqb}
 use borrow.Author.Tests.{eq-eqb, eqb-true}
-use lib.ListN.{take, drop, getD, length, take-append-drop}
-use lib.Seq.{drop-cons, drop-drop, take-add, take-all}
+use lib.ListN.{take, drop, length}
+use lib.Seq.{take-all}
 use Rattle.model.specs.Base.{sameList}
-use Rattle.model.specs.Records.{word}
-use Rattle.model.proofs.lists.Digits.{Below, code-injective, codeOf}
-use Rattle.model.proofs.lists.Lists.{in-append-l, in-drop, in-getD}
+use Rattle.model.proofs.lists.Digits.{code-injective, codeOf}
 use Rattle.model.proofs.lists.Logic.{and-l, and-r, bool-ext, not-true}
 use Rattle.model.proofs.shapes.Same.{bytes-same, same-bytes-refl}
-use Rattle.model.specs.Notions.{In}
-use Rattle.search.specs.Search.{fourAt, eightAt, keyAt}
-use Rattle.search.proofs.ListLaws.{part-length, samePart, same-split}
-
--- ---- bytes as a number
-
-code-append : (c : ℕ) (l m : List ℕ) → codeOf c (l ++ m) ≡ codeOf c l + c ^ length l * codeOf c m
-code-append c [] m = rw pow-zero (omega arith)
-code-append c (x ∷ l) m =
-    let p = c ^ length l in
-    rw (code-append c l m, pow-succ' c (length l), mul-add c (codeOf c l) (p * codeOf c m), mul-assoc c p (codeOf c m))
-    (sym (add-assoc x (c * codeOf c l) (c * (p * codeOf c m))))
-
--- the n bytes of t from a on
-abbrev codeAt : ℕ → List ℕ → ℕ → ℕ
-codeAt n t a = codeOf 256 (take n (drop a t))
-
-module _ (t : List ℕ) (a : ℕ) where
-  code-add : (m n : ℕ) → a + m ≤ length t → codeAt (m + n) t a ≡ codeAt m t a + 256 ^ m * codeAt n t (a + m)
-  code-add m n h =
-      ap (codeOf 256) (take-add m n (drop a t)) ∙ code-append 256 (take m (drop a t)) (take n (drop m (drop a t)))
-      ∙ rw (part-length t a m h, drop-drop m a t)
-
-  word-code : a + 2 ≤ length t → word t a ≡ codeAt 2 t a
-  word-code h =
-      let e = drop-cons t a 0 (omega arith) ∙ ap (λ l. getD t a 0 ∷ l) (drop-cons t (suc a) 0 (omega arith)) in
-      let n : word t a ≡ codeOf 256 (getD t a 0 ∷ getD t (suc a) 0 ∷ []) = omega arith in
-      n ∙ sym (ap (λ l. codeOf 256 (take 2 l)) e)
-
-four-code : (t : List ℕ) (a : ℕ) → a + 4 ≤ length t → fourAt t a ≡ codeAt 4 t a
-four-code t a h =
-    ap₂ (λ x y. x + 0x1_0000 * y) (word-code t a (omega arith)) (word-code t (a + 2) (omega arith))
-    ∙ sym (code-add t a 2 2 (omega arith))
-
-eight-code : (t : List ℕ) (a : ℕ) → a + 8 ≤ length t → eightAt t a ≡ codeAt 8 t a
-eight-code t a h =
-    ap₂ (λ x y. x + 0x1_0000_0000 * y) (four-code t a (omega arith)) (four-code t (a + 4) (omega arith))
-    ∙ sym (code-add t a 4 4 (omega arith))
+use Rattle.word.specs.Words.{eightAt}
+use Rattle.word.proofs.Codes.{Bytes, eight-code, part-below, part-length}
+use Rattle.search.specs.Search.{keyAt}
+use Rattle.search.proofs.ListLaws.{samePart, same-split}
 
 -- ---- parts of eight bytes are the same exactly where their numbers are
-
--- each place holds a byte
-abbrev pub Bytes : List ℕ → Type 0
-Bytes l = (i : ℕ) → getD l i 0 < 256
-
-part-below : (t : List ℕ) (a n : ℕ) → Bytes t → Below 256 (take n (drop a t))
-part-below t a n B x i =
-    let d = drop a t in
-    let j : In x t = in-drop x a t (subst (In x) (take-append-drop n d) (in-append-l x (take n d) (drop n d) i)) in
-    let g = in-getD t 0 x j in
-    subst (λ y. y < 256) (g .2) (B (g .0))
 
 module _ (t : List ℕ) (a : ℕ) (r : List ℕ) (b : ℕ) (h : a + 8 ≤ length t) (k : b + 8 ≤ length r) where
   eight-same : samePart 8 t a r b ≡ true → eightAt t a ≡ eightAt r b

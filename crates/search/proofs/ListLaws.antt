@@ -1,18 +1,14 @@
 -- Laws on lists: parts of two lists compared.
-use Prim.Native.Nat.{ℕ, zero, suc, _+_, _≤_}
+use Prim.Native.Nat.{ℕ, zero, suc, _+_}
 use mathlib.Core.Path.{_≡_, sym, ap, _∙_}
 use mathlib.Core.Bool.{Bool, _&&_, and-assoc}
 use mathlib.Core.List.{List, [], _∷_}
 use native.Mathlib.Nat.{suc-add, zero-add}
-use native.Mathlib.Omega.{arith}
 use lib.Dec.{eqb}
-use lib.ListN.{length, take, drop, length-take, length-drop}
+use lib.ListN.{take, drop}
 use lib.Seq.{drop-drop}
 use Rattle.model.specs.Base.{sameList}
 use Rattle.model.proofs.shapes.Same.{same-bytes-refl}
-
-pub part-length : (t : List ℕ) (a n : ℕ) → a + n ≤ length t → length (take n (drop a t)) ≡ n
-part-length t a n h = simp (length-take, length-drop) (omega arith)
 
 -- the n elements of t from a on are those of r from b on
 abbrev pub samePart : ℕ → List ℕ → ℕ → List ℕ → ℕ → Bool

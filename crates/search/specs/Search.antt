@@ -1,9 +1,9 @@
 -- What a search of a table finds. Assumes nothing.
-use Prim.Native.Nat.{ℕ, _+_, _*_}
+use Prim.Native.Nat.{ℕ, _+_}
 use mathlib.Core.List.{List}
 use mathlib.Core.Option.{Option, none, some}
-use Rattle.model.specs.Records.{word}
 use Rattle.model.specs.Search.{equalAt, highestBelow}
+use Rattle.word.specs.Words.{eightAt}
 
 -- the number that was found, or d
 abbrev pub numberOr : ℕ → Option ℕ → ℕ
@@ -13,14 +13,6 @@ numberOr d none = d
 -- the newest of the first n records that equals r, or n
 abbrev pub foundAt : List ℕ → List ℕ → ℕ → ℕ
 foundAt t r n = numberOr n (highestBelow n (equalAt t r))
-
--- four bytes from n on as a number, the low byte first
-abbrev pub fourAt : List ℕ → ℕ → ℕ
-fourAt t n = word t n + 0x1_0000 * word t (n + 2)
-
--- eight bytes from n on as a number, the low byte first
-abbrev pub eightAt : List ℕ → ℕ → ℕ
-eightAt t n = fourAt t n + 0x1_0000_0000 * fourAt t (n + 4)
 
 -- bytes 1 to 8 of the record at n, as a number
 abbrev pub keyAt : List ℕ → ℕ → ℕ

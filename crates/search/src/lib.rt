@@ -1,27 +1,11 @@
 // Looking for a record among those of a table: a known location, or a shape among those before it.
-use word::two;
+use word::eight;
 ghost use mathlib.Core.Path.{_≡_};
 ghost use Prim.Native.Nat.{_+_, _*_, _≤_};
 ghost use lib.Dec.{eqb};
 ghost use lib.ListN.{length, take, drop};
 ghost use Rattle.model.specs.Base.{sameList, recordSize};
-ghost use Rattle.search.specs.Search.{foundAt, fourAt, eightAt, keyAt};
-
-// Four bytes as a number, the low byte first.
-fn four(t: &[u8], at: usize) -> u32
-    requires { ⌜ at + 4 ≤ length (now t) ⌝ }
-    ensures { λ r. ⌜ r ≡ fourAt (now (t .entry)) at ⌝ }
-{
-    two(t, at) as u32 + 0x1_0000 * (two(t, at + 2) as u32)
-}
-
-// Eight bytes as a number, the low byte first; the compiler makes one load of it.
-fn eight(t: &[u8], at: usize) -> u64
-    requires { ⌜ at + 8 ≤ length (now t) ⌝ }
-    ensures { λ r. ⌜ r ≡ eightAt (now (t .entry)) at ⌝ }
-{
-    four(t, at) as u64 + 0x1_0000_0000 * (four(t, at + 4) as u64)
-}
+ghost use Rattle.search.specs.Search.{foundAt, keyAt};
 
 // The key of the record at `at`: bytes 1 to 8, in which most locations differ (statement, fault, node count, five
 // pointers). Most records are passed by one comparison of keys.
@@ -42,7 +26,7 @@ fn same_eight(table: &[u8], at: usize, rec: &[u8], from: usize) -> bool
 }
 
 // Whether the 32 bytes at `at` are those of rec.
-fn same_at(table: &[u8], at: usize, rec: &[u8]) -> bool
+pub fn same_at(table: &[u8], at: usize, rec: &[u8]) -> bool
     requires { ⌜ (at + recordSize ≤ length (now table)) × (length (now rec) ≡ recordSize) ⌝ }
     ensures { λ r. ⌜ r ≡ sameList eqb (take recordSize (drop at (now (table .entry)))) (now (rec .entry)) ⌝ }
 {

@@ -1,3 +1,4 @@
 pub mod ListLaws
 pub mod CutLaws
 pub mod CutStep
+pub mod RunLaws

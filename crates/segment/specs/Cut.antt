@@ -1,8 +1,8 @@
 -- The cut of a visit order on bytes: what it asks, the tables that it leaves, and what one turn stores.
-use Prim.Native.Nat.{ℕ, _+_, _-_, _<_, _≤_}
+use Prim.Native.Nat.{ℕ, suc, _+_, _-_, _<_, _≤_}
 use mathlib.Core.Path.{_≡_}
 use mathlib.Core.Bool.{Bool, true, false, cond}
-use mathlib.Core.List.{List, map}
+use mathlib.Core.List.{List, [], _∷_, map}
 use lib.Dec.{leb}
 use lib.ListN.{length, getD, take, set}
 use Rattle.model.specs.Base.{mem, mostCells}
@@ -69,3 +69,17 @@ pub record PutReady (c k : ℕ) (held : List ℕ) (t : CutTables) : Type 0 where
   pub fresh : heldCore held c ≡ true → (k < length (t .last)) × (k < length (t .size))
   pub more : heldCore held c ≡ false
       → (0 < k) × (k ≤ length (t .last)) × (k ≤ length (t .size)) × (getD (t .size) (k - 1) 0 < mostCells)
+
+-- the table has a place for each of the cells
+abbrev pub Within : List ℕ → List ℕ → Type 0
+Within cells table = (i : ℕ) → i < length cells → getD cells i 0 < length table
+
+-- how many cells at the start of a list are not core
+abbrev pub inner : List ℕ → List ℕ → ℕ
+inner held [] = 0
+inner held (c ∷ l) = cond (heldCore held c) 0 (suc (inner held l))
+
+-- a table of nodes in which each of the cells has node n
+abbrev pub named : List ℕ → ℕ → List ℕ → List ℕ
+named [] n t = t
+named (c ∷ l) n t = named l n (set t c n)

@@ -1,4 +1,4 @@
-// A statement's record decoded, and the statement after it.
+// A statement's record decoded, the statement after it, and what kind of op it has.
 use model::Decoded;
 use model::Pointer;
 use model::Statement;
@@ -6,7 +6,7 @@ ghost use mathlib.Core.Path.{_≡_};
 ghost use lib.ListN.{length};
 ghost use Rattle.model.specs.Base.{recordSize};
 ghost use Rattle.model.specs.Machine.{target};
-ghost use Rattle.model.specs.Structs.{decoded, stmtIn};
+ghost use Rattle.model.specs.Structs.{cutsAt, decoded, stmtIn};
 
 // The fields of an S record.
 pub fn decode(rec: &[u8]) -> Decoded
@@ -30,4 +30,11 @@ pub fn next_of(d: Decoded, branch: u8) -> Statement
         return d.first;
     }
     d.second
+}
+
+// Whether the op takes the next of u's cell away: u.next := null, u.next := w, free u, u.next := w.next.
+pub fn cuts_next(op: u8) -> bool
+    ensures { λ r. ⌜ r ≡ cutsAt op ⌝ }
+{
+    (op == 4) | (op == 5) | (op == 7) | (op == 12)
 }

@@ -62,13 +62,7 @@ pub fn visit(pointers: &[u8], cells: &[u8], order: &mut [u8], seen: &mut [u8]) -
 fn kept_too(before: bool, b: u8, mark: u8) -> bool
     ensures { λ r. ⌜ r ≡ not (lostAt b mark) && before ⌝ }
 {
-    if b == 0xfd {
-        return before;
-    }
-    if mark == 0 {
-        return false;
-    }
-    before
+    before & ((b == 0xfd) | (mark != 0))
 }
 
 // Whether every cell in use has a mark. All cells are looked at: that is quicker than to stop at the first that is

@@ -6,6 +6,7 @@ pub mod damage;
 pub mod draw;
 pub mod dropped;
 pub mod edges;
+pub mod index;
 pub mod joined;
 pub mod rings;
 pub mod searches;

@@ -8,28 +8,29 @@ use Rattle.heap_operations.proofs.FoldLaws.{fold-is}
 use Rattle.heap_operations.proofs.fold_heap.Statement.{statement}
 use Rattle.heap_operations.proofs.fold_heap.Tie as tie
 
-cut-requires : tie.Need-cut-requires
-cut-requires c κs =
+cut-long-requires : tie.Need-cut-long-requires
+cut-long-requires c κs =
     let p = c .before .before .before .before .before .before .before .pre in
     cut-ready p _ (p .few) (omega arith) (omega arith)
 
 array-share-prefix-last : tie.Need-array-share-prefix-last
 array-share-prefix-last c =
     let k = c .before .before .before in
-    let few = few-nodes (k .before .before .before .before .before .before .before .before .pre) (k .cut .ensures .0) in
-    omega (arith, k .cut .kept .1 .1 .1 .0)
+    let p = k .before .before .before .before .before .before .before .before .pre in
+    let few = few-nodes p (k .cut-long .ensures .0) in
+    omega (arith, k .cut-long .kept .1 .1 .1 .0)
 
 slice-aggregate-fold-shape : tie.Need-slice-aggregate-fold-shape
 slice-aggregate-fold-shape c =
     let k = c .before .before .before .before in
-    count-lasts (k .before .before .before .before .before .before .before .before .pre) (k .cut .ensures .0)
+    count-lasts (k .before .before .before .before .before .before .before .before .pre) (k .cut-long .ensures .0)
 
 fold-shape-requires : tie.Need-fold-shape-requires
 fold-shape-requires c κs =
     let k = c .before .before .before .before .before .before in
     let p = k .before .before .before .before .before .before .before .before .pre in
     let few = p .few in
-    fold-ready p (k .cut .ensures .0) (omega (arith, k .cut .kept .1 .1 .0)) _ (omega arith)
+    fold-ready p (k .cut-long .ensures .0) (omega (arith, k .cut-long .kept .1 .1 .0)) _ (omega arith)
 
 slice-aggregate-write-head : tie.Need-slice-aggregate-write-head
 slice-aggregate-write-head c =
@@ -40,7 +41,7 @@ write-head-requires : tie.Need-write-head-requires
 write-head-requires c κs =
     let k = c .before .before .before .before .before .before .before .before .before in
     let p = k .before .before .before .before .before .before .before .before .pre in
-    (search needs, few-nodes p (k .cut .ensures .0))
+    (search needs, few-nodes p (k .cut-long .ensures .0))
 
 returns : tie.Need-returns
 returns c =
@@ -48,12 +49,12 @@ returns c =
     let s = c .before .before .before .before in
     let k = s .before .before .before .before .before .before .before in
     let p = k .before .before .before .before .before .before .before .before .pre in
-    fold-is (p .six) (shape-is p (k .cut .ensures .0) _ _ (s .fold-shape .ensures)) (w .last .0) (w .ensures)
-    (k .cut .ensures .1)
+    fold-is (p .six) (shape-is p (k .cut-long .ensures .0) _ _ (s .fold-shape .ensures)) (w .last .0) (w .ensures)
+    (k .cut-long .ensures .1)
 
 pub fold-heap-spec : {M : Type 1} → statement M
 fold-heap-spec =
     tie.close
-    (tie.spec (λ c. search needs) (λ c. search needs) (λ c. search needs) cut-requires array-share-prefix-last
+    (tie.spec (λ c. search needs) (λ c. search needs) (λ c. search needs) cut-long-requires array-share-prefix-last
     slice-aggregate-fold-shape (λ c. search needs) (λ c. search needs) (λ c. search needs) (λ c. search needs)
     fold-shape-requires slice-aggregate-write-head write-head-requires returns)

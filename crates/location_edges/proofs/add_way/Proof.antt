@@ -6,7 +6,7 @@ use Rattle.location_edges.proofs.add_way.Tie as tie
 
 one-edge-requires : tie.Need-one-edge-requires
 one-edge-requires c κs =
-    let p = c .before .before .before .before .before .pre in
+    let p = c .before .before .before .before .before .before .pre in
     record {
       number = p .number;
       shape = p .shape;
@@ -17,8 +17,9 @@ one-edge-requires c κs =
 
 add-edge-requires : tie.Need-add-edge-requires
 add-edge-requires c κs =
-    let o = c .before .before .before .before .before .before .one-edge in
-    let p = c .before .before .before .before .before .before .before .before .before .before .before .before .pre in
+    let o = c .before .before .before .before .before .before .before .one-edge in
+    let p = c .before .before .before .before .before .before .before .before .before .before .before .before .before
+    .before .pre in
     let E = o .ensures (p .number) (p .shape) (p .isEdge .ready) (p .edge) (p .isEdge .made) in
     record {
       list = p .list;
@@ -35,8 +36,8 @@ add-edge-requires c κs =
 
 returns : tie.Need-returns
 returns c s h E t W H =
-    let d = c .before .before .before .before in
-    let o = d .before .before .before .before .before .before .before .one-edge in
+    let d = c .before .before .before .before .before .before in
+    let o = d .before .before .before .before .before .before .before .before .one-edge in
     d .add-edge .ensures t E H (W .good) (o .ensures s h (W .ready) E (W .made))
 
 pub add-way-spec : {M : Type 1} → statement M
@@ -49,6 +50,7 @@ add-way-spec =
     (λ c. search needs)
     (λ c. search needs)
     add-edge-requires
+    (λ c. search needs)
     (λ c. search needs)
     (λ c. search needs)
     returns)

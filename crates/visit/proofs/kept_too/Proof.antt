@@ -1,16 +1,23 @@
--- `visit::kept_too` meets its contract, test by test. Assumes nothing.
-use borrow.Author.Tests.{eq-eqb, ne-eqb}
+-- `visit::kept_too` meets its contract: a cell is kept where it is not in use or has a mark. Assumes nothing.
+use mathlib.Core.Path.{_≡_, refl}
+use mathlib.Core.Bool.{Bool, true, false, not, _&&_, _||_}
+use lib.Dec.{eqb}
 use Rattle.visit.proofs.kept_too.Statement.{statement}
 use Rattle.visit.proofs.kept_too.Tie as tie
 
+-- before, not in use, and without a mark
+kept : (a x y : Bool) → a && (x || not y) ≡ not (not x && y) && a
+kept true true true = refl
+kept true true false = refl
+kept true false true = refl
+kept true false false = refl
+kept false true true = refl
+kept false true false = refl
+kept false false true = refl
+kept false false false = refl
+
 returns : tie.Need-returns
-returns c = rw (eq-eqb _ _ (c .if1 .taken))
-
-returns-2 : tie.Need-returns-2
-returns-2 c = rw (ne-eqb _ _ (c .before .if1 .left), eq-eqb _ _ (c .if2 .taken))
-
-returns-3 : tie.Need-returns-3
-returns-3 c = rw (ne-eqb _ _ (c .before .if1 .left), ne-eqb _ _ (c .if2 .left))
+returns c = kept (c .args .before) (eqb (c .args .b) 253) (eqb (c .args .mark) 0)
 
 pub kept-too-spec : {M : Type 1} → statement M
-kept-too-spec = tie.close (tie.spec returns returns-2 returns-3)
+kept-too-spec = tie.close (tie.spec returns)

@@ -1,6 +1,6 @@
 //! Walks timed: by the proved library, by the second translator and, where it was linked, in C.
 
-use super::round;
+use super::turns::round;
 use native::draw::Draw;
 use native::walks::{standing, Tables, Walked};
 use native::Configuration;

@@ -1,8 +1,8 @@
--- `loss::cuts_next` meets its contract.
+-- `statement::cuts_next` meets its contract.
 use mathlib.Core.Path.{_≡_, refl}
-use Rattle.loss.specs.Loss.{cutsAt}
-use Rattle.loss.proofs.cuts_next.Statement.{statement}
-use Rattle.loss.proofs.cuts_next.Tie as tie
+use Rattle.model.specs.Structs.{cutsAt}
+use Rattle.statement.proofs.cuts_next.Statement.{statement}
+use Rattle.statement.proofs.cuts_next.Tie as tie
 
 returns : tie.Need-returns
 returns c = let op = c .args .op in let e : cutsAt op ≡ cutsAt op = refl in e

@@ -1,0 +1,2 @@
+pub mod Chains
+pub mod Entered
