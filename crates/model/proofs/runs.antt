@@ -5,5 +5,6 @@ pub mod Demand
 pub mod Stands
 pub mod OneMove
 pub mod Along
+pub mod Boxes
 pub mod Walks
 pub mod WalkRuns
