@@ -12,12 +12,13 @@ commands:
   step        one statement of the plain machine on a heap
   record      one record out of the tables of locations and edges
   walk        moves along edges of the tables, from a location with counters
+  ranges      a path along edges of the tables, from counters within ranges
   search      the newest of the locations with a record
   selftest    random tests of all of the above
 
 reference COMMAND --help tells more of a command.
 
-The first seven read standard input. Exit status: 0 for a result, 1 for a
+The first eight read standard input. Exit status: 0 for a result, 1 for a
 refusal (or a selftest that fails), 2 for wrong usage or bad text.
 ";
 
@@ -126,6 +127,36 @@ Before these lines stands 'refused NUMBER PLACE' if the walk was refused:
       not enabled
   21  a counter would pass 32 bits
 The moves before a refusal are made.
+
+Text: one line for each name, in any order. Blank lines, and what follows a
+'#', are skipped.
+";
+
+pub const RANGES: &str = "\
+usage: reference ranges < FILE
+
+Reads both tables, the counts in use, a start with a range for each of its
+counters, and a path:
+  locations HEX         the bytes of the locations, or nothing
+  edges HEX             the bytes of the edges, or nothing
+  counts NUMBER NUMBER  the locations and the edges in use, below 2^64
+  start NUMBER          the location where the path starts, below 2^64
+  ranges NUMBER...      for each counter the lowest and the highest value, below
+                        2^32, or nothing; those past the counters are not read
+  path NUMBER...        edge numbers below 2^32, or nothing
+If some start within the ranges can follow the path, prints the location
+reached and the lowest and the highest value of each of its counters:
+  follows LOCATION
+  ranges NUMBER...
+If not, prints the first position in the path, from 0, where none can go on:
+  ends POSITION
+Both have the exit status 0. Otherwise prints one line 'refused NUMBER PLACE':
+  23  at 0: the tables break the layout, the start is not below the count, or
+      the path is longer than 4,096; at a position in the path: the edge is not
+      there or does not leave the location reached
+  22  at a counter: its range has an end outside 1 to 65,535, or its ends are in
+      the wrong order; a number that is left out is 0
+23 is looked at before 22.
 
 Text: one line for each name, in any order. Blank lines, and what follows a
 '#', are skipped.

@@ -6,5 +6,8 @@ pub mod Stands
 pub mod OneMove
 pub mod Along
 pub mod Boxes
+pub mod Cuts
+pub mod Sums
+pub mod Sources
 pub mod Walks
 pub mod WalkRuns

@@ -1,11 +1,11 @@
 -- 02, job 9, "Counters known only within ranges": which starts follow a path, for all tables, locations, ranges and
 -- paths. Assumes nothing.
-use Prim.Native.Nat.{ℕ, zero, suc, max, min, _+_, _*_, _≤_, _<_}
+use Prim.Native.Nat.{ℕ, zero, suc, max, min, _+_, _≤_, _<_}
 use mathlib.Core.Path.{_≡_}
 use mathlib.Core.Logic.{_⊎_}
 use mathlib.Core.Bool.{Bool, true, false, _&&_, cond, not}
 use mathlib.Core.Option.{Option, none, some}
-use mathlib.Core.List.{List, [], _∷_, map}
+use mathlib.Core.List.{List, [], _∷_, _++_, map}
 use lib.Dec.{eqb, leb, ltb}
 use lib.ListN.{getD, length, replicate, set}
 use Rattle.model.specs.Base.{mostNodes, numbers, placeOf}
@@ -21,14 +21,13 @@ pub record Box : Type 0 where
   pub lows : List ℕ
   pub highs : List ℕ
 
--- ---- the ranges that are given: counter i's lowest value at 2 i and its highest at 2 i + 1; a number that is not there
--- is 0
+-- ---- the ranges that are given: the lowest values of twelve counters, then the highest; a number that is not there is 0
 
 abbrev pub lowGiven : List ℕ → ℕ → ℕ
-lowGiven rs i = getD rs (2 * i) 0
+lowGiven rs i = getD rs i 0
 
 abbrev pub highGiven : List ℕ → ℕ → ℕ
-highGiven rs i = getD rs (2 * i + 1) 0
+highGiven rs i = getD rs (mostNodes + i) 0
 
 -- "for each of its counters (1 to 65,535; entries past k not read)"
 abbrev pub startBox : ℕ → List ℕ → Box
@@ -128,17 +127,14 @@ ranging t l rs ns =
     (along t 0 l (startBox (nodesAt t l) rs) ns)))
     (refusedAt 23 0)
 
--- the ranges in pairs, the lowest and the highest value of each counter
-abbrev pub pairsOf : List ℕ → List ℕ → List ℕ
-pairsOf [] hs = []
-pairsOf (l ∷ ls) [] = []
-pairsOf (l ∷ ls) (h ∷ hs) = l ∷ h ∷ pairsOf ls hs
+-- the ranges in numbers, as they are given: 0 past the last counter
+abbrev pub numbersOf : Box → List ℕ
+numbersOf b = filled mostNodes (b .lows) ++ filled mostNodes (b .highs)
 
--- The outcome in numbers. "A path to a fault has no final ranges": a fault has no nodes. There are none past k, which
--- are 0.
+-- The outcome in numbers. "A path to a fault has no final ranges": a fault has no nodes.
 abbrev pub rangedTo : Ranging → Ranged
 rangedTo (follows l b) =
-    record { refusal = 0; place = 0; follows = 1; location = l; ranges = filled 24 (pairsOf (b .lows) (b .highs)) }
+    record { refusal = 0; place = 0; follows = 1; location = l; ranges = numbersOf b }
 rangedTo (endsAt i) = record { refusal = 0; place = i; follows = 0; location = 0; ranges = replicate 24 0 }
 rangedTo (refusedAt x p) = record { refusal = x; place = p; follows = 0; location = 0; ranges = replicate 24 0 }
 
