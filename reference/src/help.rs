@@ -188,14 +188,15 @@ Text: one line for each name, in any order. A VALUE is a number from 0 to 252,
 pub const SELFTEST: &str = "\
 usage: reference selftest [--seed NUMBER] [--routines NUMBER]
 
-Tests random routines, heaps, runs, walks and searches, from a fixed seed unless
-another one is given. Prints what was counted. Fails, with exit status 1, if
-anything differs, if some refusal from 1 to 21 or fault from 1 to 3 was never
-met, or if tests of undefined pointers, relinks, drops, walks, tables at the
-limits of the layout, damaged H records or searches came too seldom: each kind
-that is printed, and each of the refusals 9, 18 and 19 at each node at which it
-can come, is to be met once and once more for every 100 routines. Beside them,
-five inputs whose listing has a location at a drop, and five heap images with a
-drop, are wanted for every three routines. A few hundred routines are enough to
-meet them all. The default is 12,000 routines.
+Tests random routines, heaps, runs, walks, searches and paths from ranges, from
+a fixed seed unless another one is given. Prints what was counted. Fails, with
+exit status 1, if anything differs, if some refusal from 1 to 23 or fault from 1
+to 3 was never met, or if tests of undefined pointers, relinks, drops, walks,
+tables at the limits of the layout, damaged H records, searches or paths from
+ranges came too seldom: each kind that is printed, and each of the refusals 9,
+18 and 19 at each node at which it can come, is to be met once and once more for
+every 100 routines. Beside them, five inputs whose listing has a location at a
+drop, and five heap images with a drop, are wanted for every three routines. A
+few hundred routines are enough to meet them all. The default is 12,000
+routines.
 ";

@@ -212,7 +212,7 @@ fn ranges_that_are_wrong() {
         // Whether a start could go on does not matter.
         all.refused(2, &wrong, &[1, 1], 22, 0);
         for counter in 0..12 {
-            let mut numbers = vec![[1, HIGHEST]; 12];
+            let mut numbers = [[1, HIGHEST]; 12];
             numbers[counter] = wrong;
             all.refused(3, numbers.as_flattened(), &[], 22, counter);
             // The first of several is told.

@@ -3,7 +3,7 @@
 mod common;
 
 use common::layout::tables_keep;
-use reference::ranges_draw::{draw_ranges, DrawnRanges, RangesAim, RangesClause, RANGES_AIMS};
+use reference::ranges_draw::{draw_ranges, ranges_aims, DrawnRanges, RangesAim, RangesClause};
 use reference::Ranged;
 use std::collections::BTreeMap;
 
@@ -16,7 +16,7 @@ const FLOOR: u64 = 250;
 const FLOOR_BY_SEARCH: u64 = 200;
 
 fn draws(turns: u64) -> impl Iterator<Item = DrawnRanges> {
-    (0..turns * RANGES_AIMS.len() as u64).map(draw_ranges)
+    (0..turns * ranges_aims().len() as u64).map(draw_ranges)
 }
 
 #[test]
@@ -123,7 +123,7 @@ fn a_longer_path_narrows_what_can_be_followed() {
 
 #[test]
 fn the_same_seed_draws_the_same() {
-    let turn = RANGES_AIMS.len() as u64;
+    let turn = ranges_aims().len() as u64;
     for seed in [0, 1, 17, 12_345, u64::MAX] {
         assert_eq!(draw_ranges(seed), draw_ranges(seed));
         assert_ne!(draw_ranges(seed), draw_ranges(seed.wrapping_add(turn)));

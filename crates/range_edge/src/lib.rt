@@ -5,10 +5,10 @@ use model::Guard;
 use moving::replace_counters;
 ghost use mathlib.Core.Path.{_≡_};
 ghost use Prim.Native.Nat.{_<_};
-ghost use lib.Dec.{leb};
-ghost use lib.ListN.{getD, length, set};
-ghost use Rattle.model.specs.Ranges.{highPassed, lowPassed};
-ghost use Rattle.range_edge.specs.OneEdge.{EdgeReady, OneFollowed};
+ghost use lib.ListN.{length};
+ghost use Rattle.model.specs.Ranges.{cut, highPassed, leftAt, lowPassed};
+ghost use Rattle.model.specs.Structs.{codeIn};
+ghost use Rattle.range_edge.specs.OneEdge.{EdgeReady, OneFollowed, boxOf};
 
 // The lowest value of a range that passes a test.
 fn low_passed(test: u8, low: u32) -> u32
@@ -33,11 +33,9 @@ fn high_passed(test: u8, high: u32) -> u32
 // Cuts the range of a guard's node to the values that pass; whether there are any.
 fn cut(guard: Guard, lows: &mut [u32], highs: &mut [u32]) -> bool
     requires { ⌜ (guard .node .0 < length (now lows)) × (guard .node .0 < length (now highs)) ⌝ }
-    ensures { λ r. ⌜
-        let low = lowPassed (guard .test) (getD (now (lows .entry)) (guard .node .0) 0) in
-        let high = highPassed (guard .test) (getD (now (highs .entry)) (guard .node .0) 0) in
-        (r ≡ leb low high) × (now (lows .exit) ≡ set (now (lows .entry)) (guard .node .0) low)
-        × (now (highs .exit) ≡ set (now (highs .entry)) (guard .node .0) high) ⌝ }
+    ensures { λ r. ⌜ (r ≡ leftAt (codeIn guard) (cut (codeIn guard) (boxOf (now (lows .entry)) (now (highs .entry)))))
+        × (boxOf (now (lows .exit)) (now (highs .exit))
+        ≡ cut (codeIn guard) (boxOf (now (lows .entry)) (now (highs .entry)))) ⌝ }
 {
     let n = guard.node.0 as usize;
     let low = low_passed(guard.test, lows[n]);

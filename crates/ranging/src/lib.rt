@@ -47,9 +47,9 @@ fn follow(
 ) -> usize
     requires { ⌜ FollowReady (tablesIn (now locations) (now edges) counts) start (now ranges) (now path)
         (now lows) (now highs) ⌝ }
-    ensures { λ r. ⌜ let t = tablesIn (now (locations .entry)) (now (edges .entry)) counts in
+    ensures { λ r. ⌜ (let t = tablesIn (now (locations .entry)) (now (edges .entry)) counts in
         IsFollowed (along t 0 start (startBox (nodesAt t start) (now (ranges .entry))) (now (path .entry)))
-        (length (now (path .entry))) r (now (lows .exit)) (now (highs .exit)) ⌝ }
+        (length (now (path .entry))) r (now (lows .exit)) (now (highs .exit))) ⌝ }
 {
     let k = nodes_at(locations, start) as usize;
     read_ends(ranges, 0, k, lows);
@@ -116,15 +116,22 @@ fn follow_kept(
     ranges: &[u32],
     path: &[u32],
 ) -> Ranged
-    requires { ⌜ let t = tablesIn (now locations) (now edges) counts in
-        FollowReady t start (now ranges) (now path) zeros zeros × (to ≡ reached t start (now path)) ⌝ }
-    ensures { λ r. ⌜ let t = tablesIn (now (locations .entry)) (now (edges .entry)) counts in
-        r ≡ rangedTo (along t 0 start (startBox (nodesAt t start) (now (ranges .entry))) (now (path .entry))) ⌝ }
+    requires { ⌜ (let t = tablesIn (now locations) (now edges) counts in
+        FollowReady t start (now ranges) (now path) zeros zeros × (to ≡ reached t start (now path))) ⌝ }
+    ensures { λ r. ⌜ (let t = tablesIn (now (locations .entry)) (now (edges .entry)) counts in
+        r ≡ rangedTo (along t 0 start (startBox (nodesAt t start) (now (ranges .entry))) (now (path .entry)))) ⌝ }
 {
     let mut lows = [0u32; 12];
     let mut highs = [0u32; 12];
     let made = follow(
-        locations, edges, counts, start, ranges, path, &mut lows, &mut highs,
+        locations,
+        edges,
+        counts,
+        start,
+        ranges,
+        path,
+        &mut lows,
+        &mut highs,
     );
     if made < path.len() {
         return ended(0, made);

@@ -90,6 +90,35 @@ impl RangesClause {
         PastNotRead,
     ];
 
+    pub fn name(self) -> &'static str {
+        match self {
+            Followed => "followed",
+            FollowedToFault => "followed to a fault",
+            FollowedFromFault => "followed from a fault on",
+            FollowedAboveHighest => "followed to a counter above 65535",
+            FollowedLongest => "followed along 4096 edges",
+            FollowedEmpty => "followed along none",
+            FollowedAtFault => "followed along none at a fault",
+            EndsAtOnce => "none can go on at position 0",
+            EndsLater => "none can go on later",
+            EndsExcluded => "none can go on at guards that exclude each other",
+            Tables => "refused 23 for the tables",
+            Start => "refused 23 for the start",
+            PathTooLong => "refused 23 for 4097 edges",
+            EdgeMissing => "refused 23 for an edge that is not there",
+            EdgeElsewhere => "refused 23 for an edge from elsewhere",
+            EdgePastEnd => "refused 23 where none can go on before",
+            EdgeBeforeRange => "refused 23 where a range is wrong as well",
+            LowestZero => "refused 22 for a lowest value of 0",
+            HighestAbove => "refused 22 for a highest value above 65535",
+            Swapped => "refused 22 for the order of the ends",
+            TooFew => "refused 22 for a range that is not there",
+            LaterCounter => "refused 22 at a later counter",
+            FirstOfSeveral => "refused 22 at the first of several",
+            PastNotRead => "numbers past the counters not read",
+        }
+    }
+
     /// The clauses that a call with this answer meets, in their order.
     pub fn met(drawn: &DrawnRanges, answer: &Ranged) -> Vec<RangesClause> {
         let mut met = match *answer {

@@ -55,51 +55,35 @@ pub enum RangesAim {
     Damaged,
 }
 
-use RangesAim::*;
+/// How many turns each aim has.
+const TURNS: [(RangesAim, usize); 15] = [
+    (RangesAim::Sound, 6),
+    (RangesAim::NearHighest, 3),
+    (RangesAim::Wide, 2),
+    (RangesAim::GuardsAside, 4),
+    (RangesAim::NeverEnabled, 1),
+    (RangesAim::WrongEdge, 2),
+    (RangesAim::WrongEdgeLate, 2),
+    (RangesAim::WrongRange, 4),
+    (RangesAim::WrongRangeAndEdge, 1),
+    (RangesAim::WrongStart, 1),
+    (RangesAim::EmptyPath, 1),
+    (RangesAim::AtFault, 2),
+    (RangesAim::LongestPath, 1),
+    (RangesAim::TooLongPath, 1),
+    (RangesAim::Damaged, 3),
+];
 
 /// All aims, each as often as it has turns.
-pub const RANGES_AIMS: [RangesAim; 34] = [
-    Sound,
-    Sound,
-    Sound,
-    Sound,
-    Sound,
-    Sound,
-    NearHighest,
-    NearHighest,
-    NearHighest,
-    Wide,
-    Wide,
-    GuardsAside,
-    GuardsAside,
-    GuardsAside,
-    GuardsAside,
-    NeverEnabled,
-    WrongEdge,
-    WrongEdge,
-    WrongEdgeLate,
-    WrongEdgeLate,
-    WrongRange,
-    WrongRange,
-    WrongRange,
-    WrongRange,
-    WrongRangeAndEdge,
-    WrongStart,
-    EmptyPath,
-    AtFault,
-    AtFault,
-    LongestPath,
-    TooLongPath,
-    Damaged,
-    Damaged,
-    Damaged,
-];
+pub fn ranges_aims() -> Vec<RangesAim> {
+    TURNS.iter().flat_map(|&(aim, turns)| vec![aim; turns]).collect()
+}
 
 /// One call.
 #[derive(Clone, PartialEq, Eq, Debug)]
 pub struct DrawnRanges {
     pub aim: RangesAim,
-    /// Whether the tables are those of a listing, be they broken or not.
+    /// Whether the tables are those of a listing, be they changed or not.
     pub listed: bool,
     pub locations: Vec<u8>,
     pub edges: Vec<u8>,
@@ -127,7 +111,8 @@ impl DrawnRanges {
 /// Draws a call. Seeds one after the other take turns in the aims, and the same
 /// seed gives the same call again.
 pub fn draw_ranges(seed: u64) -> DrawnRanges {
-    let aim = RANGES_AIMS[(seed % RANGES_AIMS.len() as u64) as usize];
+    let aims = ranges_aims();
+    let aim = aims[(seed % aims.len() as u64) as usize];
     let mut random = Random::new(seed);
     loop {
         // Not all tables have what the aim needs.
@@ -180,11 +165,11 @@ fn listing(random: &mut Random) -> Draft {
 
 fn try_draw(random: &mut Random, aim: RangesAim) -> Option<DrawnRanges> {
     match aim {
-        NeverEnabled => never_enabled_on_the_way(random),
-        AtFault => at_a_fault(random),
-        LongestPath => Some(long(random, aim, LONGEST)),
-        TooLongPath => Some(long(random, aim, LONGEST + 1)),
-        Damaged => Some(if random.chance(30) { damaged_listing(random)? } else { damaged(random) }),
+        RangesAim::NeverEnabled => never_enabled_on_the_way(random),
+        RangesAim::AtFault => at_a_fault(random),
+        RangesAim::LongestPath => Some(long(random, aim, LONGEST)),
+        RangesAim::TooLongPath => Some(long(random, aim, LONGEST + 1)),
+        RangesAim::Damaged => Some(if random.chance(30) { damaged_listing(random)? } else { damaged(random) }),
         _ => on_sound_tables(random, aim),
     }
 }
@@ -194,27 +179,30 @@ fn on_sound_tables(random: &mut Random, aim: RangesAim) -> Option<DrawnRanges> {
     let source = Source::draw(random);
     let draft = &source.draft;
     let mut start = routes::start(random, draft);
-    let near = aim == NearHighest || random.chance(5);
+    let near = aim == RangesAim::NearHighest || random.chance(5);
     let counters = bounds::counters(random, draft.nodes(start), near);
-    let mut numbers = if aim == Wide { bounds::wide(random, &counters) } else { bounds::around(random, &counters, 300) };
+    let mut numbers = match aim {
+        RangesAim::Wide => bounds::wide(random, &counters),
+        _ => bounds::around(random, &counters, 300),
+    };
     let aside = match aim {
-        GuardsAside | WrongEdgeLate => 60,
+        RangesAim::GuardsAside | RangesAim::WrongEdgeLate => 60,
         _ => any_of(random, &[0, 0, 10, 30]),
     };
-    let most = if aim == EmptyPath { 0 } else { any_of(random, &[1, 2, 3, 5, 8, 15, 30]) };
+    let most = if aim == RangesAim::EmptyPath { 0 } else { any_of(random, &[1, 2, 3, 5, 8, 15, 30]) };
     let mut path = routes::path(random, draft, routes::at(start, &counters), most, aside);
-    if matches!(aim, WrongEdge | WrongEdgeLate | WrongRangeAndEdge) {
-        if aim == WrongEdgeLate && path.len() > 1 {
+    if matches!(aim, RangesAim::WrongEdge | RangesAim::WrongEdgeLate | RangesAim::WrongRangeAndEdge) {
+        if aim == RangesAim::WrongEdgeLate && path.len() > 1 {
             routes::spoil_late(random, draft, &mut path);
         } else {
             spoil(random, draft, &mut path);
         }
     }
     bounds::more(random, &mut numbers);
-    if matches!(aim, WrongRange | WrongRangeAndEdge) {
+    if matches!(aim, RangesAim::WrongRange | RangesAim::WrongRangeAndEdge) {
         bounds::spoil(random, &mut numbers, draft.nodes(start))?;
     }
-    if aim == WrongStart {
+    if aim == RangesAim::WrongStart {
         let count = draft.locations.len();
         start = any_of(random, &[count, count + 1, start + 1024, start + 65_536, start + (1 << 32), usize::MAX]);
     }
@@ -234,7 +222,7 @@ fn never_enabled_on_the_way(random: &mut Random) -> Option<DrawnRanges> {
     let behind = bounds::counters(random, draft.nodes(to), false);
     path.extend(routes::path(random, draft, routes::at(to, &behind), 4, 30));
     let numbers = bounds::around(random, &counters, 300);
-    Some(source.with(random, NeverEnabled, start, numbers, path))
+    Some(source.with(random, RangesAim::NeverEnabled, start, numbers, path))
 }
 
 /// A start at a fault, with nothing more or with an edge that leaves it.
@@ -252,7 +240,7 @@ fn at_a_fault(random: &mut Random) -> Option<DrawnRanges> {
     }
     let mut numbers = Vec::new();
     bounds::more(random, &mut numbers);
-    Some(source.with(random, AtFault, start, numbers, path))
+    Some(source.with(random, RangesAim::AtFault, start, numbers, path))
 }
 
 /// A path of so many edges, nearly all of which are the same one.
@@ -278,7 +266,7 @@ fn damaged_listing(random: &mut Random) -> Option<DrawnRanges> {
     let clause = any_of(random, Clause::ALL);
     break_clause(random, draft, clause)?;
     let numbers = bounds::around(random, &counters, 300);
-    Some(source.with(random, Damaged, start, numbers, path))
+    Some(source.with(random, RangesAim::Damaged, start, numbers, path))
 }
 
 /// The tables, the location and the path of a walk drawn for a clause.
@@ -296,5 +284,5 @@ fn damaged(random: &mut Random) -> DrawnRanges {
     let mut ranges = bounds::around(random, &present, 300);
     bounds::more(random, &mut ranges);
     let start = location as usize;
-    DrawnRanges { aim: Damaged, listed: false, locations, edges, location_count, edge_count, start, ranges, path }
+    DrawnRanges { aim: RangesAim::Damaged, listed: false, locations, edges, location_count, edge_count, start, ranges, path }
 }

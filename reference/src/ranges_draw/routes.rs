@@ -82,13 +82,12 @@ pub fn around(random: &mut Random, draft: &mut Draft, location: usize) -> Vec<u3
 /// and again, and a few. Now and then a number in it is wrong.
 pub fn long(random: &mut Random, draft: &mut Draft, start: Configuration, length: usize) -> Vec<u32> {
     let mut path = path(random, draft, start, 3, 10);
-    let reached = |draft: &Draft, path: &[u32]| path.last().map_or(start.location as usize, |&edge| draft.edge(edge as usize).to);
-    let location = reached(draft, &path);
+    let location = path.last().map_or(start.location as usize, |&edge| draft.edge(edge as usize).to);
     let round = growing_loop(random, draft, location);
     let number = draft.edges.len() as u32;
     draft.edges.push(encode_edge(&round));
     let ones = vec![1; draft.nodes(location)];
-    let rest = self::path(random, draft, at(location, &ones), 3, 50);
+    let rest = self::path(random, draft, at(location, &ones), 3, 20);
     path.resize(length - rest.len(), number);
     path.extend(rest);
     if random.chance(15) {

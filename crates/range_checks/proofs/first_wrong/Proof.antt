@@ -1,70 +1,60 @@
+-- `range_checks::first_wrong` meets its contract: the place found is the first counter with a range that is none.
+use Prim.Native.Nat.{ℕ, _-_, _<_, _≤_}
+use native.Mathlib.Omega.{arith}
+use mathlib.Core.Path.{_≡_, _∙_, ap, ap₂, sym}
+use mathlib.Core.Bool.{Bool, _&&_, not}
+use mathlib.Core.List.{List}
+use lib.Dec.{leb}
 use borrow.Author.Needs.{needs}
+use Rattle.model.specs.Ranges.{firstWrong, inLimits, rangeKeeps}
+use Rattle.model.proofs.lists.Finding.{Found, found-here, found-later, found-none, found-start}
 use Rattle.range_checks.proofs.first_wrong.Statement.{statement}
 use Rattle.range_checks.proofs.first_wrong.Tie as tie
-use Rattle.range_checks.proofs.first_wrong.Reads as reads
-use Rattle.range_checks.proofs.first_wrong.Lts as lts
-use Rattle.range_checks.proofs.given.Reads as given-reads
-use Rattle.range_checks.proofs.range_keeps.Reads as range-keeps-reads
+
+abbrev wrong : List ℕ → ℕ → Bool
+wrong rs i = not (rangeKeeps rs i)
 
 abbrev Inv-loop : tie.InvT-loop
-Inv-loop ranges k i₀ i = ?
+Inv-loop ranges k i₀ i = (i ≤ k) × Found (wrong ranges) k (firstWrong k ranges) i
 
 abbrev μ-loop : tie.MeasureT-loop
-μ-loop ranges k i₀ i = ?
+μ-loop ranges k i₀ i = k - i
 
--- src/lib.rt:34:5
 loop-holds : tie.Need-loop-holds Inv-loop μ-loop
-loop-holds c = search needs
+loop-holds c = let a = c .before .args in (omega arith, found-start (wrong (a .ranges .now)) (a .k))
 
--- src/lib.rt:35:25
-given-requires : tie.Need-given-requires Inv-loop μ-loop
-given-requires c κs = search needs
+-- what is told of the range of counter i
+told : (c : tie.After-range-keeps Inv-loop μ-loop)
+    → let l = c .before .before .before .before in
+    c .range-keeps .result ≡ rangeKeeps (l .before .before .args .ranges .now) (l .loop .i)
+told c = c .range-keeps .ensures
+    ∙ ap₂ (λ x y. inLimits x && inLimits y && leb x y) (c .before .before .given .ensures) (c .before .given2 .ensures)
 
--- src/lib.rt:35:57
-add-given : tie.Need-add-given Inv-loop μ-loop
-add-given c = search needs
-
--- src/lib.rt:35:43
-given-requires-2 : tie.Need-given-requires-2 Inv-loop μ-loop
-given-requires-2 c κs = search needs
-
--- src/lib.rt:35:13
-range-keeps-requires : tie.Need-range-keeps-requires Inv-loop μ-loop
-range-keeps-requires c κs = search needs
-
--- src/lib.rt:36:13
 returns : tie.Need-returns Inv-loop μ-loop
-returns c = search needs
+returns c =
+    let l = c .before .before .before .before .before in
+    let a = l .before .before .args in
+    let h : l .loop .i < a .k = search needs in
+    found-here (wrong (a .ranges .now)) (l .loop .inv .1) h (sym (ap not (told (c .before))) ∙ c .if1 .taken)
 
--- src/lib.rt:38:9
-add-i : tie.Need-add-i Inv-loop μ-loop
-add-i c = search needs
-
--- src/lib.rt:34:5
-loop-less : tie.Need-loop-less Inv-loop μ-loop
-loop-less c = search needs
-
--- src/lib.rt:34:5
 loop-again : tie.Need-loop-again Inv-loop μ-loop
-loop-again c = search needs
+loop-again c =
+    let l = c .before .before .before .before .before in
+    let a = l .before .before .args in
+    let h : l .loop .i < a .k = search needs in (
+      omega arith,
+      found-later (wrong (a .ranges .now)) (l .loop .inv .1) h (sym (ap not (told (c .before))) ∙ c .if1 .left),
+    )
 
--- src/lib.rt:29:1
 returns-2 : tie.Need-returns-2 Inv-loop μ-loop
-returns-2 c = search needs
+returns-2 c =
+    let l = c .before in
+    let a = l .before .before .args in
+    let e = found-none (wrong (a .ranges .now)) (l .loop .inv .1) (c .loop-test .left) (l .loop .inv .0) in
+    omega (arith, e)
 
 pub first-wrong-spec : {M : Type 1} → statement M
 first-wrong-spec =
     tie.close
-    (tie.spec
-    Inv-loop
-    μ-loop
-    loop-holds
-    given-requires
-    add-given
-    given-requires-2
-    range-keeps-requires
-    returns
-    add-i
-    loop-less
-    loop-again
-    returns-2)
+    (tie.spec Inv-loop μ-loop loop-holds (λ c κs. search needs) (λ c. search needs) (λ c κs. search needs)
+    (λ c κs. search needs) returns (λ c. search needs) (λ c. search needs) loop-again returns-2)

@@ -1,60 +1,78 @@
+-- `range_checks::go_along` meets its contract: after i edges the rest of the path decides.
+use Prim.Native.Nat.{ℕ, _+_, _-_}
+use mathlib.Core.Path.{_≡_, _∙_, subst, sym}
+use mathlib.Core.List.{List, []}
+use native.Mathlib.Omega.{arith}
+use lib.Dec.{eqb, ltb}
+use lib.ListN.{getD, length}
 use borrow.Author.Needs.{needs}
+use borrow.Author.Tests.{ltb-true, not-false, not-true}
+use Rattle.model.specs.Ranges.{linked}
+use Rattle.model.specs.Records.{recordAt, word}
+use Rattle.model.specs.Structs.{tablesIn}
+use Rattle.model.specs.Translate.{Tables}
+use Rattle.model.proofs.lists.Logic.{and-l}
+use Rattle.range_checks.proofs.Links.{Led, all-linked, begin-led, ends-at, leads-on, stops}
 use Rattle.range_checks.proofs.go_along.Statement.{statement}
 use Rattle.range_checks.proofs.go_along.Tie as tie
-use Rattle.range_checks.proofs.go_along.Reads as reads
-use Rattle.range_checks.proofs.go_along.Lts as lts
-use Rattle.range_checks.proofs.is_linked.Reads as is-linked-reads
-use Rattle.range_checks.proofs.led_to.Reads as led-to-reads
 
 abbrev Inv-loop : tie.InvT-loop
-Inv-loop edges count start path location₀ i₀ location i = ?
+Inv-loop edges count start path location₀ i₀ location i = (ls : List ℕ) (m : ℕ)
+    → Led (tablesIn ls edges (record { locations = m; edges = count })) start path i location
 
 abbrev μ-loop : tie.MeasureT-loop
-μ-loop edges count start path location₀ i₀ location i = ?
+μ-loop edges count start path location₀ i₀ location i = length path - i
 
--- src/lib.rt:82:5
+-- tables with these edges
+abbrev tables : tie.Start Inv-loop μ-loop → List ℕ → ℕ → Tables
+tables c ls m = tablesIn ls (c .args .edges .now) (record { locations = m; edges = c .args .count })
+
 loop-holds : tie.Need-loop-holds Inv-loop μ-loop
-loop-holds c = search needs
+loop-holds c = λ ls m.
+    let s = c .before .before in
+    begin-led (tables s ls m) (s .args .start) (s .args .path .now)
 
--- src/lib.rt:83:17
-mul-n : tie.Need-mul-n Inv-loop μ-loop
-mul-n c = search needs
-
--- src/lib.rt:83:17
-shared-slice-read-n : tie.Need-shared-slice-read-n Inv-loop μ-loop
-shared-slice-read-n c = search needs
-
--- src/lib.rt:83:17
 cast-n : tie.Need-cast-n Inv-loop μ-loop
-cast-n c = search needs
+cast-n c = omega (arith, c .shared-slice-known3 .given (c .before .before .loop .i))
 
--- src/lib.rt:84:13
-is-linked-requires : tie.Need-is-linked-requires Inv-loop μ-loop
-is-linked-requires c κs = search needs
+-- what is told of edge i of the path
+told : (c : tie.After-is-linked Inv-loop μ-loop) (ls : List ℕ) (m : ℕ)
+    → let l = c .before .before .before in
+    let s = l .before .before .before in
+    c .is-linked .result ≡ linked (tables s ls m) (l .loop .location) (getD (s .args .path .now) (l .loop .i) 0)
+told c ls m = c .is-linked .ensures
 
--- src/lib.rt:85:13
 returns : tie.Need-returns Inv-loop μ-loop
-returns c = search needs
+returns c = λ ls m.
+    let lt = c .before .before .before .loop-test .taken in (
+      stops (c .before .before .before .before .loop .inv ls m) lt
+          (sym (told (c .before) ls m) ∙ not-true _ (c .if1 .taken)),
+      λ e. absurd (omega (arith, lt, e)),
+    )
 
--- src/lib.rt:90:9
 led-to-requires : tie.Need-led-to-requires Inv-loop μ-loop
-led-to-requires c κs = search needs
+led-to-requires c κs =
+    let l = c .before .before .before .before in
+    let a = l .before .before .before .args in
+    let n = getD (a .path .now) (l .loop .i) 0 in
+    let h = ltb-true n (a .count) (and-l (ltb n (a .count))
+    (eqb (word (recordAt (a .edges .now) n) 2) (l .loop .location))
+    (sym (told (c .before) [] 0) ∙ not-false _ (c .if1 .left))) in
+    omega (arith, h)
 
--- src/lib.rt:91:9
-add-i : tie.Need-add-i Inv-loop μ-loop
-add-i c = search needs
-
--- src/lib.rt:82:5
-loop-less : tie.Need-loop-less Inv-loop μ-loop
-loop-less c = search needs
-
--- src/lib.rt:82:5
 loop-again : tie.Need-loop-again Inv-loop μ-loop
-loop-again c = search needs
+loop-again c = λ ls m.
+    let d = c .before in
+    let l = d .before .before .before .before in
+    let s = l .before .before .before in
+    subst (Led (tables s ls m) (s .args .start) (s .args .path .now) (l .loop .i + 1)) (sym (c .led-to .ensures))
+    (leads-on (l .loop .inv ls m) (d .before .before .before .loop-test .taken)
+    (sym (told (d .before) ls m) ∙ not-false _ (d .if1 .left)))
 
--- src/lib.rt:73:1
 returns-2 : tie.Need-returns-2 Inv-loop μ-loop
-returns-2 c = search needs
+returns-2 c = λ ls m.
+    let L = c .before .loop .inv ls m in
+    (all-linked L (c .loop-test .left), λ e. ends-at L (c .loop-test .left))
 
 pub go-along-spec : {M : Type 1} → statement M
 go-along-spec =
@@ -63,13 +81,13 @@ go-along-spec =
     Inv-loop
     μ-loop
     loop-holds
-    mul-n
-    shared-slice-read-n
+    (λ c. search needs)
+    (λ c. search needs)
     cast-n
-    is-linked-requires
+    (λ c κs. search needs)
     returns
     led-to-requires
-    add-i
-    loop-less
+    (λ c. search needs)
+    (λ c. search needs)
     loop-again
     returns-2)
