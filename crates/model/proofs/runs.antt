@@ -12,3 +12,6 @@ pub mod Cuts
 pub mod Sums
 pub mod Sources
 pub mod Follows
+pub mod Anywhere
+pub mod Ranged
+pub mod RangeRuns

@@ -2,16 +2,17 @@
 -- paths. Assumes nothing.
 use Prim.Native.Nat.{ℕ, zero, suc, max, min, _+_, _≤_, _<_}
 use mathlib.Core.Path.{_≡_}
-use mathlib.Core.Logic.{_⊎_}
 use mathlib.Core.Bool.{Bool, true, false, _&&_, cond, not}
 use mathlib.Core.Option.{Option, none, some}
 use mathlib.Core.List.{List, [], _∷_, _++_, map}
 use lib.Dec.{eqb, leb, ltb}
-use lib.ListN.{getD, length, replicate, set}
+use lib.ListN.{getD, length, replicate, set, take}
 use Rattle.model.specs.Base.{mostNodes, numbers, placeOf}
+use Rattle.model.specs.Heap.{Heap}
 use Rattle.model.specs.Layout.{keepsLayout}
-use Rattle.model.specs.Records.{GuardCode, filled, recordAt, word}
-use Rattle.model.specs.Runs.{Config, Advance, applied, guardsOf, moveOf, nodesAt, updatesOf}
+use Rattle.model.specs.Machine.{Entry, Stmt}
+use Rattle.model.specs.Records.{GuardCode, byte, filled, recordAt, word}
+use Rattle.model.specs.Runs.{Advance, Config, Forced, Matched, State, Supply, applied, fed, final, guardsOf, moveOf, nodesAt, running, stepOf, trace, updatesOf}
 use Rattle.model.specs.Translate.{Tables}
 use Rattle.model.specs.Walking.{mostMoves}
 use Rattle.model.specs.declared.Ranged.{Ranged}
@@ -150,3 +151,57 @@ pub record Within (cs : List ℕ) (b : Box) : Type 0 where
 abbrev pub followed : Tables → Config → List ℕ → Option Config
 followed t a [] = some a
 followed t a (n ∷ ns) = elim (moveOf t a n) [ none ↦ none | some y ↦ followed t (y .after) ns ]
+
+-- some start within the ranges follows the path to these values at that location
+abbrev pub Reaches : Tables → ℕ → Box → List ℕ → ℕ → List ℕ → Type 0
+Reaches t l b ns m vs = (cs : List ℕ) × Within cs b
+    × (followed t (record { loc = l; values = cs }) ns ≡ some (record { loc = m; values = vs }))
+
+-- the first p edges of the path are followed by some start within the ranges, and the first p + 1 by none
+pub record Stuck (t : Tables) (l : ℕ) (b : Box) (ns : List ℕ) (p : ℕ) : Type 0 where
+  pub before : p < length ns
+  pub sofar : (cs : List ℕ) × Within cs b × (a : Config)
+      × (followed t (record { loc = l; values = cs }) (take p ns) ≡ some a)
+  pub further : (cs : List ℕ) → Within cs b → followed t (record { loc = l; values = cs }) (take (suc p) ns) ≡ none
+
+-- where a path leads, guards aside
+abbrev pub reached : Tables → ℕ → List ℕ → ℕ
+reached t l [] = l
+reached t l (n ∷ ns) = reached t (ledTo t n) ns
+
+-- the edge at this position of the path is in the table and leaves the location reached, guards aside
+abbrev pub linkedAt : Tables → ℕ → List ℕ → ℕ → Bool
+linkedAt t l ns i = linked t (reached t l (take i ns)) (getD ns i 0)
+
+-- Why a refusal is given, each cause after those before it.
+pub data WhyRefused (t : Tables) (l : ℕ) (rs ns : List ℕ) : ℕ → ℕ → Type 0 where
+  tables-break : keepsLayout t ≡ false → WhyRefused t l rs ns 23 0
+  no-start : keepsLayout t ≡ true → t .locCount ≤ l → WhyRefused t l rs ns 23 0
+  too-long : keepsLayout t ≡ true → l < t .locCount → 4096 < length ns → WhyRefused t l rs ns 23 0
+  not-linked : askable t l ns ≡ true → (p : ℕ) → p < length ns → linkedAt t l ns p ≡ false
+      → ((i : ℕ) → i < p → linkedAt t l ns i ≡ true) → WhyRefused t l rs ns 23 p
+  no-range : askable t l ns ≡ true → ((i : ℕ) → i < length ns → linkedAt t l ns i ≡ true) → (p : ℕ) → p < nodesAt t l
+      → rangeKeeps rs p ≡ false → ((i : ℕ) → i < p → rangeKeeps rs i ≡ true) → WhyRefused t l rs ns 22 p
+
+-- ---- runs of the routine
+
+-- the routine at a location's statement, on a heap
+abbrev pub stateAt : Tables → ℕ → Heap → State
+stateAt t l h = record { stmt = byte (recordAt (t .locBytes) l) 1; status = running; heap = h }
+
+-- From the state q, beside the configuration a, the routine runs along the path, to where the automaton is at c: each
+-- edge of the path is taken, and these pair off with steps of the routine, on any cells that are not in use at their
+-- turn, of which there are always enough.
+pub record RunsAlong (sts : List Stmt) (t : Tables) (q : State) (a : Config) (ns : List ℕ) (c : Config) : Type 0 where
+  pub taken : length (trace (moveOf t) a ns) ≡ length ns
+  pub leads : final a (trace (moveOf t) a ns) ≡ c
+  pub supply : (us : List ℕ) × Supply sts q (trace (moveOf t) a ns) us
+  pub matches : (us : List ℕ) → Supply sts q (trace (moveOf t) a ns) us
+      → Matched sts t q a (trace (stepOf sts) q (fed (trace (moveOf t) a ns) us)) (trace (moveOf t) a ns)
+
+-- No run of the routine from q goes along the first p + 1 edges of the path: whatever the entries, the edges that pair
+-- off with its steps, one each, begin otherwise.
+abbrev pub RunsNowhere : List Stmt → Tables → State → Config → List ℕ → ℕ → Type 0
+RunsNowhere sts t q a ns p =
+    (es : List Entry) → (ms : List ℕ) × Forced t a ms
+    × Matched sts t q a (trace (stepOf sts) q es) (trace (moveOf t) a ms) × (take (suc p) ms ≡ take (suc p) ns → ⊥)

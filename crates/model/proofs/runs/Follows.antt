@@ -12,7 +12,7 @@ use borrow.Author.Tests.{eqb-true, le-leb, leb-true, ltb-true}
 use Rattle.model.specs.Base.{all, sum}
 use Rattle.model.specs.Layout.{guardKeeps, guardThere, keepsLayout}
 use Rattle.model.specs.Notions.{In}
-use Rattle.model.specs.Ranges.{Box, Ranging, Within, along, cutBy, endsAt, followed, follows, ledTo, linked, linkedPart, movedBox, refusedAt}
+use Rattle.model.specs.Ranges.{Box, Ranging, Reaches, Stuck, Within, along, cutBy, endsAt, followed, follows, ledTo, linked, linkedPart, movedBox, refusedAt}
 use Rattle.model.specs.Records.{GuardCode, recordAt, word}
 use Rattle.model.specs.Runs.{Advance, Config, applied, enabled, guardsHold, guardsOf, moveOf, nodesAt, taken, updatesOf}
 use Rattle.model.specs.Translate.{Tables}
@@ -155,21 +155,11 @@ pub followed-some : (t : Tables) (a : Config) (n : ℕ) (ns : List ℕ) (y : Adv
     → followed t a (n ∷ ns) ≡ followed t (y .after) ns
 followed-some t a n ns y e = rw (e, followed)
 
--- some start within the ranges follows the path to exactly these values at that location
-abbrev pub Reaches : Tables → ℕ → Box → List ℕ → ℕ → List ℕ → Type 0
-Reaches t l b ns m vs = (cs : List ℕ) × Within cs b × (followed t (at l cs) ns ≡ some (at m vs))
-
 -- the path leads from the ranges b to the ranges c, exactly, whose values add up to no more but for the constants
 pub record Exact (t : Tables) (l : ℕ) (b : Box) (ns : List ℕ) (m : ℕ) (c : Box) : Type 0 where
   pub ranges : Ranges t m c
   pub grows : sum (λ v. v) (c .highs) ≤ sum (λ v. v) (b .highs) + 24 * length ns
   pub reached : (vs : List ℕ) → Within vs c ↔ Reaches t l b ns m vs
-
--- the first k edges are followed by some start within the ranges, and the next by none
-pub record Stuck (t : Tables) (l : ℕ) (b : Box) (ns : List ℕ) (k : ℕ) : Type 0 where
-  pub before : k < length ns
-  pub sofar : (cs : List ℕ) × Within cs b × (a : Config) × (followed t (at l cs) (take k ns) ≡ some a)
-  pub further : (cs : List ℕ) → Within cs b → followed t (at l cs) (take (suc k) ns) ≡ none
 
 exact-here : (t : Tables) (l : ℕ) (b : Box) → Ranges t l b → Exact t l b [] l b
 exact-here t l b R = record {

@@ -7,7 +7,7 @@ use native.Mathlib.Nat.{mul-le-mul-right}
 use native.Mathlib.Numerals.{one-add}
 use native.Mathlib.Omega.{arith}
 use lib.Dec.{eqb, leb}
-use lib.ListN.{length}
+use lib.ListN.{getD, length}
 use lib.Pow.{field, mod-mod-pow, shr-shr}
 use borrow.Author.Tests.{leb-true}
 use Rattle.model.specs.Base.{count, sum}
@@ -58,6 +58,12 @@ once-masks us h i lt =
     omega (arith, count-bits i us lt)
 
 -- ---- sums
+
+-- an element is no more than the sum
+pub at-most-sum : (l : List ℕ) (i : ℕ) → getD l i 0 ≤ sum (λ v. v) l
+at-most-sum [] i = omega arith
+at-most-sum (x ∷ l) zero = omega arith
+at-most-sum (x ∷ l) (suc i) = let h = at-most-sum l i in omega arith
 
 sum-none : (ms : List ℕ) → sum (λ m. 0) ms ≡ 0
 sum-none [] = refl
