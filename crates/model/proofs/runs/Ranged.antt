@@ -1,7 +1,7 @@
 -- The outcome for ranges and a path: its cases, when it is a refusal, and the ranges that it begins with.
 use Prim.Native.Nat.{_+_, _*_, _-_, _<_, _≤_, suc, zero, ℕ}
-use mathlib.Core.Path.{_∙_, _≡_, ap, refl, subst, sym}
-use mathlib.Core.Bool.{Bool, _&&_, false, not, true}
+use mathlib.Core.Path.{_∙_, _≡_, ap, ap₂, refl, subst, sym}
+use mathlib.Core.Bool.{Bool, _&&_, cond, false, not, true}
 use mathlib.Core.List.{List, [], _∷_, map}
 use native.Mathlib.Omega.{arith}
 use lib.Dec.{leb, ltb}
@@ -127,23 +127,36 @@ module _ (t : Tables) (l : ℕ) (rs ns : List ℕ) where
     went : askable t l ns ≡ true → length ns ≤ linkedPart t l ns → k ≤ firstWrong k rs
         → RangingCase (along t 0 l (startBox k rs) ns)
 
-  pub ranging-unasked : askable t l ns ≡ false → ranging t l rs ns ≡ refusedAt 23 0
+  -- by its three tests
+  abbrev by-tests : Bool → Bool → Bool → Ranging
+  by-tests a u w =
+      cond a
+      (cond u (refusedAt 23 (linkedPart t l ns))
+      (cond w (refusedAt 22 (firstWrong k rs)) (along t 0 l (startBox k rs) ns)))
+      (refusedAt 23 0)
+
+  -- what they are
+  tests : (a u w : Bool) → askable t l ns ≡ a → ltb (linkedPart t l ns) (length ns) ≡ u → ltb (firstWrong k rs) k ≡ w
+      → ranging t l rs ns ≡ by-tests a u w
   unfolding ranging
-  ranging-unasked a = rw (a, ranging)
+  tests a u w e f g = ap (λ b. by-tests b (ltb (linkedPart t l ns) (length ns)) (ltb (firstWrong k rs) k)) e
+      ∙ ap₂ (by-tests a) f g
+
+  pub ranging-unasked : askable t l ns ≡ false → ranging t l rs ns ≡ refusedAt 23 0
+  ranging-unasked a = tests false _ _ a refl refl
 
   module _ (a : askable t l ns ≡ true) where
     pub ranging-unlinked : linkedPart t l ns < length ns → ranging t l rs ns ≡ refusedAt 23 (linkedPart t l ns)
-    unfolding ranging
-    ranging-unlinked h = rw (a, lt-ltb (linkedPart t l ns) (length ns) h, ranging)
+    ranging-unlinked h = tests true true _ a (lt-ltb (linkedPart t l ns) (length ns) h) refl
 
     module _ (h : length ns ≤ linkedPart t l ns) where
       pub ranging-wrong : firstWrong k rs < k → ranging t l rs ns ≡ refusedAt 22 (firstWrong k rs)
-      unfolding ranging
-      ranging-wrong w = rw (a, le-ltb (linkedPart t l ns) (length ns) h, lt-ltb (firstWrong k rs) k w, ranging)
+      ranging-wrong w =
+          tests true false true a (le-ltb (linkedPart t l ns) (length ns) h) (lt-ltb (firstWrong k rs) k w)
 
       pub ranging-went : k ≤ firstWrong k rs → ranging t l rs ns ≡ along t 0 l (startBox k rs) ns
-      unfolding ranging
-      ranging-went w = rw (a, le-ltb (linkedPart t l ns) (length ns) h, le-ltb (firstWrong k rs) k w, ranging)
+      ranging-went w =
+          tests true false false a (le-ltb (linkedPart t l ns) (length ns) h) (le-ltb (firstWrong k rs) k w)
 
   pub ranging-case : RangingCase (ranging t l rs ns)
   ranging-case = bool-case (askable t l ns)
