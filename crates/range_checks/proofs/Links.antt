@@ -5,10 +5,9 @@ use mathlib.Core.Bool.{true, false, cond}
 use mathlib.Core.List.{List}
 use native.Mathlib.Omega.{arith}
 use lib.ListN.{drop, drop-of-length-le, getD, length}
-use Rattle.model.specs.Ranges.{ledTo, linked, linkedPart}
+use Rattle.model.specs.Ranges.{ledTo, linked, linkedPart, reached}
 use Rattle.model.specs.Translate.{Tables}
 use Rattle.model.proofs.lists.Slices.{drop-step}
-use Rattle.range_checks.specs.Reached.{reached}
 
 -- after i edges from l₀, each of which leads on, the path stands at l, and the rest of it decides
 pub record Led (t : Tables) (l₀ : ℕ) (ns : List ℕ) (i l : ℕ) : Type 0 where

@@ -6,10 +6,9 @@ ghost use Prim.Native.Nat.{ℕ, _+_, _*_, _≤_};
 ghost use lib.Dec.{eqb, leb, ltb};
 ghost use lib.ListN.{getD, length};
 ghost use Rattle.model.specs.Base.{mostNodes, recordSize};
-ghost use Rattle.model.specs.Ranges.{firstWrong, inLimits, linkedPart};
+ghost use Rattle.model.specs.Ranges.{firstWrong, inLimits, linkedPart, reached};
 ghost use Rattle.model.specs.Records.{recordAt, word};
 ghost use Rattle.model.specs.Structs.{tablesIn};
-ghost use Rattle.range_checks.specs.Reached.{reached};
 
 // The number at a place of the ranges that are given, 0 where there is none.
 pub fn given(ranges: &[u32], i: usize) -> u32

@@ -15,10 +15,9 @@ ghost use Prim.Native.Nat.{ℕ, _+_, _≤_};
 ghost use lib.ListN.{drop, getD, length};
 ghost use lib.ListN.{length as size};
 ghost use Rattle.model.specs.Base.{mostNodes, numbers};
-ghost use Rattle.model.specs.Ranges.{along, askable, endsAt, rangedTo, ranging, refusedAt, startBox};
+ghost use Rattle.model.specs.Ranges.{along, askable, endsAt, rangedTo, ranging, reached, refusedAt, startBox};
 ghost use Rattle.model.specs.Structs.{tablesIn};
 ghost use Rattle.model.specs.Runs.{nodesAt};
-ghost use Rattle.range_checks.specs.Reached.{reached};
 ghost use Rattle.ranging.specs.Follow.{FollowReady, IsFollowed, ranged, zeros};
 
 // The given ends of k ranges, from a place on.
