@@ -49,8 +49,8 @@ pub record IsStepped (s : Stepping) (n p : ℕ) (ps cs a l : List ℕ) : Type 0 
   pub cells : cs ≡ s .cellBytes
   pub answer : a ≡ over (stepNumbers (s .answer)) l
 
--- what the call for ranges leaves: the refusal's number; its place or the position, whether some start follows the path,
--- and the location reached, over the answer; and, where some start does, the final ranges over the ranges
+-- what the call for ranges leaves: the refusal's number; its place or the position, whether some start follows the
+-- path, and the location reached, over the answer; and, where some start does, the final ranges over the ranges
 pub record IsRanged (o : Ranged) (r : ℕ) (rs₀ rs answer₀ answer : List ℕ) : Type 0 where
   pub number : r ≡ o .refusal
   pub ranges : rs ≡ laidWhere (o .follows) (o .ranges) rs₀

@@ -253,7 +253,8 @@ pub extern "C" fn currantplane_ranges(
 ) -> u8
     ensures { λ r. ⌜ IsRanged (rangedTo (ranging (tablesIn (now (locations .entry)) (now (edges .entry))
         (record { locations = «location_count»; edges = «edge_count» })) start (now (ranges .entry))
-        (now (path .entry)))) r (now (ranges .entry)) (now (ranges .exit)) (now (answer .entry)) (now (answer .exit)) ⌝ }
+        (now (path .entry)))) r (now (ranges .entry)) (now (ranges .exit))
+        (now (answer .entry)) (now (answer .exit)) ⌝ }
 {
     let told = ranging::follow_ranges(
         locations,

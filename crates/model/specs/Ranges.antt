@@ -22,7 +22,7 @@ pub record Box : Type 0 where
   pub lows : List ℕ
   pub highs : List ℕ
 
--- ---- the ranges that are given: the lowest values of twelve counters, then the highest; a number that is not there is 0
+-- ---- the ranges that are given: the lowest values of twelve counters, then the highest; what is not there is 0
 
 abbrev pub lowGiven : List ℕ → ℕ → ℕ
 lowGiven rs i = getD rs i 0

@@ -58,8 +58,8 @@ ranges-fit t l rs ns m c e i = let h = ranging-small t l rs ns m c e i in omega 
 -- ==== runs of the routine
 
 -- On the tables of an accepted translation a "can" is a heap: for each combination of values within the final ranges
--- there is a start within the ranges and a heap that the location with these counters describes, from which the routine,
--- at the location's statement, runs along the path to that combination.
+-- there is a start within the ranges and a heap that the location with these counters describes, from which the
+-- routine, at the location's statement, runs along the path to that combination.
 abbrev pub RangesRun : Type 0
 RangesRun = (s : List ℕ) (a b : ℕ) → translate s a b .verdict ≡ isAccepted → (r : Routine) → check s ≡ good r
     → (l : ℕ) (rs ns : List ℕ) (m : ℕ) (c : Box) → let t = translate s a b .tables in

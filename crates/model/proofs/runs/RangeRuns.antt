@@ -44,8 +44,8 @@ forced-followed t (suc k) (n ∷ ns) a F =
     (r .0, followed-some t a n (take k ns) (F .0) (F .1) ∙ r .1)
 
 -- from where whole lists are matched
-pub runs-along : (sts : List Stmt) (t : Tables) (q : State) (a : Config) → Matching sts t q a → (ns : List ℕ) (c : Config)
-    → followed t a ns ≡ some c → RunsAlong sts t q a ns c
+pub runs-along : (sts : List Stmt) (t : Tables) (q : State) (a : Config) → Matching sts t q a
+    → (ns : List ℕ) (c : Config) → followed t a ns ≡ some c → RunsAlong sts t q a ns c
 runs-along sts t q a M ns c e = let f = followed-trace t ns a c e in
     record { taken = f .0; leads = f .1; supply = M .supply ns; matches = M .toRoutine ns }
 

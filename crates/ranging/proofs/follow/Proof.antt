@@ -182,7 +182,8 @@ loop-again c =
       omega (arith, c .before .before .highs2 .given, l .loop .inv .1),
       λ m R.
           let t = tablesIn (s .args .locations .now) (s .args .edges .now) m in
-          goes-on t (asked-layout t (s .args .start) (s .args .ranges .now) (s .args .path .now) (R .asked)) (s .args .start) (box s)
+          goes-on t (asked-layout t (s .args .start) (s .args .ranges .now) (s .args .path .now) (R .asked))
+          (s .args .start) (box s)
           (s .args .path .now) (l .loop .i) (l .loop .lows) (l .loop .highs) (l .loop .inv .2 m R)
           (d .loop-test .taken) (f .follow-one .result) (f .follow-one .last .1 .1 .0)
           (f .follow-one .last .1 .1 .1 .0) (told f) (short s) (not-false _ (c .if1 .left)),
