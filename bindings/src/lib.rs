@@ -323,11 +323,11 @@ pub enum Ranged {
     Refused(Refusal),
 }
 
-/// Whether some start within the ranges can follow a path of edge numbers. `ranges` has the lowest values of twelve counters, then
-/// the highest, [`RANGES`] numbers in all; a number that is not there counts as 0, and those past the start's counters are not read.
-/// Where some start follows, the ranges of the final counters are written over them in the same form, 0 past the last counter:
-/// exactly the combinations of values within them are reached by starts. Else they are left. `counts` are the numbers of locations
-/// and of edges in use.
+/// Whether some start within the ranges can follow a path of edge numbers. `ranges` has the lowest values of twelve
+/// counters, then the highest, [`RANGES`] numbers in all; a number that is not there counts as 0, and those past the
+/// start's counters are not read. Where some start follows, the ranges of the final counters are written over them in
+/// the same form, 0 past the last counter: exactly the combinations of values within them are reached by starts. Else
+/// they are left. `counts` are the numbers of locations and of edges in use.
 pub fn follow_ranges(
     locations: &[u8],
     edges: &[u8],
@@ -345,8 +345,8 @@ pub fn follow_ranges(
     }
 }
 
-/// The same in numbers: the refusal's number, and over `answer`, as far as it reaches, the place or the position, 1 where some start
-/// follows the path, else 0, and the location reached.
+/// The same in numbers: the refusal's number, and over `answer`, as far as it reaches, the place or the position, 1
+/// where some start follows the path, else 0, and the location reached.
 pub fn tell_ranges(
     locations: &[u8],
     edges: &[u8],

@@ -74,7 +74,8 @@ impl Tables {
         (told, ranges)
     }
 
-    /// By both, which agree: every number of the ranges and of an answer of so many numbers afterwards, and what stands beside them.
+    /// By both, which agree: every number of the ranges and of an answer of so many numbers afterwards, and what
+    /// stands beside them.
     pub fn ranges_into(&self, d: &mut Draw, start: usize, given: &[u32], path: &[u32], answers: usize) -> reference::Ranged {
         let second = self.ranges_second(start, given, path);
         let (number, told, new) = due(&second);

@@ -1,6 +1,6 @@
-//! Paths from counters within ranges, by the proved library and by the second translator: on drawn tables, sound and broken, with every
-//! number that is written or left; beside a walk of every start within the ranges; on the listings of routines; and at the limits.
-//! What came is counted, and too few fail.
+//! Paths from counters within ranges, by the proved library and by the second translator: on drawn tables, sound and
+//! broken, with every number that is written or left; beside a walk of every start within the ranges; on the listings
+//! of routines; and at the limits. What came is counted, and too few fail.
 
 use native::counts::Counts;
 use native::draw::Draw;
@@ -191,7 +191,8 @@ fn some_path(d: &mut Draw, tables: &Tables, start: native::Configuration, most: 
     path
 }
 
-/// In listings: exactly the combinations within the final ranges are reached, so that each corner is, and none goes on where none can.
+/// In listings: exactly the combinations within the final ranges are reached, so that each corner is, and none goes
+/// on where none can.
 #[test]
 fn every_start_in_listings() {
     let (mut d, mut counts, mut all_corners) = (Draw::new(33), Counts::default(), 0);
@@ -229,7 +230,8 @@ fn every_start_in_listings() {
     counts.reach(&floors);
 }
 
-/// A path is followed part by part: from the ranges that its first part gives, as far as these may be given, the rest tells the same.
+/// A path is followed part by part: from the ranges that its first part gives, as far as these may be given, the rest
+/// tells the same.
 #[test]
 fn paths_cut_in_two() {
     let (mut d, mut counts) = (Draw::new(34), Counts::default());
