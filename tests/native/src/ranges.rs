@@ -27,7 +27,7 @@ pub fn of_ends(ends: &[(u32, u32)]) -> Vec<u32> {
 }
 
 /// What is due in numbers: the refusal, the answer, and the ranges where some are written.
-fn due(told: &reference::Ranged) -> (u8, [usize; 3], Vec<u32>) {
+pub fn due(told: &reference::Ranged) -> (u8, [usize; 3], Vec<u32>) {
     match told {
         reference::Ranged::Follows { location, ranges } => (0, [0, 1, *location], of_ends(ranges)),
         reference::Ranged::Ends { position } => (0, [*position, 0, 0], Vec::new()),
