@@ -158,7 +158,7 @@ impl Ranges<'_> {
         }
         let cells: u64 = counters.iter().map(|&counter| u64::from(counter)).sum();
         if cells > CELLS as u64 {
-            return format!("{:<INDENT$}not drawn: it has {cells} cells, and more than {CELLS}\n", "  heap");
+            return format!("{:<INDENT$}not drawn: it has {cells} cells, and at most {CELLS} are drawn\n", "  heap");
         }
         match Machine::start(&location.shape.write(), counters) {
             Ok(machine) => {

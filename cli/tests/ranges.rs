@@ -160,8 +160,8 @@ A start that follows it, as a walk confirms: c0 = 3, c1 = 2. It ends with c0 = 3
     }
     for (counters, heap) in [
         ("200..300,40", "  heap         p0 -> 0 -> 1 -> .. 197 more .. -> 199 -> null\n"),
-        ("200..300,41", "  heap         not drawn: it has 241 cells, and more than 240\n"),
-        ("65535,65535", "  heap         not drawn: it has 131070 cells, and more than 240\n"),
+        ("200..300,41", "  heap         not drawn: it has 241 cells, and at most 240 are drawn\n"),
+        ("65535,65535", "  heap         not drawn: it has 131070 cells, and at most 240 are drawn\n"),
     ] {
         let said = shown(&["examples/two-lists.txt", "--counters", counters]);
         assert!(said.contains(heap), "{said}");

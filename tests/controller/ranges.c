@@ -86,12 +86,13 @@ static void walk_all(const struct bounds *bounds, size_t starts, size_t length, 
                                             &made);
         farthest = made > farthest ? made : farthest;
         if (refusal != CURRANTPLANE_ACCEPTED) continue;
-        size_t number = follows && at.location == told->answer[CURRANTPLANE_REACHED] ? numbered(told->ends, &at, all) : all;
+        int there = follows && at.location == told->answer[CURRANTPLANE_REACHED];
+        size_t number = there ? numbered(told->ends, &at, all) : all;
         if (!look(BY_WALKS, number < all && number < FEW, "a start that ends outside the ranges")) return;
         count += !reached[number];
         reached[number] = 1;
     }
-    look(BY_WALKS, farthest == (follows ? length : told->answer[CURRANTPLANE_PLACE]), "how far the farthest start goes");
+    look(BY_WALKS, farthest == (follows ? length : told->answer[CURRANTPLANE_PLACE]), "how far the farthest goes");
     look(BY_WALKS, count == all, "values within the ranges that no start reaches");
     met(STARTS_WALKED, starts);
 }
