@@ -20,8 +20,8 @@ use Rattle.model.specs.Part.{partBytes, recordPart}
 use Rattle.model.specs.Answers.{foundNumbers, refusalOf, stepNumbers}
 use Rattle.model.specs.Bench.{endsIn, firstUnplaced, translateFull}
 use Rattle.model.specs.Layout.{keepsLayout}
-use Rattle.model.specs.Ranges.{rangedTo, ranging}
 use Rattle.model.specs.Search.{searched}
+use Rattle.model.specs.Ranges.{rangedTo, ranging}
 use Rattle.model.specs.Walking.{moved, walked}
 use Rattle.model.specs.declared.Configuration.{Configuration}
 
@@ -91,7 +91,7 @@ movedBy ls es l e at cs n =
     let m = moved t c n in
     (m .refusal ∷ m .configuration .location ∷ []) ∷ m .configuration .counters ∷ []
 
--- ranges along a path: the refusal, its place or the position, whether some start follows, and the location; the ranges
+-- a path from ranges: the refusal, the place, 1 where some start follows, and the location; the ranges
 abbrev rangedBy : List ℕ → List ℕ → ℕ → ℕ → ℕ → List ℕ → List ℕ → List (List ℕ)
 rangedBy ls es l e at rs ns =
     let t : Tables = record { locBytes = ls; edgeBytes = es; locCount = l; edgeCount = e } in

@@ -18,7 +18,8 @@ impl Listing<'_> {
             0 => self.place(location, counters),
             fault => vec![format!("location {location}: FAULT {fault}")],
         };
-        fill(&lead, indent + 4, &pieces).replacen("start", &self.style.strong("start"), 1)
+        let line = fill(&lead, indent + 4, &pieces).replacen("FAULT", &self.style.bad("FAULT"), 1);
+        line.replacen("start", &self.style.strong("start"), 1)
     }
 
     /// A line for each edge: the name of its place in the path, when it is taken, and where it leads.

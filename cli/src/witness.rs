@@ -35,8 +35,8 @@ fn source(edge: &Edge, ranges: &[Range], to: &[u32]) -> Vec<u32> {
         let sum: i64 = update.constant + update.added().map(|old| i64::from(from[old])).sum::<i64>();
         let mut lacking = i64::from(value) - sum;
         for old in update.added() {
-            let more = lacking.clamp(0, i64::from(open[old].highest) - i64::from(open[old].lowest));
             // at most what the range has above its lowest value
+            let more = lacking.min(i64::from(open[old].highest) - i64::from(open[old].lowest)).max(0);
             from[old] += more as u32;
             lacking -= more;
         }
