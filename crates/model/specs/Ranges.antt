@@ -1,6 +1,6 @@
 -- 02, job 9, "Counters known only within ranges": which starts follow a path, for all tables, locations, ranges and
 -- paths. Assumes nothing.
-use Prim.Native.Nat.{ℕ, zero, suc, max, min, _+_, _≤_, _<_}
+use Prim.Native.Nat.{ℕ, suc, max, min, _+_, _≤_, _<_}
 use mathlib.Core.Path.{_≡_}
 use mathlib.Core.Bool.{Bool, true, false, _&&_, cond, not}
 use mathlib.Core.Option.{Option, none, some}
@@ -12,7 +12,7 @@ use Rattle.model.specs.Heap.{Heap}
 use Rattle.model.specs.Layout.{keepsLayout}
 use Rattle.model.specs.Machine.{Entry, Stmt}
 use Rattle.model.specs.Records.{GuardCode, byte, filled, recordAt, word}
-use Rattle.model.specs.Runs.{Advance, Config, Forced, Matched, State, Supply, applied, fed, final, guardsOf, moveOf, nodesAt, running, stepOf, trace, updatesOf}
+use Rattle.model.specs.Runs.{Config, Forced, Matched, State, Supply, applied, fed, final, guardsOf, moveOf, nodesAt, running, stepOf, trace, updatesOf}
 use Rattle.model.specs.Translate.{Tables}
 use Rattle.model.specs.Walking.{mostMoves}
 use Rattle.model.specs.declared.Ranged.{Ranged}

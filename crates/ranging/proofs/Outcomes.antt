@@ -1,12 +1,12 @@
 -- The outcome of ranges and a path, in each of its cases, and in numbers.
 use Prim.Native.Nat.{ℕ, suc, _<_, _≤_}
 use mathlib.Core.Path.{_≡_, _∙_, ap, ap₂, refl, sym}
-use mathlib.Core.Bool.{true, false, not}
+use mathlib.Core.Bool.{true}
 use mathlib.Core.Option.{Option, none, some}
 use mathlib.Core.List.{List, [], _∷_, _++_}
 use native.Mathlib.Omega.{arith}
 use lib.ListN.{length}
-use Rattle.model.specs.Ranges.{Box, Ranging, along, askable, cutBy, endsAt, firstWrong, follows, ledTo, linked, linkedPart, movedBox, rangeKeeps, rangedTo, ranging, reached, refusedAt, startBox}
+use Rattle.model.specs.Ranges.{Box, Ranging, along, askable, cutBy, endsAt, firstWrong, follows, ledTo, linked, linkedPart, movedBox, rangedTo, ranging, reached, refusedAt, startBox}
 use Rattle.model.specs.Records.{recordAt}
 use Rattle.model.specs.Runs.{guardsOf, nodesAt}
 use Rattle.model.specs.Translate.{Tables}

@@ -1,14 +1,14 @@
 -- Ranges along a path: at each edge, and at its end, exactly the values within them are reached by starts.
-use Prim.Native.Nat.{_+_, _*_, _-_, _<_, _≤_, suc, zero, ℕ}
+use Prim.Native.Nat.{_+_, _*_, _-_, _<_, _≤_, suc, ℕ}
 use mathlib.Core.Path.{_∙_, _≡_, ap, refl, subst, sym}
 use mathlib.Core.Logic.{_↔_}
 use mathlib.Core.Option.{Option, none, some}
-use mathlib.Core.Bool.{_&&_, cond, false, true}
-use mathlib.Core.List.{List, [], _∷_, map}
+use mathlib.Core.Bool.{false, true}
+use mathlib.Core.List.{List, [], _∷_}
 use native.Mathlib.Omega.{arith}
 use lib.Dec.{eqb, leb, ltb}
-use lib.ListN.{getD, length, length-map, take}
-use borrow.Author.Tests.{eqb-true, le-leb, leb-true, ltb-true}
+use lib.ListN.{length, length-map, take}
+use borrow.Author.Tests.{eqb-true, le-leb, ltb-true}
 use Rattle.model.specs.Base.{all, sum}
 use Rattle.model.specs.Layout.{guardKeeps, guardThere, keepsLayout}
 use Rattle.model.specs.Notions.{In}
@@ -17,7 +17,7 @@ use Rattle.model.specs.Records.{GuardCode, recordAt, word}
 use Rattle.model.specs.Runs.{Advance, Config, applied, enabled, guardsHold, guardsOf, moveOf, nodesAt, taken, updatesOf}
 use Rattle.model.specs.Translate.{Tables}
 use Rattle.model.proofs.lists.Lists.{all-in, all-of, in-getD, some-inj, some-none}
-use Rattle.model.proofs.lists.Logic.{and-both, and-l, and-r, bool-case, clash, not-true}
+use Rattle.model.proofs.lists.Logic.{and-both, and-l, and-r, bool-case, not-true}
 use Rattle.model.proofs.records.LayoutFacts.{EdgeKept, could-keeps, layout-kept, layout-nodes}
 use Rattle.model.proofs.runs.Boxes.{Full, GuardFits}
 use Rattle.model.proofs.runs.Cuts.{cut-by-none, cut-by-some}

@@ -6,7 +6,7 @@ use mathlib.Core.List.{List, [], _∷_, map}
 use native.Mathlib.Omega.{arith}
 use lib.Dec.{leb, ltb}
 use lib.ListN.{List·getD-eq-default, getD, length, length-map}
-use borrow.Author.Tests.{le-leb, le-ltb, leb-false, leb-true, lt-leb, lt-ltb, ltb-false, ltb-true}
+use borrow.Author.Tests.{le-ltb, leb-false, leb-true, lt-leb, lt-ltb, ltb-false, ltb-true}
 use Rattle.model.specs.Base.{numbers, sum}
 use Rattle.model.specs.Layout.{keepsLayout}
 use Rattle.model.specs.Ranges.{Box, Ranging, Stuck, WhyRefused, along, askable, endsAt, firstWrong, follows, highGiven, inLimits, ledTo, linked, linkedAt, linkedPart, lowGiven, no-range, no-start, not-linked, rangeKeeps, ranging, refusedAt, startBox, tables-break, too-long}
