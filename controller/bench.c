@@ -1,5 +1,5 @@
-/* The controller bench: translates routines into tables for 128 locations and 256 edges, searches these and walks in
- * them, folds and unfolds heaps, and steps them. All that it answers comes from the library; it decides only what it
+/* The controller bench: translates routines into tables for 128 locations and 256 edges, searches these, walks in them
+ * and follows paths in them from ranges, folds and unfolds heaps, and steps them. All that it answers comes from the library; it decides only what it
  * can read. Nothing is allocated. */
 #include "bench.h"
 #include "digits.h"
@@ -17,6 +17,11 @@ static const char usage[] =
     "       bench walk FILE LOCATION COUNTERS [PATH]     a walk along edges of the listing, from a location with\n"
     "                                                    these counters: moves made, location and counters then\n"
     "       bench move FILE LOCATION COUNTERS [PATH]     the same edges in single moves, with each configuration\n"
+    "       bench ranges FILE LOCATION LOWEST HIGHEST [PATH]\n"
+    "                                                    a path along edges of the listing, from a location with\n"
+    "                                                    counters from these lowest to these highest values: the\n"
+    "                                                    location reached with its lowest and its highest values,\n"
+    "                                                    or at which position, from 0, no start can go on\n"
     "       bench fold POINTERS CELLS                    the shape of a heap, and its counters\n"
     "       bench unfold SHAPE COUNTERS CELLS            the heap of a shape, in so many cells\n"
     "       bench step POINTERS CELLS STATEMENT [PICK [CELL]]\n"
@@ -27,9 +32,9 @@ static const char usage[] =
     "FILE holds records of 32 bytes; without it, or as -, it is standard input; 4,096 bytes are read of it.\n"
     "POINTERS, CELLS, SHAPE, STATEMENT and RECORD are hex digits, two for a byte, - for none: six pointers; a\n"
     "byte for each cell, the next cell's number, fe null, ff undefined, fd for a cell that is not in use; records\n"
-    "of 32 bytes. COUNTERS, PATH and PICKS are numbers with commas between; counters that are left out are 0. A\n"
-    "refusal is printed as 'refused', its number and its place, and for 9, 18 and 19 the node. Exit status: 0 for\n"
-    "an answer, a refusal too; 2 for bad use.\n";
+    "of 32 bytes. COUNTERS, LOWEST, HIGHEST, PATH and PICKS are numbers with commas between; counters that are\n"
+    "left out are 0. A refusal is printed as 'refused', its number and its place, and for 9, 18 and 19 the node.\n"
+    "Exit status: 0 for an answer, a refusal too; 2 for bad use.\n";
 
 static int bad_use(const char *what)
 {
@@ -202,6 +207,40 @@ static int go(int count, char **words, int (*along)(struct bench *))
     return refusal == CURRANTPLANE_ACCEPTED ? along(&bench) : print_translation_refusal(&bench, refusal);
 }
 
+uint8_t ranges(struct bench *b, size_t start, size_t *told)
+{
+    return currantplane_ranges(b->locations, sizeof b->locations, b->edges, sizeof b->edges,
+                               b->answer[CURRANTPLANE_LOCATION_COUNT], b->answer[CURRANTPLANE_EDGE_COUNT], start,
+                               b->path, b->path_length, b->ranges, CURRANTPLANE_RANGES, told,
+                               CURRANTPLANE_RANGES_ANSWER);
+}
+
+static int print_ranges(struct bench *b, size_t start)
+{
+    size_t told[CURRANTPLANE_RANGES_ANSWER];
+    uint8_t refusal = ranges(b, start, told);
+    if (refusal != CURRANTPLANE_ACCEPTED) return print_refusal(refusal, told[CURRANTPLANE_PLACE], 0);
+    if (!told[CURRANTPLANE_FOLLOWS]) return printf("none at %zu\n", told[CURRANTPLANE_PLACE]) < 0;
+    printf("location %zu\n", told[CURRANTPLANE_REACHED]);
+    print_counters(b->ranges + CURRANTPLANE_LOWEST);
+    print_counters(b->ranges + CURRANTPLANE_HIGHEST);
+    return 0;
+}
+
+static int ranges_command(int count, char **words)
+{
+    size_t start;
+    if (count < 4 || count > 5 || !read_number(words[1], SIZE_MAX, &start)
+        || !read_counters(words[2], bench.ranges + CURRANTPLANE_LOWEST)
+        || !read_counters(words[3], bench.ranges + CURRANTPLANE_HIGHEST)
+        || !read_path(&bench, count == 5 ? words[4] : ""))
+        return bad_use("ranges takes a file, a location, at most twelve lowest and twelve highest values and at most "
+                       "4,097 edges");
+    if (!read_routine(&bench, words[0])) return bad_use("the routine cannot be read");
+    uint8_t refusal = translate(&bench);
+    return refusal == CURRANTPLANE_ACCEPTED ? print_ranges(&bench, start) : print_translation_refusal(&bench, refusal);
+}
+
 static int walk_command(int count, char **words) { return go(count, words, go_in_one); }
 static int move_command(int count, char **words) { return go(count, words, go_by_moves); }
 
@@ -347,8 +386,9 @@ int main(int count, char **words)
         const char *name;
         int (*command)(int, char **);
     } commands[] = {{"translate", translate_command}, {"search", search_command}, {"walk", walk_command},
-                    {"move", move_command},           {"fold", fold_command},     {"unfold", unfold_command},
-                    {"step", step_command},           {"run", run_command},       {"size", size_command}};
+                    {"move", move_command},           {"ranges", ranges_command}, {"fold", fold_command},
+                    {"unfold", unfold_command},       {"step", step_command},     {"run", run_command},
+                    {"size", size_command}};
     if (count < 2) return bad_use("it is told what to do by a word");
     for (size_t i = 0; i < sizeof commands / sizeof commands[0]; i++)
         if (strcmp(words[1], commands[i].name) == 0) return commands[i].command(count - 2, words + 2);

@@ -20,6 +20,7 @@ struct bench {
     size_t input_length, path_length;
     size_t answer[CURRANTPLANE_ANSWER];
     struct currantplane_configuration configuration; /* where the automaton of the listing stands */
+    uint32_t ranges[CURRANTPLANE_RANGES];            /* where it may stand: the lowest counters, then the highest */
 };
 
 struct heap {
@@ -42,6 +43,9 @@ uint8_t move(struct bench *bench, size_t number);
 
 /* The same along the path, and how many moves were made. */
 uint8_t walk(struct bench *bench, size_t *made);
+
+/* Follows the path from a location with these ranges, and tells three numbers; the refusal's number. */
+uint8_t ranges(struct bench *bench, size_t start, size_t *told);
 
 /* The lowest cell that is not in use, the number of cells if there is none. */
 size_t free_cell(const struct heap *heap);

@@ -10,8 +10,9 @@
 #error "controller/build measures code and data and gives them"
 #endif
 
-enum { TRANSLATE, RECORD, SEARCH, FOLD, UNFOLD, STEP, MOVE, WALK, CALLS };
-static const char *const names_of[CALLS] = {"translate", "record", "search", "fold", "unfold", "step", "move", "walk"};
+enum { TRANSLATE, RECORD, SEARCH, FOLD, UNFOLD, STEP, MOVE, WALK, RANGES, CALLS };
+static const char *const names_of[CALLS] = {"translate", "record", "search", "fold",  "unfold",
+                                            "step",      "move",   "walk",   "ranges"};
 
 /* a call with all that it is given */
 struct measured {
@@ -20,7 +21,7 @@ struct measured {
     const uint8_t *statement, *sought; /* a record that is looked for */
     uint8_t shape[CURRANTPLANE_RECORD];
     uint32_t counters[CURRANTPLANE_MOST_NODES];
-    size_t number; /* of an edge */
+    size_t number, start; /* of an edge, and of the location that it leaves */
     size_t routines, locations;
 };
 
@@ -86,6 +87,13 @@ static void call_walk(void *m)
     walk(((struct measured *)m)->bench, &made);
 }
 
+static void call_ranges(void *m)
+{
+    struct measured *c = m;
+    size_t told[CURRANTPLANE_RANGES_ANSWER];
+    ranges(c->bench, c->start, told);
+}
+
 /* the configuration at a location with all its counters so large */
 static struct currantplane_configuration stand(const struct bench *b, size_t number, uint32_t counter)
 {
@@ -95,7 +103,17 @@ static struct currantplane_configuration stand(const struct bench *b, size_t num
     return at;
 }
 
-/* every edge of the location is tried in a move, and as the first of a walk along all edges */
+/* along the path, from counters of 1 to the most that may be given */
+static void measure_ranges(struct measured *m)
+{
+    for (size_t i = 0; i < CURRANTPLANE_MOST_NODES; i++) {
+        m->bench->ranges[CURRANTPLANE_LOWEST + i] = 1;
+        m->bench->ranges[CURRANTPLANE_HIGHEST + i] = CURRANTPLANE_MOST_VALUE;
+    }
+    call_on(&stacks[RANGES], call_ranges, m);
+}
+
+/* every edge of the location is tried in a move and as a path from ranges, and as the first of a walk along all edges */
 static void measure_moves(struct measured *m, size_t number, uint32_t counter)
 {
     struct bench *b = m->bench;
@@ -108,6 +126,10 @@ static void measure_moves(struct measured *m, size_t number, uint32_t counter)
         for (size_t i = 0; i < b->path_length; i++) b->path[i] = (uint32_t)(m->number + i);
         b->configuration = stand(b, number, counter);
         call_on(&stacks[WALK], call_walk, m);
+        m->start = number;
+        measure_ranges(m);
+        b->path_length = 1;
+        measure_ranges(m);
     }
 }
 

@@ -1,5 +1,5 @@
-/* Currantplane: routines over linked lists, translated into counter automata, which are walked; heaps folded, unfolded
- * and stepped.
+/* Currantplane: routines over linked lists, translated into counter automata, which are walked, also with counters that
+ * are known only within ranges; heaps folded, unfolded and stepped.
  *
  * C99 and later, and C++. Link with libcurrantplane.a (x86-64); it wants memcpy and memset and nothing else.
  *
@@ -40,11 +40,14 @@ enum {
     CURRANTPLANE_MOST_SHAPES = 16,      /* its H records */
     CURRANTPLANE_MOST_LOCATIONS = 1024, /* the places of a table of locations that are used, however long it is */
     CURRANTPLANE_MOST_EDGES = 2048,     /* and of a table of edges */
-    CURRANTPLANE_MOST_MOVES = 4096,     /* the edge numbers of a walk */
+    CURRANTPLANE_MOST_MOVES = 4096,     /* the edge numbers of a walk, and of a path for ranges */
+    CURRANTPLANE_MOST_VALUE = 65535,    /* the highest end of a range at the start of a path */
     CURRANTPLANE_MOST_INPUT = 32 * (64 + 16), /* the bytes of the longest routine that passes the checks */
     CURRANTPLANE_ANSWER = 4,            /* the numbers that currantplane_translate tells */
     CURRANTPLANE_RECORD_ANSWER = 3,     /* the numbers that currantplane_record tells */
-    CURRANTPLANE_STEP_ANSWER = 4        /* the bytes that currantplane_step tells */
+    CURRANTPLANE_STEP_ANSWER = 4,       /* the bytes that currantplane_step tells */
+    CURRANTPLANE_RANGES = 24,           /* the numbers of ranges: twelve lowest values, then twelve highest */
+    CURRANTPLANE_RANGES_ANSWER = 3      /* the numbers that currantplane_ranges tells */
 };
 
 /* ---- bytes */
@@ -123,7 +126,14 @@ enum currantplane_refusal {
     /* move and walk; the place is 0, and is not told */
     CURRANTPLANE_NO_MOVE = 20,       /* the tables or the configuration break the layout, a walk is longer than 4,096,
                                       * or an edge is not in the table, does not leave the location or is not enabled */
-    CURRANTPLANE_TOO_LARGE = 21      /* a counter would pass 32 bits */
+    CURRANTPLANE_TOO_LARGE = 21,     /* a counter would pass 32 bits */
+    /* ranges; the place is the counter's number from 0 */
+    CURRANTPLANE_BAD_RANGE = 22,     /* an end of a counter's range is outside 1 to 65,535, or its ends are in the
+                                      * wrong order */
+    /* ranges, looked at before 22; the place is 0, or for an edge its position in the path, from 0 */
+    CURRANTPLANE_BAD_PATH = 23       /* the tables break the layout, the start is not in the table, the path is longer
+                                      * than 4,096, or an edge is not in the table or does not leave the location
+                                      * reached, whatever its guards say */
 };
 
 /* whether a refusal is about a node of a shape, which is then told with it */
@@ -301,6 +311,43 @@ uint8_t currantplane_walk(struct currantplane_configuration *configuration,
                           const uint8_t *edges, size_t edges_length,
                           size_t location_count, size_t edge_count,
                           const uint32_t *path, size_t path_length, size_t *made);
+
+/* Tells whether some start within ranges can follow a path, and with which counters it then ends. Here counters are
+ * known only by a lowest and a highest value each, both included.
+ *
+ * locations, edges, location_count, edge_count   as in currantplane_move
+ * start     the number of the location where the path starts
+ * path      the numbers of the edges, at most 4,096
+ * ranges    for each counter of the start its lowest value, then, from number 12 on, its highest; 24 numbers in all. A
+ *           number that is not there counts as 0. What stands for counters past the start's k is not looked at.
+ *           Written only where some start follows the path
+ * answer    the place of the refusal or, where no start follows the path, the first position in it, from 0, where
+ *           none can go on, else 0; 1 where some start follows the path, else 0; and the location reached, 0 where none
+ *           is; in this order
+ *
+ * Accepted (0), in two cases. Some start within the ranges can follow the path, taking each of its edges in turn:
+ * then `ranges` gets the ranges of the final counters, laid out as before, 0 past the last; a fault has no counters.
+ * Exactly the combinations of values within them are reached by starts. A final counter may be above 65,535. Or none
+ * can: then `ranges` is left as it is. An empty path is followed by every start.
+ * Refused (23, 22, looked at in this order): `ranges` is left as it is, and of the answer all but the place is 0.
+ *   - 23 with place 0, where the tables break the layout as in currantplane_move, the start is not below
+ *     location_count, or the path is longer than 4,096;
+ *   - 23 with the position of the first edge that is not below edge_count or does not leave the location that the edges
+ *     before it lead to, whether or not its guards or theirs could hold;
+ *   - 22 with the first counter of which an end is outside 1 to 65,535 or the lowest value is above the highest.
+ * Of `ranges` as many numbers are written as it has, at most 24, and of `answer` at most three; the rest of them is
+ * left. */
+uint8_t currantplane_ranges(const uint8_t *locations, size_t locations_length,
+                            const uint8_t *edges, size_t edges_length,
+                            size_t location_count, size_t edge_count, size_t start,
+                            const uint32_t *path, size_t path_length,
+                            uint32_t *ranges, size_t ranges_length,
+                            size_t *answer, size_t answer_length);
+
+/* The places of the numbers in the answer, after CURRANTPLANE_PLACE. In ranges the lowest value of counter n is at n,
+ * and its highest at CURRANTPLANE_HIGHEST + n. */
+enum { CURRANTPLANE_FOLLOWS = 1, CURRANTPLANE_REACHED = 2 };
+enum { CURRANTPLANE_LOWEST = 0, CURRANTPLANE_HIGHEST = 12 };
 
 /* ---- reading records
  *

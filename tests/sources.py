@@ -125,4 +125,5 @@ def refusals():
     return {"input": lists["numbersInput"][:4], "S record": lists["numbersS"], "H record": lists["numbersH"],
             "tables": lists["numbersTranslate"][-2:], "heap image": image, "unfolding": counters, "plain step": step,
             "one record out of the tables": numbers(re.search(r"refusal (\d+)", spec("Part"))[1]),
-            "moves and walks": sorted({int(n) for n in re.findall(r"staysWith (\d\d)", spec("Walking"))})}
+            "moves and walks": sorted({int(n) for n in re.findall(r"staysWith (\d\d)", spec("Walking"))}),
+            "ranges": [*dict.fromkeys(int(n) for n in re.findall(r"refusedAt (\d\d)", spec("Ranges")))]}

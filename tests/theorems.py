@@ -21,6 +21,7 @@ use Rattle.model.specs.Answers.{foundNumbers, refusalOf, stepNumbers}
 use Rattle.model.specs.Bench.{endsIn, firstUnplaced, translateFull}
 use Rattle.model.specs.Layout.{keepsLayout}
 use Rattle.model.specs.Search.{searched}
+use Rattle.model.specs.Ranges.{rangedTo, ranging}
 use Rattle.model.specs.Walking.{moved, walked}
 use Rattle.model.specs.declared.Configuration.{Configuration}
 
@@ -90,6 +91,13 @@ movedBy ls es l e at cs n =
     let m = moved t c n in
     (m .refusal ∷ m .configuration .location ∷ []) ∷ m .configuration .counters ∷ []
 
+-- a path from ranges: the refusal, the place, 1 where some start follows, and the location; the ranges
+abbrev rangedBy : List ℕ → List ℕ → ℕ → ℕ → ℕ → List ℕ → List ℕ → List (List ℕ)
+rangedBy ls es l e at rs ns =
+    let t : Tables = record { locBytes = ls; edgeBytes = es; locCount = l; edgeCount = e } in
+    let r = rangedTo (ranging t at rs ns) in
+    (r .refusal ∷ r .place ∷ r .follows ∷ r .location ∷ []) ∷ r .ranges ∷ []
+
 abbrev unfolded : Unfolding → List (List ℕ)
 unfolded u = ending (refusalOf (u .verdict)) ∷ u .ptrBytes ∷ u .cellBytes ∷ []
 
@@ -142,7 +150,7 @@ def step_call(record, pick, cell, ps, cs):
 def theorem(number, group):
     """That each case of a group, a name, a call and the answer that is expected, has this answer."""
     same = ' && '.join('sameList (sameList eqb) (%s) (%s)' % case[1:] for case in group)
-    shut = 'check listing translate foldImage unfoldImage stepImage recordPart searched keepsLayout moved walked'
+    shut = 'check listing translate foldImage unfoldImage stepImage recordPart searched keepsLayout moved walked ranging'
     return '-- %s\nc%d : %s ≡ true\nunfolding %s\nc%d = refl\n\n' % (group[0][0], number, same, shut, number)
 
 

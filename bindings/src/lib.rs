@@ -95,6 +95,21 @@ mod raw {
             path_len: usize,
             made: *mut usize,
         ) -> u8;
+        pub fn currantplane_ranges(
+            locations: *const u8,
+            locations_len: usize,
+            edges: *const u8,
+            edges_len: usize,
+            location_count: usize,
+            edge_count: usize,
+            start: usize,
+            path: *const u32,
+            path_len: usize,
+            ranges: *mut u32,
+            ranges_len: usize,
+            answer: *mut usize,
+            answer_len: usize,
+        ) -> u8;
     }
 }
 
@@ -292,4 +307,70 @@ pub fn make_walk(
         )
     };
     (number, made)
+}
+
+/// The numbers of ranges: the lowest values of twelve counters, then the highest.
+pub const RANGES: usize = 24;
+
+/// What there is to say of a path from counters that are known only within ranges.
+#[derive(Clone, Copy, PartialEq, Eq, Debug)]
+pub enum Ranged {
+    /// Some start can follow the path, to this location.
+    Follows(usize),
+    /// No start can: the first position in the path, from 0, where none can go on.
+    EndsAt(usize),
+    /// 23 with place 0 or the position of an edge in the path, or 22 with the number of a counter.
+    Refused(Refusal),
+}
+
+/// Whether some start within the ranges can follow a path of edge numbers. `ranges` has the lowest values of twelve
+/// counters, then the highest, [`RANGES`] numbers in all; a number that is not there counts as 0, and those past the
+/// start's counters are not read. Where some start follows, the ranges of the final counters are written over them in
+/// the same form, 0 past the last counter: exactly the combinations of values within them are reached by starts. Else
+/// they are left. `counts` are the numbers of locations and of edges in use.
+pub fn follow_ranges(
+    locations: &[u8],
+    edges: &[u8],
+    counts: [usize; 2],
+    start: usize,
+    path: &[u32],
+    ranges: &mut [u32],
+) -> Ranged {
+    let mut answer = [usize::MAX; 3];
+    let number = tell_ranges(locations, edges, counts, start, path, ranges, &mut answer);
+    match (number, answer) {
+        (0, [position, 0, _]) => Ranged::EndsAt(position),
+        (0, [_, _, location]) => Ranged::Follows(location),
+        (_, [place, ..]) => Ranged::Refused(Refusal::at(number, place)),
+    }
+}
+
+/// The same in numbers: the refusal's number, and over `answer`, as far as it reaches, the place or the position, 1
+/// where some start follows the path, else 0, and the location reached.
+pub fn tell_ranges(
+    locations: &[u8],
+    edges: &[u8],
+    counts: [usize; 2],
+    start: usize,
+    path: &[u32],
+    ranges: &mut [u32],
+    answer: &mut [usize],
+) -> u8 {
+    unsafe {
+        raw::currantplane_ranges(
+            locations.as_ptr(),
+            locations.len(),
+            edges.as_ptr(),
+            edges.len(),
+            counts[0],
+            counts[1],
+            start,
+            path.as_ptr(),
+            path.len(),
+            ranges.as_mut_ptr(),
+            ranges.len(),
+            answer.as_mut_ptr(),
+            answer.len(),
+        )
+    }
 }

@@ -1,5 +1,6 @@
 //! The words of the command line.
 
+use crate::bounds::Range;
 use crate::record::{from_hex, Record};
 use crate::source::{bytes, Failure};
 use std::str::FromStr;
@@ -94,7 +95,14 @@ impl Arguments {
         self.read_numbers(name, words.split(',').map(str::trim).filter(|_| !words.is_empty()))
     }
 
-    /// The same, or for `-` those of standard input, where white space too may stand between them.
+    /// Numbers and ranges with commas between them, as in `1..12,3`; none where nothing is given.
+    pub fn ranges(&self, name: &str) -> Result<Vec<Range>, Failure> {
+        let words = self.value(name).unwrap_or("");
+        let read = |word: &str| word.parse().map_err(|why| wrong(&self.command, format!("{name}{why}")));
+        words.split(',').map(str::trim).filter(|_| !words.is_empty()).map(read).collect()
+    }
+
+    /// Numbers with commas between them, or for `-` those of standard input, where white space too may stand between them.
     pub fn numbers_or_input<T: FromStr>(&self, name: &str) -> Result<Vec<T>, Failure> {
         if self.value(name) != Some("-") {
             return self.numbers(name);

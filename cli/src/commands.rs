@@ -7,6 +7,7 @@ use crate::find::Find;
 use crate::graph;
 use crate::help;
 use crate::listing::Listing;
+use crate::ranges::{self, Ranges};
 use crate::record::SIZE;
 use crate::refusal;
 use crate::run::{Options, Run};
@@ -56,6 +57,7 @@ pub fn perform(words: &[String], screen: Screen) -> Result<Done, Failure> {
         "translate" => translate(rest, screen),
         "run" => run(rest, screen),
         "walk" => walk(rest, screen),
+        "ranges" => ranges(rest, screen),
         "show" => show(rest, screen),
         "find" => find(rest, screen),
         _ => Err(Failure::bad_use(format!("there is no command `{command}`\n{}", help::usage().trim_end()))),
@@ -174,6 +176,18 @@ fn walk(words: &[String], screen: Screen) -> Result<Done, Failure> {
     let went = listed(&given.file, screen, |listing| Walk { listing }.go(&options))?;
     let fine = went.walked.refusal == 0 && went.agreed;
     Ok(Done { output: went.text.into_bytes(), file: None, status: if fine { 0 } else { REFUSED } })
+}
+
+fn ranges(words: &[String], screen: Screen) -> Result<Done, Failure> {
+    let given = Arguments::read("ranges", words, &[("--start", true), ("--counters", true), ("--edges", true)])?;
+    let options = ranges::Options {
+        start: given.number("--start", 0, u32::MAX as usize)?,
+        counters: given.ranges("--counters")?,
+        edges: given.numbers_or_input("--edges")?,
+    };
+    let told = listed(&given.file, screen, |listing| Ranges { listing }.go(&options))?;
+    let fine = told.follows() && told.agreed;
+    Ok(Done { output: told.text.into_bytes(), file: None, status: if fine { 0 } else { REFUSED } })
 }
 
 fn show(words: &[String], screen: Screen) -> Result<Done, Failure> {

@@ -2,9 +2,10 @@
 
 const PROVED: &str = "\
 What is proved: every translation, in `show` the record, in `find` the number, in `run` every
-unfolded heap, plain step and folded shape, and in `run` and `walk` every move, comes from the
-proved library.
-What is not proved: this tool, which reads text, chooses the edges in `run`, and prints.
+unfolded heap, plain step and folded shape, in `run` and `walk` every move, and in `ranges` every
+range and position, comes from the proved library.
+What is not proved: this tool, which reads text, chooses the edges in `run`, finds the start that
+`ranges` shows, which a proved walk checks, and prints.
 ";
 
 const TOP: &str = "\
@@ -18,6 +19,7 @@ currantplane: translates list routines into counter automata, for people
   currantplane find FILE RECORD   the location that has a record, given in hex
   currantplane run FILE           the routine on a heap and the automaton beside it, step by step
   currantplane walk FILE          the automaton by itself, along edges by their numbers
+  currantplane ranges FILE        whether a path can be followed from counters within ranges
   currantplane assemble FILE      a text to records
   currantplane disassemble FILE   records to a text
   currantplane help COMMAND       more on a command
@@ -25,9 +27,9 @@ currantplane: translates list routines into counter automata, for people
 FILE is a routine as text (docs/TEXT.md has the grammar) or as records; `-` is standard input. A
 file that is empty, holds a zero byte or is not UTF-8 is taken as records.
 
-Exit status: 0 accepted; 1 refused, a mismatch in `run`, or no location found by `find`; 2 bad use
-or bad text. With 2, and where records or a picture were refused, nothing is written. Colours only
-on a terminal, and not where NO_COLOR is set.
+Exit status: 0 accepted; 1 refused, a mismatch in `run`, no location found by `find`, or no start
+that follows the path in `ranges`; 2 bad use or bad text. With 2, and where records or a picture
+were refused, nothing is written. Colours only on a terminal, and not where NO_COLOR is set.
 ";
 
 const TRANSLATE: &str = "\
@@ -108,6 +110,30 @@ not hold (20), and where a counter would pass 32 bits (21). The moves before it 
 the next one is refused. All moves are made in one call, and again one by one to show them.
 ";
 
+const RANGES: &str = "\
+currantplane ranges FILE [--start L] [--counters R,R,..] [--edges E,E,..]
+
+Says whether some start within ranges can follow a path of the automaton. A line for each edge has
+its position in the path, from 0, and the ranges of the counters after it. If some start follows
+the whole path, the location reached comes with the values that its counters can have there:
+exactly these, each with each of the others. If none does, the first position where none can go on,
+with the guards of its edge and the ranges there; the exit status is then 1.
+
+  --start L        the location where the path starts, by its number in the listing; without it, 0
+  --counters R,R,..
+                   for each node of that location, in order, its counter: a number, or a lowest and
+                   a highest value as in 1..12, both included; from 1 to 65535
+  --edges E,E,..   the edges by their numbers in the listing, at most 4,096; `-` reads them from
+                   standard input. Without it, or with none, the path stays at its start
+
+Then one start that follows the path, or its longest part that some start follows, to the lowest
+values there: its counters and, where it has at most 240 cells, its heap. The tool finds it, and a
+proved walk confirms it.
+
+A location, a path or an edge that is not as the table has it is refused (23), whatever the guards
+say, and then a range that is no range (22); each is explained.
+";
+
 const ASSEMBLE: &str = "\
 currantplane assemble FILE [-o OUT]
 
@@ -134,6 +160,7 @@ pub fn of(command: Option<&str>) -> Option<String> {
         Some("find") => FIND,
         Some("run") => RUN,
         Some("walk") => WALK,
+        Some("ranges") => RANGES,
         Some("assemble") => ASSEMBLE,
         Some("disassemble") => DISASSEMBLE,
         Some(_) => return None,
@@ -143,5 +170,6 @@ pub fn of(command: Option<&str>) -> Option<String> {
 
 /// For a wrong use.
 pub fn usage() -> String {
-    "usage: currantplane translate|show|find|run|walk|assemble|disassemble FILE [OPTIONS]\nTry `currantplane help`.\n".into()
+    "usage: currantplane translate|show|find|run|walk|ranges|assemble|disassemble FILE [OPTIONS]\nTry `currantplane help`.\n"
+        .into()
 }

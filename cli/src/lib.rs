@@ -1,10 +1,12 @@
-//! The command-line tool over the proved library. What is translated, found, folded, unfolded, stepped and moved is so by proved
-//! code. What stands here is not proved: reading text and printing, choosing the automaton's edge beside a step of a run, and
-//! saying of a refused shape or move what is wrong with it.
+//! The command-line tool over the proved library. What is translated, found, folded, unfolded, stepped and moved, and
+//! which ranges a path leads to, is so by proved code. What stands here is not proved: reading text and printing,
+//! choosing the automaton's edge beside a step of a run, finding a start for a path, which a proved walk then checks,
+//! and saying of a refused shape, move or range what is wrong with it.
 
 pub mod arguments;
 pub mod automaton;
 pub mod bench;
+pub mod bounds;
 pub mod chains;
 pub mod commands;
 pub mod drawing;
@@ -16,6 +18,8 @@ pub mod machine;
 pub mod moves;
 pub mod names;
 pub mod nodes;
+pub mod path;
+pub mod ranges;
 pub mod record;
 pub mod refusal;
 pub mod run;
@@ -24,3 +28,4 @@ pub mod source;
 pub mod style;
 pub mod text;
 pub mod walk;
+pub mod witness;

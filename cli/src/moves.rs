@@ -1,7 +1,10 @@
-//! Moves and walks along the automaton's edges, each made by the proved library. Which edge a run takes is chosen here.
+//! Moves, walks and paths from ranges along the automaton's edges, each by the proved library. Which edge a run takes
+//! is chosen here.
 
-use crate::automaton::{Automaton, Tables};
+use crate::automaton::{Automaton, Refusal, Tables};
+use crate::bounds::{self, Range};
 use crate::record::NODES;
+use currantplane::Ranged;
 
 pub use currantplane::Configuration;
 
@@ -11,6 +14,22 @@ pub const LONGEST: usize = 4096;
 /// A move that cannot be made, and one that would take a counter past 32 bits.
 pub const NO_MOVE: u8 = 20;
 pub const TOO_LARGE: u8 = 21;
+
+/// A location, and a range for each of its counters.
+#[derive(Clone, PartialEq, Eq, Debug)]
+pub struct Reached {
+    pub location: usize,
+    pub ranges: Vec<Range>,
+}
+
+/// What the proved library says of a path from ranges: what is reached, the first position where no start can go on,
+/// or a refusal.
+#[derive(Clone, PartialEq, Eq, Debug)]
+pub enum Followed {
+    To(Reached),
+    EndsAt(usize),
+    Refused(Refusal),
+}
 
 /// A location with a counter for each of its nodes.
 pub fn configuration(location: usize, counters: &[u32]) -> Configuration {
@@ -33,6 +52,20 @@ impl Automaton {
         let Tables { locations, edges } = &self.tables;
         let [location_count, edge_count] = self.tables.counts();
         currantplane::make_walk(at, locations, edges, location_count, edge_count, path)
+    }
+
+    /// Whether some start within these ranges follows a path from a location, and what is reached.
+    pub fn follow_ranges(&self, start: usize, ranges: &[Range], path: &[u32]) -> Followed {
+        let Tables { locations, edges } = &self.tables;
+        let mut numbers = bounds::laid(ranges);
+        match currantplane::follow_ranges(locations, edges, self.tables.counts(), start, path, &mut numbers) {
+            Ranged::Follows(location) => {
+                let ranges = bounds::read(&numbers, self.locations[location].shape.count);
+                Followed::To(Reached { location, ranges })
+            }
+            Ranged::EndsAt(position) => Followed::EndsAt(position),
+            Ranged::Refused(refusal) => Followed::Refused(refusal),
+        }
     }
 
     /// Whether the tables and a configuration keep the layout, which an empty walk tells.

@@ -1,6 +1,7 @@
 //! Statements, faults, guards and updates in words.
 
 use crate::automaton::{Edge, Guard, Location, Update};
+use crate::bounds::Range;
 use crate::record::{Op, Statement, NULL, POINTERS, UNDEFINED};
 
 /// A statement without its targets, as in the text form.
@@ -184,6 +185,11 @@ pub fn updates(edge: &Edge, old_count: usize) -> Vec<String> {
 /// `c0 = 3` for each node
 pub fn counters(counters: &[u32]) -> Vec<String> {
     counters.iter().enumerate().map(|(node, counter)| format!("c{node} = {counter}")).collect()
+}
+
+/// `c0 = 1..12` or `c0 = 3` for each node
+pub fn ranges(ranges: &[Range]) -> Vec<String> {
+    ranges.iter().enumerate().map(|(node, range)| format!("c{node} = {range}")).collect()
 }
 
 /// `1 location`, `2 locations`

@@ -7,7 +7,7 @@ use crate::source::{Failure, Source, REFUSED};
 use crate::style::paragraph;
 
 /// What each number from 1 on means, and what to change.
-const MEANINGS: [(&str, &str); 21] = [
+const MEANINGS: [(&str, &str); 23] = [
     (
         "the input is empty, or its length is no multiple of 32 bytes",
         "records have 32 bytes each and no header: complete the last one or cut it off",
@@ -64,6 +64,15 @@ const MEANINGS: [(&str, &str); 21] = [
          that hold",
     ),
     ("a counter has at most 32 bits", "give smaller numbers to --heap, or end the walk before this edge"),
+    (
+        "the range of a counter goes from a lowest value of 1 or more to a highest of 65,535 or less, which is not below it",
+        "give numbers from 1 to 65535 to --counters, or ranges of them with the lowest value first",
+    ),
+    (
+        "a path starts at a location of the table and has at most 4,096 edges, each of which leaves the location that the one \
+         before it leads to, whatever its guards say",
+        "name locations and edges as `translate` lists them, each edge from the location that the one before it leads to",
+    ),
 ];
 
 /// What a number means and what to change.
@@ -125,6 +134,7 @@ fn place_words(refusal: Refusal, source: &Source) -> String {
         4 => format!(" at record {place}"),
         5..=7 => format!(" at record {place}, which is statement {place}"),
         8..=10 | 18 | 19 => format!(" at record {place}, which is starting shape {}", place - statements(source).min(place)),
+        22 => format!(" at counter c{place}"),
         _ => String::new(),
     }
 }

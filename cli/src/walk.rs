@@ -4,11 +4,12 @@ use crate::automaton::{Automaton, Edge, Node, Refusal, Update};
 use crate::listing::{idle_note, Listing};
 use crate::moves::{configuration, Configuration, LONGEST, TOO_LARGE};
 use crate::names;
+use crate::path::Taken;
 use crate::refusal;
 use crate::run::starting_shape;
 use crate::show::{in_use, Kind};
 use crate::source::{Failure, REFUSED};
-use crate::style::{fill, paragraph, with_commas};
+use crate::style::paragraph;
 
 const INDENT: usize = 11;
 
@@ -57,7 +58,7 @@ impl Walk<'_> {
         let (moves, singly) = self.one_by_one(start, path);
         let differs = difference(&walked, &singly);
         let mut text = self.head(options) + &self.start(&start) + &self.moves(&moves);
-        text.push_str(&format!("\n{}\n{}", self.standing(&singly.at), self.closing(&singly, path)));
+        text.push_str(&format!("\n{}\n{}", self.listing.standing(singly.at.location as usize), self.closing(&singly, path)));
         text.push_str(differs.as_deref().unwrap_or_default());
         Ok(Went { text, walked, agreed: differs.is_none() })
     }
@@ -94,56 +95,17 @@ impl Walk<'_> {
     }
 
     fn start(&self, at: &Configuration) -> String {
-        let lead = format!("{:<INDENT$}", "start");
-        fill(&lead, INDENT + 4, &self.place(at)).replacen("start", &self.listing.style.strong("start"), 1)
+        self.listing.path_start(INDENT, at.location as usize, &self.counters(at))
     }
 
     /// A line for each move: the edge, when it is taken, and where it leads.
     fn moves(&self, moves: &[Move]) -> String {
-        let name = |m: &Move| format!("edge {}", m.edge);
-        let edge = |m: &Move| &self.automaton().edges[m.edge];
-        let widest = |words: &dyn Fn(&Move) -> String| moves.iter().map(|m| words(m).len()).max().unwrap_or(0);
-        let (wide, wider) = (widest(&name), widest(&|m| self.listing.condition(edge(m))));
-        let gap = if wider > 0 { "  " } else { "" };
-        let line = |(n, m): (usize, &Move)| {
-            let number = format!("move {}", n + 1);
-            let condition = self.listing.condition(edge(m));
-            let lead = format!("{number:<INDENT$}{:<wide$}  {condition:<wider$}{gap}", name(m));
-            let line = fill(&lead, INDENT + 4, &self.reached(m)).replacen("FAULT", &self.listing.style.bad("FAULT"), 1);
-            line.replacen(&number, &self.listing.style.strong(&number), 1)
-        };
-        moves.iter().enumerate().map(line).collect()
+        let taken: Vec<Taken> = moves.iter().map(|m| Taken { edge: m.edge, counters: self.counters(&m.to) }).collect();
+        self.listing.path_lines(INDENT, &|n| format!("move {}", n + 1), &taken)
     }
 
-    /// Where a move leads, as pieces of a line.
-    fn reached(&self, m: &Move) -> Vec<String> {
-        let Automaton { locations, edges, .. } = self.automaton();
-        let [from, to] = [edges[m.edge].from, m.to.location as usize].map(|number| &locations[number]);
-        if to.fault == 0 {
-            let mut pieces = self.place(&m.to);
-            pieces[0].insert_str(0, "to ");
-            return pieces;
-        }
-        let name = self.listing.source.statement_name(to.statement);
-        let statement = &self.listing.routine.statements[to.statement];
-        let cause = names::cause(to.fault, statement, &from.shape.pointers);
-        vec![format!("to location {}:", m.to.location), format!("FAULT {} at {name},", to.fault), cause]
-    }
-
-    /// A location without a fault, its statement and its counters, as pieces of a line.
-    fn place(&self, at: &Configuration) -> Vec<String> {
-        let statement = self.automaton().locations[at.location as usize].statement;
-        let name = self.listing.source.statement_name(statement);
-        let words = names::statement(&self.listing.routine.statements[statement]);
-        let counters = with_commas(&names::counters(self.automaton().counters(at)));
-        let end = if counters.is_empty() { "" } else { ";" };
-        [vec![format!("location {} at {name}:", at.location), words + end], counters].concat()
-    }
-
-    /// The location as the listing has it, with the edges that leave it.
-    fn standing(&self, at: &Configuration) -> String {
-        let number = at.location as usize;
-        self.listing.location(number, &self.automaton().locations[number]) + &self.listing.edges(number)
+    fn counters(&self, at: &Configuration) -> Vec<String> {
+        names::counters(self.automaton().counters(at))
     }
 
     fn closing(&self, walked: &Walked, path: &[u32]) -> String {

@@ -74,6 +74,7 @@ fn help_says_what_is_proved() {
         vec!["disassemble", "-h"],
         vec!["help", "show"],
         vec!["help", "walk"],
+        vec!["help", "ranges"],
         vec!["help", "find"],
         vec!["find", "-h"],
     ] {
@@ -94,10 +95,14 @@ fn help_says_what_is_proved() {
     for option in ["--heap", "--shape", "--edges"] {
         assert!(text(&printed(&["walk", "-h"], b"")).contains(option));
     }
+    for option in ["--start", "--counters", "--edges"] {
+        assert!(text(&printed(&["ranges", "--help"], b"")).contains(option));
+    }
     assert!(text(&printed(&["help"], b"")).contains("  currantplane walk FILE  "));
+    assert!(text(&printed(&["help"], b"")).contains("  currantplane ranges FILE  "));
     assert!(text(&printed(&["help"], b"")).contains("  currantplane find FILE RECORD  "));
     assert!(text(&printed(&["help", "find"], b"")).starts_with("currantplane find FILE RECORD\n"));
-    assert!(text(&tool(&[], b"").stderr).contains("translate|show|find|run|walk|assemble|disassemble FILE"));
+    assert!(text(&tool(&[], b"").stderr).contains("translate|show|find|run|walk|ranges|assemble|disassemble FILE"));
     assert!(text(&printed(&["help", "translate"], b"")).contains("The edge of a `drop` has no guard;"));
     assert!(text(&printed(&["help", "run"], b"")).contains("`drop` says how many cells went"));
 }
@@ -145,6 +150,7 @@ fn no_colours_without_a_terminal() {
         vec!["translate", "examples/leak.txt"],
         vec!["run", "examples/leak.txt", "--heap", "2"],
         vec!["walk", "examples/leak.txt", "--heap", "2", "--edges", "0"],
+        vec!["ranges", "examples/leak.txt", "--counters", "1..2", "--edges", "0,1,2,4"],
         vec!["find", "examples/leak.txt", &record[..64]],
     ] {
         assert!(!printed(&words, b"").contains(&0x1b));

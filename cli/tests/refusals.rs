@@ -134,7 +134,7 @@ fn shapes_with_several_faults() {
 
 #[test]
 fn the_node_is_printed_for_three_numbers_only() {
-    for number in 1..=21 {
+    for number in 1..=23 {
         let told = [9, 18, 19].contains(&number);
         let expected = format!("refused {number} 4{}\n", if told { " 2" } else { "" });
         assert_eq!(tool::refusal::line(Refusal { number, place: 4, node: Node(if told { 2 } else { 0 }) }), expected);
@@ -225,7 +225,7 @@ fn heaps_and_picks_that_are_refused() {
 
 #[test]
 fn every_number_has_its_own_words() {
-    let all: Vec<_> = (1..=21).map(tool::refusal::meaning).collect();
+    let all: Vec<_> = (1..=23).map(tool::refusal::meaning).collect();
     for (i, words) in all.iter().enumerate() {
         assert!(all[..i].iter().all(|w| w.0 != words.0), "{}", i + 1);
     }

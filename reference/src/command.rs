@@ -6,6 +6,7 @@ use crate::calls::{fold, step, unfold, Stepped};
 use crate::heap::POINTERS;
 use crate::help;
 use crate::part::record_part;
+use crate::ranges::{ranges, Ranged};
 use crate::records::{hex, NULL, RECORD, UNUSED};
 use crate::refusal::Refusal;
 use crate::search::search;
@@ -72,10 +73,11 @@ fn dispatch(words: &[String], input: &mut dyn Read) -> Result<Answer, String> {
         ["step"] => run_step(&read_all(input)?),
         ["record"] => run_record(&read_all(input)?),
         ["walk"] => run_walk(&read_all(input)?),
+        ["ranges"] => run_ranges(&read_all(input)?),
         ["search"] => run_search(&read_all(input)?),
         ["selftest", ..] => run_selftest(&words[1..]),
         ["translate", "--bench", word, ..]
-        | ["translate" | "fold" | "unfold" | "step" | "record" | "walk" | "search", word, ..] => {
+        | ["translate" | "fold" | "unfold" | "step" | "record" | "walk" | "ranges" | "search", word, ..] => {
             Err(format!("'{word}' is not expected; see 'reference {} --help'", words[0]))
         }
         [command, ..] => Err(format!("no command '{command}'; see 'reference --help'")),
@@ -90,6 +92,7 @@ fn help_of(command: &str) -> Result<Answer, String> {
         "step" => help::STEP.to_string() + help::TEXT,
         "record" => help::RECORD.to_string(),
         "walk" => help::WALK.to_string(),
+        "ranges" => help::RANGES.to_string(),
         "search" => help::SEARCH.to_string(),
         "selftest" => help::SELFTEST.to_string(),
         _ => return Err(format!("no command '{command}'; see 'reference --help'")),
@@ -200,6 +203,25 @@ fn run_walk(input: &[u8]) -> Result<Answer, String> {
     match walked.refusal {
         None => result(reached),
         Some(refusal) => refused(refusal).map(|Answer { status, text }| Answer { status, text: text + &reached }),
+    }
+}
+
+fn run_ranges(input: &[u8]) -> Result<Answer, String> {
+    let names = ["locations", "edges", "counts", "start", "ranges", "path"];
+    let lines = Lines::read(input, &names)?;
+    let locations = lines.table("locations")?;
+    let edges = lines.table("edges")?;
+    let [location_count, edge_count] = lines.two_numbers("counts")?.map(as_size);
+    let start = as_size(lines.number("start")?);
+    let numbers = lines.short_numbers("ranges")?;
+    let path = lines.short_numbers("path")?;
+    match ranges(&locations, &edges, location_count, edge_count, start, &numbers, &path) {
+        Ranged::Follows { location, ranges } => {
+            let words: String = ranges.iter().map(|(lowest, highest)| format!(" {lowest} {highest}")).collect();
+            result(format!("follows {location}\nranges{words}\n"))
+        }
+        Ranged::Ends { position } => result(format!("ends {position}\n")),
+        Ranged::Refused { number, place } => refused(Refusal::at(number, place)),
     }
 }
 

@@ -12,12 +12,13 @@ commands:
   step        one statement of the plain machine on a heap
   record      one record out of the tables of locations and edges
   walk        moves along edges of the tables, from a location with counters
+  ranges      a path along edges of the tables, from counters within ranges
   search      the newest of the locations with a record
   selftest    random tests of all of the above
 
 reference COMMAND --help tells more of a command.
 
-The first seven read standard input. Exit status: 0 for a result, 1 for a
+The first eight read standard input. Exit status: 0 for a result, 1 for a
 refusal (or a selftest that fails), 2 for wrong usage or bad text.
 ";
 
@@ -131,6 +132,36 @@ Text: one line for each name, in any order. Blank lines, and what follows a
 '#', are skipped.
 ";
 
+pub const RANGES: &str = "\
+usage: reference ranges < FILE
+
+Reads both tables, the counts in use, a start with a range for each of its
+counters, and a path:
+  locations HEX         the bytes of the locations, or nothing
+  edges HEX             the bytes of the edges, or nothing
+  counts NUMBER NUMBER  the locations and the edges in use, below 2^64
+  start NUMBER          the location where the path starts, below 2^64
+  ranges NUMBER...      for each counter the lowest and the highest value, below
+                        2^32, or nothing; those past the counters are not read
+  path NUMBER...        edge numbers below 2^32, or nothing
+If some start within the ranges can follow the path, prints the location
+reached and the lowest and the highest value of each of its counters:
+  follows LOCATION
+  ranges NUMBER...
+If not, prints the first position in the path, from 0, where none can go on:
+  ends POSITION
+Both have the exit status 0. Otherwise prints one line 'refused NUMBER PLACE':
+  23  at 0: the tables break the layout, the start is not below the count, or
+      the path is longer than 4,096; at a position in the path: the edge is not
+      there or does not leave the location reached
+  22  at a counter: its range has an end outside 1 to 65,535, or its ends are in
+      the wrong order; a number that is left out is 0
+23 is looked at before 22.
+
+Text: one line for each name, in any order. Blank lines, and what follows a
+'#', are skipped.
+";
+
 pub const SEARCH: &str = "\
 usage: reference search < FILE
 
@@ -157,14 +188,15 @@ Text: one line for each name, in any order. A VALUE is a number from 0 to 252,
 pub const SELFTEST: &str = "\
 usage: reference selftest [--seed NUMBER] [--routines NUMBER]
 
-Tests random routines, heaps, runs, walks and searches, from a fixed seed unless
-another one is given. Prints what was counted. Fails, with exit status 1, if
-anything differs, if some refusal from 1 to 21 or fault from 1 to 3 was never
-met, or if tests of undefined pointers, relinks, drops, walks, tables at the
-limits of the layout, damaged H records or searches came too seldom: each kind
-that is printed, and each of the refusals 9, 18 and 19 at each node at which it
-can come, is to be met once and once more for every 100 routines. Beside them,
-five inputs whose listing has a location at a drop, and five heap images with a
-drop, are wanted for every three routines. A few hundred routines are enough to
-meet them all. The default is 12,000 routines.
+Tests random routines, heaps, runs, walks, searches and paths from ranges, from
+a fixed seed unless another one is given. Prints what was counted. Fails, with
+exit status 1, if anything differs, if some refusal from 1 to 23 or fault from 1
+to 3 was never met, or if tests of undefined pointers, relinks, drops, walks,
+tables at the limits of the layout, damaged H records, searches or paths from
+ranges came too seldom: each kind that is printed, and each of the refusals 9,
+18 and 19 at each node at which it can come, is to be met once and once more for
+every 100 routines. Beside them, five inputs whose listing has a location at a
+drop, and five heap images with a drop, are wanted for every three routines. A
+few hundred routines are enough to meet them all. The default is 12,000
+routines.
 ";

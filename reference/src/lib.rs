@@ -6,11 +6,12 @@
 //! folds the result, and infers the edges from several such probes.
 //!
 //! The calls are [`translate`], [`fold`], [`unfold`], [`step`],
-//! [`record_part`], [`move_along`], [`walk`] and [`search`]. None of them
-//! panics, whatever the bytes, lengths and numbers are; each but the last, which
-//! refuses nothing, refuses by number and place and, where a shape is refused
-//! for one of its nodes, by the first such node. [`broken_clauses`] tells why
-//! tables break the layout.
+//! [`record_part`], [`move_along`], [`walk`], [`ranges`] and [`search`]. None of
+//! them panics, whatever the bytes, lengths and numbers are; each but the last,
+//! which refuses nothing, refuses by number and place and, where a shape is
+//! refused for one of its nodes, by the first such node. [`broken_clauses`] tells
+//! why tables break the layout, and [`ranges_by_search`] is [`ranges`] once more,
+//! start by start.
 
 mod automaton;
 mod calls;
@@ -28,6 +29,9 @@ mod machine;
 mod part;
 mod probe;
 mod random;
+mod ranges;
+pub mod ranges_draw;
+mod ranges_search;
 mod records;
 mod refusal;
 mod routines;
@@ -45,6 +49,8 @@ pub use calls::{fold, step, unfold, Folded, Stepped};
 pub use clause::Clause;
 pub use layout::{broken_clause, broken_clauses};
 pub use part::record_part;
+pub use ranges::{ranges, Ranged};
+pub use ranges_search::ranges_by_search;
 pub use refusal::{Node, Refusal};
 pub use search::search;
 pub use translate::{translate, Translated};

@@ -67,16 +67,7 @@ pub fn walk(
     if path.len() > LONGEST || !configuration_fits(locations, location_count, &configuration) {
         return refused;
     }
-    let mut walked = Walked { refusal: None, ..refused };
-    for &edge in path {
-        // Sound tables lead from a sound configuration to sound ones only.
-        match tables.take(&walked.configuration, edge as usize) {
-            Ok(moved) => walked.configuration = moved,
-            Err(refusal) => return Walked { refusal: Some(refusal), ..walked },
-        }
-        walked.made += 1;
-    }
-    walked
+    tables.take_all(configuration, path)
 }
 
 /// Whether a configuration keeps the layout, given that the tables do: its
@@ -94,8 +85,8 @@ pub fn configuration_fits(locations: &[u8], location_count: usize, configuration
 /// Tables that keep the layout, as far as moves need them: how many nodes each
 /// location has, and the edges.
 pub struct Tables {
-    nodes: Vec<usize>,
-    edges: Vec<Edge>,
+    pub nodes: Vec<usize>,
+    pub edges: Vec<Edge>,
 }
 
 impl Tables {
@@ -122,6 +113,21 @@ impl Tables {
             *counter = u32::try_from(updated(update, &at.counters)).map_err(|_| TOO_LARGE)?;
         }
         Ok(Configuration { location: edge.to as u32, counters })
+    }
+
+    /// Takes one edge after the other from a configuration that fits, up to the
+    /// first refusal.
+    pub fn take_all(&self, start: Configuration, path: &[u32]) -> Walked {
+        let mut walked = Walked { refusal: None, made: 0, configuration: start };
+        for &edge in path {
+            // Sound tables lead from a sound configuration to sound ones only.
+            match self.take(&walked.configuration, edge as usize) {
+                Ok(moved) => walked.configuration = moved,
+                Err(refusal) => return Walked { refusal: Some(refusal), ..walked },
+            }
+            walked.made += 1;
+        }
+        walked
     }
 }
 

@@ -260,7 +260,7 @@ fn wrong_usage() {
 fn help_tells_of_every_command() {
     let general = run(&["--help"], b"");
     assert_eq!(general.status, 0);
-    for command in ["translate", "fold", "unfold", "step", "record", "walk", "selftest"] {
+    for command in ["translate", "fold", "unfold", "step", "record", "walk", "ranges", "search", "selftest"] {
         assert!(general.output.contains(&format!("  {command} ")));
         let own = run(&[command, "--help"], b"");
         assert_eq!(own.status, 0);

@@ -4,7 +4,8 @@
 
 #include "../../controller/stack.h"
 
-const char *const call_names[CALLS] = {"translate", "record", "fold", "unfold", "step", "move", "walk", "search"};
+const char *const call_names[CALLS] = {"translate", "record", "fold",   "unfold", "step",
+                                       "move",      "walk",   "search", "ranges"};
 
 const enum slot lent_to[CALLS][7] = {
     {INPUT, LOCATIONS, EDGES, ANSWER, SLOTS},
@@ -15,6 +16,7 @@ const enum slot lent_to[CALLS][7] = {
     {CONFIGURATION, LOCATIONS, EDGES, SLOTS},
     {CONFIGURATION, LOCATIONS, EDGES, PATH, MADE, SLOTS},
     {LOCATIONS, SOUGHT, NUMBER, SLOTS},
+    {LOCATIONS, EDGES, PATH, BOUNDS, ANSWER, SLOTS},
 };
 
 struct given given;
@@ -34,6 +36,7 @@ int writes(enum call which, enum slot slot)
     case MOVE:
     case WALK: return slot == CONFIGURATION || slot == MADE;
     case SEARCH: return slot == NUMBER;
+    case RANGES: return slot == BOUNDS || slot == ANSWER;
     default: return slot != STATEMENT;
     }
 }
@@ -100,8 +103,18 @@ static void call_search(void *nothing)
                                   loans[SOUGHT].length, sizes(NUMBER));
 }
 
-static void (*const made[CALLS])(void *) = {call_translate, call_record, call_fold, call_unfold,
-                                            call_step,      call_move,   call_walk, call_search};
+static void call_ranges(void *nothing)
+{
+    (void)nothing;
+    refusal = currantplane_ranges(loans[LOCATIONS].at, loans[LOCATIONS].length, loans[EDGES].at, loans[EDGES].length,
+                                  given.location_count, given.edge_count, given.start, words(PATH),
+                                  loans[PATH].length / sizeof(uint32_t), words(BOUNDS),
+                                  loans[BOUNDS].length / sizeof(uint32_t), sizes(ANSWER),
+                                  loans[ANSWER].length / sizeof(size_t));
+}
+
+static void (*const made[CALLS])(void *) = {call_translate, call_record, call_fold,   call_unfold, call_step,
+                                            call_move,      call_walk,   call_search, call_ranges};
 
 static struct stack stacks[CALLS];
 

@@ -24,6 +24,7 @@ static struct tally {
     {"unfoldings", 0, 0},     {"steps", 0, 0},                     {"records of any tables", 0, 0},
     {"moves", 0, 0},          {"walks", 0, 0},                     {"walks by single moves", 0, 0},
     {"walks cut in two", 0, 0}, {"searches", 0, 0},                {"searches in a listing", 0, 0},
+    {"paths from ranges", 0, 0}, {"paths from ranges, by walks", 0, 0},
     {"bytes beside what is lent", 0, 0}, {"what is only read", 0, 0}, {"shelf cases", 0, 0},
 };
 
@@ -160,7 +161,8 @@ static void read_trials(void)
                   {'R', "record", record_trial},
                   {'M', "move", move_trial},
                   {'W', "walk", walk_trial},
-                  {'N', "search", search_trial}};
+                  {'N', "search", search_trial},
+                  {'G', "ranges", ranges_trial}};
     const size_t kinds = sizeof trials / sizeof trials[0];
     int letter;
     for (uint64_t number = 0; (letter = getchar()) != 'Z'; number++) {

@@ -7,7 +7,7 @@
 /* Each kind of look is one test. */
 enum kind {
     TRANSLATIONS, RULE, READERS, DROP_EDGES, PARTS, FOLDS, UNFOLDINGS, STEPS, RECORDS, MOVES, WALKS, BY_MOVES, CUT,
-    SEARCHES, LISTED, GUARDS, ONLY_READ, SHELF, KINDS
+    SEARCHES, LISTED, RANGED, BY_WALKS, GUARDS, ONLY_READ, SHELF, KINDS
 };
 
 /* A trial or a case begins: what is given is forgotten, and buffers are arranged by its number. */
@@ -43,7 +43,7 @@ void sound(int good);
 
 /* Refusals are counted by where they came, those about a node also by the node, and each with a floor must have come so
  * often. */
-enum group { AT_BENCH, ELSEWHERE, OF_FOLD, OF_UNFOLD, OF_STEP, OF_RECORD, OF_MOVE, OF_WALK, GROUPS };
+enum group { AT_BENCH, ELSEWHERE, OF_FOLD, OF_UNFOLD, OF_STEP, OF_RECORD, OF_MOVE, OF_WALK, OF_RANGES, GROUPS };
 void met_refusal(enum group group, const struct told *told);
 
 /* Other things that must have come so often. */
@@ -63,6 +63,9 @@ enum met {
     /* searches */
     SEARCH_TRIALS, FOUND_OF_SEVERAL, FOUND_NEWEST, FOUND_OLDEST, NONE_FOUND, PAST_COUNT, PAST_1024, COUNT_CUT,
     OTHER_LENGTH, PART_OF_PLACE, LONG_TABLES, NULL_TABLE, NULL_RECORD, LOCATIONS_FOUND, EDGES_SOUGHT,
+    /* paths from ranges */
+    RANGES_TRIALS, FOLLOWED, TO_A_FAULT, ABOVE_65535, LONGEST_PATHS, ENDED, ENDED_LATER, SHORT_WRITTEN, LONGER_LEFT,
+    STARTS_WALKED,
     /* damaged H records, by call and in all */
     DAMAGED_TRANSLATED, DAMAGED_UNFOLDED, DAMAGED,
     /* buffers, of all calls */
@@ -81,6 +84,7 @@ void step_trial(void);
 void move_trial(void);
 void walk_trial(void);
 void search_trial(void);
+void ranges_trial(void);
 
 struct heap {
     size_t pointers_length, cells_length;
@@ -111,10 +115,26 @@ void read_listing(const struct translation *t);
 /* Of the same: some locations and edges are looked for among the locations. */
 void search_listing(const struct translation *t);
 
+/* What moves, walks and paths from ranges are given: both tables, lent with their counts; and a path, as the bytes of
+ * its numbers, the low byte first, which is how they lie here. Gives how many they are. */
+extern uint32_t path[MOST / sizeof(uint32_t)];
+void given_tables(void);
+size_t given_path(void);
+
+/* Tables written out: a location; an edge with at most one guard, of node 0, and at most one update. */
+void set_location(size_t number, uint8_t fault, uint8_t nodes);
+void set_edge(size_t number, const size_t ends[2], uint8_t guard, size_t update);
+void lend_tables(size_t location_count, size_t edge_count);
+
 /* Shelf cases of walks. */
 void p1_walked(void);
 void walks_of_4096(void);
 void counters_of_32_bits(void);
+
+/* Of paths from ranges. */
+void p1_from_ranges(void);
+void paths_of_4096(void);
+void refusals_22_and_23(void);
 
 /* Of searches. */
 void newest_of_equal(void);

@@ -4,10 +4,11 @@
 #include <inttypes.h>
 #include <stdio.h>
 
-enum { REFUSALS = 22, NODES = CURRANTPLANE_MOST_NODES, ENOUGH = 20 };
+enum { REFUSALS = 24, NODES = CURRANTPLANE_MOST_NODES, ENOUGH = 20 };
 
 static const char *const group_names[GROUPS] = {"translations at the bench's sizes", "translations in other tables",
-                                                "folds", "unfoldings", "steps", "records", "moves", "walks"};
+                                                "folds", "unfoldings", "steps", "records", "moves", "walks",
+                                                "paths from ranges"};
 static uint64_t refusals[GROUPS][REFUSALS];
 /* how often each refusal must have come */
 static const uint64_t refusal_floors[GROUPS][REFUSALS] = {
@@ -19,6 +20,7 @@ static const uint64_t refusal_floors[GROUPS][REFUSALS] = {
     {[0] = 1000, [17] = 1000},
     {[0] = 2000, [20] = 3000, [21] = 200},
     {[0] = 2000, [20] = 3000, [21] = 300},
+    {[0] = 2500, [22] = 500, [23] = 1500},
 };
 
 /* The refusals about a node: how often each came at each, in translations and in unfoldings. 19 cannot come at the last
@@ -97,12 +99,22 @@ static struct {
     [NULL_RECORD] = {"  for a null record", 150, 0},
     [LOCATIONS_FOUND] = {"locations of a listing found", 10000, 0},
     [EDGES_SOUGHT] = {"edges of a listing not found", 5000, 0},
+    [RANGES_TRIALS] = {"paths from ranges", 6000, 0},
+    [FOLLOWED] = {"  followed by some start", 2000, 0},
+    [TO_A_FAULT] = {"    to a fault", 500, 0},
+    [ABOVE_65535] = {"    to a counter above 65,535", 80, 0},
+    [LONGEST_PATHS] = {"    along 4,096 edges", 60, 0},
+    [ENDED] = {"  followed by none", 500, 0},
+    [ENDED_LATER] = {"    after an edge", 300, 0},
+    [SHORT_WRITTEN] = {"  fewer than 24 numbers, written", 500, 0},
+    [LONGER_LEFT] = {"  more than 24 numbers, the rest left", 80, 0},
+    [STARTS_WALKED] = {"starts walked along such paths", 15000, 0},
     [DAMAGED_TRANSLATED] = {"damaged H records, in translations", 7000, 0},
     [DAMAGED_UNFOLDED] = {"damaged H records, in unfoldings", 7000, 0},
     [DAMAGED] = {"  in all", 14000, 0},
     [NULLS] = {"kinds of buffers often lent as null", SLOTS - 5, 0},
-    /* up to two more than the call tells: 0 to 6 for a translation and a step, 0 to 5 for a record */
-    [ANSWERS] = {"lengths of answers often lent", 7 + 7 + 6, 0},
+    /* up to two more than the call tells: 0 to 6 for a translation and a step, 0 to 5 for a record and for ranges */
+    [ANSWERS] = {"lengths of answers often lent", 7 + 7 + 6 + 6, 0},
     [ODD_ADDRESSES] = {"buffers at odd addresses", 10000, 0},
     [AT_PAGES] = {"buffers before an inaccessible page", 10000, 0},
 };

@@ -10,7 +10,7 @@ enum { PAGE = 4096, GUARD = 96, HOME = (MOST + PAGE - 1) / PAGE * PAGE + PAGE, O
 
 const char *const slot_names[SLOTS] = {"input",    "locations", "edges",  "pointers", "cells", "shape",
                                        "counters", "statement", "answer", "place",    "node",  "configuration",
-                                       "path",     "made",      "record", "number"};
+                                       "path",     "made",      "record", "number",   "ranges"};
 
 struct home {
     uint8_t *pages;       /* HOME bytes, then an inaccessible page */

@@ -8,9 +8,9 @@
 
 enum slot {
     INPUT, LOCATIONS, EDGES, POINTERS, CELLS, SHAPE, COUNTERS, STATEMENT, ANSWER, PLACE, NODE, CONFIGURATION, PATH,
-    MADE, SOUGHT, NUMBER, SLOTS
+    MADE, SOUGHT, NUMBER, BOUNDS, SLOTS
 };
-enum call { TRANSLATE, RECORD, FOLD, UNFOLD, STEP, MOVE, WALK, SEARCH, CALLS };
+enum call { TRANSLATE, RECORD, FOLD, UNFOLD, STEP, MOVE, WALK, SEARCH, RANGES, CALLS };
 
 enum { MOST = 70 * 1024 }; /* the bytes of the longest buffer */
 
@@ -26,7 +26,7 @@ extern struct loan loans[SLOTS];
 
 /* the arguments that are no buffers */
 struct given {
-    size_t location_count, edge_count, table, number, cell;
+    size_t location_count, edge_count, table, number, cell, start;
     uint8_t pick;
 };
 extern struct given given;

@@ -61,6 +61,7 @@ static int answers(void)
     good = good && currantplane_step(NULL, 0, NULL, 0, NULL, 0, 0, 0, NULL, 0, &places[2]) == CURRANTPLANE_BAD_HEAP;
     good = good && currantplane_move(&at, NULL, 0, NULL, 0, 0, 0, 0) == CURRANTPLANE_NO_MOVE;
     good = good && currantplane_walk(&at, NULL, 0, NULL, 0, 0, 0, NULL, 0, &made) == CURRANTPLANE_NO_MOVE && made == 0;
+    good = good && currantplane_ranges(NULL, 0, NULL, 0, 0, 0, 0, NULL, 0, NULL, 0, NULL, 0) == CURRANTPLANE_BAD_PATH;
     good = good && currantplane_search(NULL, 0, 9, NULL, 0, &number) == CURRANTPLANE_NOT_FOUND && number == 0;
     good = good && currantplane_search(edge, 64, 9, edge, 32, &number) == CURRANTPLANE_FOUND && number == 0;
     good = good && currantplane_search(edge, 64, 9, edge + 32, 32, &number) == CURRANTPLANE_FOUND && number == 1;

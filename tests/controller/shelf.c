@@ -329,7 +329,8 @@ unsigned shelf_cases(unsigned *failed)
         {"op 14: 5", op_14},                          {"what is read may overlap", overlaps},
         {"P1 walked", p1_walked},                     {"4,096 moves, 4,097: 20", walks_of_4096},
         {"counters past 32 bits: 21", counters_of_32_bits}, {"the newest of equal records", newest_of_equal},
-        {"a search of 1,024 places", search_of_1024},
+        {"a search of 1,024 places", search_of_1024}, {"P1 from ranges", p1_from_ranges},
+        {"a path of 4,096, 4,097: 23", paths_of_4096}, {"22, 23 and their order", refusals_22_and_23},
     };
     unsigned passed = 0;
     for (size_t i = 0; i < sizeof cases / sizeof cases[0]; i++) {

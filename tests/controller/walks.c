@@ -7,7 +7,7 @@
 enum { SINGLE = 64 }; /* the longest path that is gone in single moves too */
 
 static uint8_t locations[MOST], edges[MOST];
-static uint32_t path[MOST / sizeof(uint32_t)];
+uint32_t path[MOST / sizeof(uint32_t)];
 
 /* A walk in the tables that are lent, with the counts in `given`, and what is told of it. */
 struct walk {
@@ -79,7 +79,7 @@ static void go_in_two(enum kind kind, const struct walk *walk)
     met(CUT_WALKS, kind == CUT);
 }
 
-static void given_tables(void)
+void given_tables(void)
 {
     size_t lengths[2];
     lengths[0] = given_bytes("locations", locations, sizeof locations);
@@ -106,8 +106,7 @@ static struct currantplane_configuration told_configuration(void)
     return at;
 }
 
-/* A path stands as the bytes of its numbers, the low byte first, which is how they lie here. */
-static size_t given_path(void)
+size_t given_path(void)
 {
     size_t length = given_bytes("path", (uint8_t *)path, sizeof path);
     sound(length % sizeof *path == 0);
@@ -184,7 +183,7 @@ static void put_word(uint8_t *at, size_t word)
     at[1] = (uint8_t)(word >> 8);
 }
 
-static void put_location(size_t number, uint8_t fault, uint8_t nodes)
+void set_location(size_t number, uint8_t fault, uint8_t nodes)
 {
     uint8_t *record = locations + 32 * number;
     memset(record, 0, 32);
@@ -194,8 +193,7 @@ static void put_location(size_t number, uint8_t fault, uint8_t nodes)
     if (fault == 0) memset(record + 4, CURRANTPLANE_NULL, 6 + (size_t)nodes);
 }
 
-/* An edge with at most one guard, of node 0, and at most one update. */
-static void put_edge(size_t number, const size_t ends[2], uint8_t guard, size_t update)
+void set_edge(size_t number, const size_t ends[2], uint8_t guard, size_t update)
 {
     uint8_t *record = edges + 32 * number;
     memset(record, 0, 32);
@@ -206,7 +204,7 @@ static void put_edge(size_t number, const size_t ends[2], uint8_t guard, size_t 
     put_word(record + 8, update);
 }
 
-static void lend_tables(size_t location_count, size_t edge_count)
+void lend_tables(size_t location_count, size_t edge_count)
 {
     given.location_count = location_count;
     given.edge_count = edge_count;
@@ -230,11 +228,11 @@ void p1_walked(void)
     static const size_t frees[2] = {0, 1}, leaks[2] = {0, 2};
     static const uint32_t freed[3] = {1, 0, 0}, leaked[3] = {2, 0, 0}, one[3] = {0, 1, 0}, most[3] = {0, UINT32_MAX, 0};
     static const uint32_t wrong[3] = {0, 1, 1}, none[3] = {0, 0, 0}, past[3] = {3, 0, 0};
-    put_location(0, 0, 1);
-    put_location(1, 0, 0);
-    put_location(2, CURRANTPLANE_LEAK, 0);
-    put_edge(0, frees, CURRANTPLANE_IS_ONE, 0);
-    put_edge(1, leaks, CURRANTPLANE_IS_MORE, 0);
+    set_location(0, 0, 1);
+    set_location(1, 0, 0);
+    set_location(2, CURRANTPLANE_LEAK, 0);
+    set_edge(0, frees, CURRANTPLANE_IS_ONE, 0);
+    set_edge(1, leaks, CURRANTPLANE_IS_MORE, 0);
     lend_tables(3, 2);
     path[0] = path[1] = 0;
     go(one, 1, 0, 1, freed);
@@ -261,8 +259,8 @@ void walks_of_4096(void)
 {
     static const size_t loop[2] = {0, 0};
     static const uint32_t from[3] = {0, 7, 0}, to[3] = {0, 4103, 0}, before[3] = {0, 4102, 0};
-    put_location(0, 0, 1);
-    put_edge(0, loop, CURRANTPLANE_NO_GUARD, 0x2001);
+    set_location(0, 0, 1);
+    set_edge(0, loop, CURRANTPLANE_NO_GUARD, 0x2001);
     lend_tables(1, 1);
     memset(path, 0, sizeof path);
     go(from, 4095, 0, 4095, before);
@@ -289,12 +287,12 @@ void counters_of_32_bits(void)
         {GUARDED, most, 1, 20}, /* 20 is looked at first */
     };
     const uint32_t all[3] = {1, most, 0};
-    put_location(0, 0, 2);
-    put_location(1, 0, 1);
-    put_edge(SUM, joins, CURRANTPLANE_NO_GUARD, 0x1003);
-    put_edge(LESS, joins, CURRANTPLANE_NO_GUARD, 0x0003);
-    put_edge(MORE, joins, CURRANTPLANE_NO_GUARD, 0x2003);
-    put_edge(GUARDED, joins, CURRANTPLANE_IS_ONE, 0x1003);
+    set_location(0, 0, 2);
+    set_location(1, 0, 1);
+    set_edge(SUM, joins, CURRANTPLANE_NO_GUARD, 0x1003);
+    set_edge(LESS, joins, CURRANTPLANE_NO_GUARD, 0x0003);
+    set_edge(MORE, joins, CURRANTPLANE_NO_GUARD, 0x2003);
+    set_edge(GUARDED, joins, CURRANTPLANE_IS_ONE, 0x1003);
     lend_tables(2, 4);
     for (size_t i = 0; i < sizeof rows / sizeof rows[0]; i++) {
         const uint32_t from[3] = {0, rows[i].first, rows[i].second};

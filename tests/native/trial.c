@@ -14,6 +14,7 @@ uint8_t trial_unfold(struct part *, struct part *, struct part *, struct part *,
 uint8_t trial_step(struct part *, struct part *, struct part *, uint8_t, size_t, struct part *, size_t *);
 uint8_t trial_move(void *, struct part *, struct part *, size_t, size_t, size_t);
 uint8_t trial_walk(void *, struct part *, struct part *, size_t, size_t, struct part *, size_t *);
+uint8_t trial_ranges(struct part *, struct part *, size_t, size_t, size_t, struct part *, struct part *, struct part *);
 
 uint8_t currantplane_translate(const uint8_t *input, size_t input_length, uint8_t *locations, size_t locations_length,
                                uint8_t *edges, size_t edges_length, size_t *answer, size_t answer_length)
@@ -65,4 +66,11 @@ uint8_t currantplane_walk(struct currantplane_configuration *configuration, cons
                           const uint32_t *path, size_t path_length, size_t *made)
 {
     return trial_walk(configuration, PART(locations), PART(edges), location_count, edge_count, PART(path), made);
+}
+
+uint8_t currantplane_ranges(const uint8_t *locations, size_t locations_length, const uint8_t *edges, size_t edges_length,
+                            size_t location_count, size_t edge_count, size_t start, const uint32_t *path, size_t path_length,
+                            uint32_t *ranges, size_t ranges_length, size_t *answer, size_t answer_length)
+{
+    return trial_ranges(PART(locations), PART(edges), location_count, edge_count, start, PART(path), PART(ranges), PART(answer));
 }

@@ -9,7 +9,7 @@ ghost use Prim.Native.Nat.{min};
 ghost use lib.ListN.{set};
 ghost use Rattle.model.specs.Answers.{foundNumbers, foundOf, refusalOf, stepAnswerOf, stepNumbers, unfoldedVerdict, verdictOf};
 ghost use Rattle.model.specs.Image.{stepVerdict};
-ghost use Rattle.answers.specs.Numbers.{over, told, IsTold};
+ghost use Rattle.answers.specs.Numbers.{laidWhere, over, told, IsTold};
 
 // How many elements two lists of these lengths have in common.
 fn shorter(a: usize, b: usize) -> usize
@@ -36,6 +36,16 @@ pub fn lay_counters(from: &[u32], to: &mut [u32])
         to[i] = from[i];
         i += 1;
     }
+}
+
+// Ranges, where there are some to tell.
+pub fn lay_ranges(some: u8, from: &[u32], to: &mut [u32])
+    ensures { λ _. ⌜ now (to .exit) ≡ laidWhere some (now (from .entry)) (now (to .entry)) ⌝ }
+{
+    if some == 0 {
+        return;
+    }
+    lay_counters(from, to);
 }
 
 // Puts a number at a place of the answer, where the answer reaches so far.

@@ -8,9 +8,10 @@ use Rattle.model.specs.Part.{Part}
 use Rattle.model.specs.Records.{Verdict}
 use Rattle.model.specs.declared.Configuration.{Configuration}
 use Rattle.model.specs.declared.Moved.{Moved}
+use Rattle.model.specs.declared.Ranged.{Ranged}
 use Rattle.model.specs.declared.Walked.{Walked}
 use Rattle.answers.specs.Numbers.{IsTold}
-use Rattle.currantplane.specs.Calls.{IsFolded, IsRecord, IsStepped, IsTranslated, IsUnfolded}
+use Rattle.currantplane.specs.Calls.{IsFolded, IsRanged, IsRecord, IsStepped, IsTranslated, IsUnfolded}
 
 told-one : (v : Verdict) (n p m q : ℕ) → IsTold v n p → IsTold v m q → (n ≡ m) × (p ≡ q)
 told-one v n p m q x y = (x .number ∙ sym (y .number), x .place ∙ sym (y .place))
@@ -32,6 +33,8 @@ OneAnswer = ((s : List ℕ) (a b : ℕ) (xs : List ℕ) (r q : ℕ) (ys ls es zs
     → (q ≡ m .refusal) × (d ≡ m .configuration) → (r ≡ q) × (c ≡ d))
     × ((w : Walked) (r q i j : ℕ) (c d : Configuration) → (r ≡ w .refusal) × (i ≡ w .made) × (c ≡ w .configuration)
     → (q ≡ w .refusal) × (j ≡ w .made) × (d ≡ w .configuration) → (r ≡ q) × (i ≡ j) × (c ≡ d))
+    × ((o : Ranged) (r q : ℕ) (rs₀ rs ts xs₀ xs ys : List ℕ) → IsRanged o r rs₀ rs xs₀ xs → IsRanged o q rs₀ ts xs₀ ys
+    → (r ≡ q) × (rs ≡ ts) × (xs ≡ ys))
 
 pub one-answer : OneAnswer
 one-answer = (
@@ -61,4 +64,9 @@ one-answer = (
   ),
   λ m r q c d x y. (x .0 ∙ sym (y .0), x .1 ∙ sym (y .1)),
   λ w r q i j c d x y. (x .0 ∙ sym (y .0), x .1 ∙ sym (y .1), x .2 ∙ sym (y .2)),
+  λ o r q rs₀ rs ts xs₀ xs ys x y. (
+    x .number ∙ sym (y .number),
+    x .ranges ∙ sym (y .ranges),
+    x .tells ∙ sym (y .tells),
+  ),
 )

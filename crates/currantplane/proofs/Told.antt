@@ -12,8 +12,9 @@ use Rattle.model.specs.Translate.{Outcome, Tables, translate}
 use Rattle.model.proofs.runs.Demand.{demand-three}
 use Rattle.model.proofs.listings.Outcomes.{zero-accepted}
 use Rattle.model.proofs.listings.Parts.{part-begins, part-length, part-low}
-use Rattle.answers.specs.Numbers.{IsTold, over, told}
-use Rattle.currantplane.specs.Calls.{IsFolded, IsRecord, IsStepped, IsTranslated, IsUnfolded}
+use Rattle.model.specs.declared.Ranged.{Ranged}
+use Rattle.answers.specs.Numbers.{IsTold, laidWhere, over, told}
+use Rattle.currantplane.specs.Calls.{IsFolded, IsRanged, IsRecord, IsStepped, IsTranslated, IsUnfolded}
 
 pub outcome-told : {s : List ℕ} {a b : ℕ} {xs zs ys : List ℕ} {u : Outcome} → u ≡ translate s a b
     → zs ≡ told xs (refusalOf (u .verdict) .place) (u .tables .locCount) (u .tables .edgeCount)
@@ -65,3 +66,13 @@ pub stepped-as : {s t : Stepping} {v : Verdict} {n p : ℕ} {ns a l : List ℕ} 
 stepped-as {s} {t} {v} {n} {p} {ns} {a} {l} e q x m y =
     subst (λ h. IsStepped h n p (s .ptrBytes) (s .cellBytes) a l) e
     (record { ended = subst (λ w. IsTold w n p) q x; pointers = refl; cells = refl; answer = y ∙ ap (λ w. over w l) m })
+
+-- what the call for ranges tells and writes, of what it was told
+pub ranged-told : (o : Ranged) (t : Ranged) {rs₀ rs xs₀ xs : List ℕ} → t ≡ o
+    → rs ≡ laidWhere (t .follows) (t .ranges) rs₀ → xs ≡ told xs₀ (t .place) (t .follows) (t .location)
+    → IsRanged o (t .refusal) rs₀ rs xs₀ xs
+ranged-told o t {rs₀} {rs} {xs₀} {xs} e p q = record {
+  number = ap (λ (x : Ranged). x .refusal) e;
+  ranges = p ∙ ap (λ (x : Ranged). laidWhere (x .follows) (x .ranges) rs₀) e;
+  tells = q ∙ ap (λ (x : Ranged). told xs₀ (x .place) (x .follows) (x .location)) e;
+}

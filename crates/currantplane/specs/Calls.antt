@@ -8,7 +8,8 @@ use Rattle.model.specs.Image.{Folding, Stepping, Unfolding, stepVerdict}
 use Rattle.model.specs.Part.{Part}
 use Rattle.model.specs.Runs.{IsRoutineOf}
 use Rattle.model.specs.Translate.{translate}
-use Rattle.answers.specs.Numbers.{IsTold, over, told}
+use Rattle.model.specs.declared.Ranged.{Ranged}
+use Rattle.answers.specs.Numbers.{IsTold, laidWhere, over, told}
 
 -- a translation of input s into tables of a and b bytes: the number r, the answer before (xs) and after (ys), and the
 -- bytes of the tables
@@ -47,3 +48,10 @@ pub record IsStepped (s : Stepping) (n p : ℕ) (ps cs a l : List ℕ) : Type 0 
   pub pointers : ps ≡ s .ptrBytes
   pub cells : cs ≡ s .cellBytes
   pub answer : a ≡ over (stepNumbers (s .answer)) l
+
+-- what the call for ranges leaves: the refusal's number; its place or the position, whether some start follows the
+-- path, and the location reached, over the answer; and, where some start does, the final ranges over the ranges
+pub record IsRanged (o : Ranged) (r : ℕ) (rs₀ rs answer₀ answer : List ℕ) : Type 0 where
+  pub number : r ≡ o .refusal
+  pub ranges : rs ≡ laidWhere (o .follows) (o .ranges) rs₀
+  pub tells : answer ≡ told answer₀ (o .place) (o .follows) (o .location)

@@ -6,6 +6,7 @@
 // which `tests/declarations` compares with this file.
 use answers::lay;
 use answers::lay_counters;
+use answers::lay_ranges;
 use answers::step_ended;
 use answers::step_numbers;
 use answers::tell;
@@ -22,10 +23,11 @@ ghost use lib.ListN.{length};
 ghost use Rattle.model.specs.Answers.{foundNumbers};
 ghost use Rattle.model.specs.Image.{foldImage, stepImage, unfoldImage};
 ghost use Rattle.model.specs.Part.{recordPart};
+ghost use Rattle.model.specs.Ranges.{rangedTo, ranging};
 ghost use Rattle.model.specs.Search.{searched};
 ghost use Rattle.model.specs.Structs.{tablesIn};
 ghost use Rattle.model.specs.Walking.{moved, walked};
-ghost use Rattle.currantplane.specs.Calls.{IsFolded, IsRecord, IsStepped, IsTranslated, IsUnfolded};
+ghost use Rattle.currantplane.specs.Calls.{IsFolded, IsRanged, IsRecord, IsStepped, IsTranslated, IsUnfolded};
 
 // Writes the refusal's place, the number of locations, the number of edges and the refusal's node over `answer`.
 #[no_mangle]
@@ -232,4 +234,38 @@ pub extern "C" fn currantplane_walk(
     *configuration = w.configuration;
     *made = w.made;
     w.refusal
+}
+
+// Whether some start within the ranges follows a path: `ranges` has the lowest values of twelve counters, then the
+// highest. Writes the refusal's place, or the first position of the path where none can go on; 1 where some start
+// follows it, else 0; and the location reached, over `answer`; and where some start does, the ranges of the final
+// counters over `ranges`.
+#[no_mangle]
+pub extern "C" fn currantplane_ranges(
+    locations: &[u8],
+    edges: &[u8],
+    location_count: usize,
+    edge_count: usize,
+    start: usize,
+    path: &[u32],
+    ranges: &mut [u32],
+    answer: &mut [usize],
+) -> u8
+    ensures { λ r. ⌜ IsRanged (rangedTo (ranging (tablesIn (now (locations .entry)) (now (edges .entry))
+        (record { locations = «location_count»; edges = «edge_count» })) start (now (ranges .entry))
+        (now (path .entry)))) r (now (ranges .entry)) (now (ranges .exit))
+        (now (answer .entry)) (now (answer .exit)) ⌝ }
+{
+    let told = ranging::follow_ranges(
+        locations,
+        edges,
+        location_count,
+        edge_count,
+        start,
+        &ranges[..],
+        path,
+    );
+    tell(answer, told.place, told.follows as usize, told.location);
+    lay_ranges(told.follows, &told.ranges, ranges);
+    told.refusal
 }

@@ -4,6 +4,7 @@ pub mod Lists
 pub mod Numbers
 pub mod Slices
 pub mod Loops
+pub mod Finding
 pub mod Digits
 pub mod Sorted
 pub mod Highest

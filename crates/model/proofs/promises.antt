@@ -10,5 +10,6 @@ pub mod PromisesBench
 pub mod PromisesNodes
 pub mod PromisesDrops
 pub mod PromisesWalks
+pub mod PromisesRanges
 pub mod PromisesSearch
 pub mod Shelf

@@ -14,6 +14,7 @@ pub mod Structs
 pub mod Layout
 pub mod Walking
 pub mod Walks
+pub mod Ranges
 pub mod Notions
 pub mod Listings
 pub mod Bench

@@ -150,3 +150,14 @@ pub struct Walked {
     pub made: usize,
     pub configuration: Configuration,
 }
+
+// What the call for ranges gives: the refusal's number, 0 for none, with its place; whether some start within the
+// ranges follows the path (1 or 0), and if not, as the place, the first position where none can go on; else the
+// location reached, and the ranges of its counters: the lowest values of twelve, then the highest, 0 past the last.
+pub struct Ranged {
+    pub refusal: u8,
+    pub place: usize,
+    pub follows: u8,
+    pub location: usize,
+    pub ranges: [u32; 24],
+}

@@ -108,7 +108,7 @@ fn carries(rec: &[u8], old: u8, new: u8) -> bool
 }
 
 // The new counters in place of the old ones, where each has 32 bits.
-fn replace_counters(rec: &[u8], nodes: usize, counters: &mut [u32]) -> bool
+pub fn replace_counters(rec: &[u8], nodes: usize, counters: &mut [u32]) -> bool
     requires { ⌜ (length (now rec) ≡ recordSize) × (nodes ≤ mostNodes) × (length (now counters) ≡ mostNodes) ⌝ }
     ensures { λ r. ⌜ Replaced (map (applied (now (counters .entry))) (updatesOf nodes (now (rec .entry))))
         r (now (counters .entry)) (now (counters .exit)) ⌝ }

@@ -3,6 +3,7 @@
 use std::fmt;
 
 use super::drop_counts::{wanted, DropCounts};
+use super::ranges::RangesCounts;
 use super::search_counts::SearchCounts;
 use super::walk_counts::WalkCounts;
 use super::{damages, relinks, undefined};
@@ -52,12 +53,14 @@ pub struct Counts {
     pub walks: WalkCounts,
     /// Searches among the locations of listings and on drawn tables.
     pub searches: SearchCounts,
+    /// Paths from counters within ranges.
+    pub ranges: RangesCounts,
     /// Damaged H records by refusal and node, and what else was wrong there.
     pub nodes_in_inputs: ByNode,
     pub nodes_in_unfolding: ByNode,
     pub orders: [u64; damages::ORDERS.len()],
     pub faults: [u64; 4],
-    pub refusals: [u64; 22],
+    pub refusals: [u64; 24],
 }
 
 impl Counts {
@@ -135,8 +138,8 @@ impl Counts {
     }
 
     /// How many tests of undefined pointers, relinks, drops, walks, broken
-    /// clauses, damaged H records and searches are wanted at each place in each
-    /// way.
+    /// clauses, damaged H records, searches and paths from ranges are wanted at
+    /// each place in each way.
     pub fn floor(&self) -> u64 {
         1 + self.routines / EACH
     }
@@ -169,10 +172,11 @@ impl fmt::Display for Counts {
             ("most nodes of a heap", self.nodes),
         ];
         let totals = self.drops.totals().into_iter().chain(self.walks.totals()).chain(self.searches.totals());
+        let totals = totals.chain(self.ranges.totals());
         for (name, count) in lines.into_iter().chain(self.drops.drawn()).chain(totals) {
             writeln!(out, "{name}: {count}")?;
         }
-        for (name, count) in self.kinds().into_iter().chain(self.searches.ways()) {
+        for (name, count) in self.kinds().into_iter().chain(self.searches.ways()).chain(self.ranges.ways()) {
             writeln!(out, "{name}: {count}")?;
         }
         for (name, counts) in self.by_node() {

@@ -14,6 +14,7 @@ mod images;
 mod mutate;
 mod nodes;
 mod parts;
+mod ranges;
 mod refusals;
 mod relinks;
 mod runs;
@@ -34,6 +35,7 @@ use crate::routines::{drop_often, random_routine};
 
 pub use counts::Counts;
 pub use drop_counts::DropCounts;
+pub use ranges::RangesCounts;
 pub use search_counts::SearchCounts;
 pub use walk_counts::WalkCounts;
 
@@ -43,17 +45,18 @@ pub const ROUTINES: u64 = 12_000;
 
 /// Tests so many routines. Answers what was counted, or what differs, or
 /// which refusal or fault was never met, or which tests of undefined pointers,
-/// relinks, drops, damaged H records, walks or searches were too few.
+/// relinks, drops, damaged H records, walks, searches or paths from ranges were
+/// too few.
 pub fn run(seed: u64, routines: u64) -> Result<Counts, String> {
     let mut random = Random::new(seed);
     // What a seed draws elsewhere does not hang on the parts, the damages, the
-    // drops, the walks and the searches.
+    // drops, the walks, the searches and the ranges.
     let mut part_random = Random::new(!seed);
     let mut damage_random = Random::new(seed.rotate_left(32));
     let mut drop_random = Random::new(seed.rotate_left(16));
     let mut walk_random = Random::new(seed.rotate_left(48));
     let first_walk = walk_random.next();
-    let first_search = Random::new(seed.rotate_left(8)).next();
+    let [first_search, first_ranges] = [8, 24].map(|by| Random::new(seed.rotate_left(by)).next());
     let mut counts = Counts::default();
     for number in 0..routines {
         let drawn = random_routine(&mut random);
@@ -69,22 +72,34 @@ pub fn run(seed: u64, routines: u64) -> Result<Counts, String> {
             .map_err(|difference| format!("seed {seed}, heap {number}: {difference}"))?;
         let told = |difference: String| format!("seed {seed}, drops {number}: {difference}");
         test_drops(&mut drop_random, &mut counts).map_err(told)?;
-        for turn in 0..walk_counts::DRAWN {
-            walks::on_drawn_tables(&mut counts, first_walk.wrapping_add(number * walk_counts::DRAWN + turn))?;
-        }
-        for turn in 0..search_counts::DRAWN {
-            searches::on_a_drawn_table(&mut counts, first_search.wrapping_add(number * search_counts::DRAWN + turn))?;
-        }
+        test_drawn_tables(&mut counts, [first_walk, first_search, first_ranges], number)?;
     }
     if let Some(missing) = counts.never_met() {
         return Err(format!("{counts}never met: {missing}"));
     }
-    let few: Vec<String> = [counts.too_few(), counts.searches.too_few(counts.floor())].into_iter().flatten().collect();
+    let floor = counts.floor();
+    let few = [counts.too_few(), counts.searches.too_few(floor), counts.ranges.too_few(floor)];
+    let few: Vec<String> = few.into_iter().flatten().collect();
     if few.is_empty() {
         Ok(counts)
     } else {
         Err(format!("{counts}too few: {}", few.join(", ")))
     }
+}
+
+/// Walks, searches and paths from ranges, each from its seeds on.
+fn test_drawn_tables(counts: &mut Counts, first: [u64; 3], number: u64) -> Result<(), String> {
+    let [walk, search, ranges] = first;
+    for turn in 0..walk_counts::DRAWN {
+        walks::on_drawn_tables(counts, walk.wrapping_add(number * walk_counts::DRAWN + turn))?;
+    }
+    for turn in 0..search_counts::DRAWN {
+        searches::on_a_drawn_table(counts, search.wrapping_add(number * search_counts::DRAWN + turn))?;
+    }
+    for turn in 0..ranges::DRAWN {
+        ranges::on_drawn_tables(counts, ranges.wrapping_add(number * ranges::DRAWN + turn))?;
+    }
+    Ok(())
 }
 
 /// Inputs and images that are drawn for their drops.

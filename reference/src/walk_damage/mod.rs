@@ -8,7 +8,8 @@ mod of_locations;
 mod starts;
 
 pub(crate) use draft::Draft;
-pub(crate) use starts::near_the_limit;
+pub(crate) use low::never_enabled;
+pub(crate) use starts::{near_the_limit, spoil};
 
 use crate::automaton::encode_edge;
 use crate::clause::Clause;
@@ -105,7 +106,7 @@ fn try_draw(random: &mut Random, aim: Aim) -> Option<DrawnWalk> {
             Some(with_spare(random, aim, &draft, start, path))
         }
         Aim::NeverEnabled => {
-            let edge = low::never_enabled(random, &mut draft)?;
+            let edge = never_enabled(random, &mut draft)?;
             Some(walk_on(random, aim, &draft, Some(edge)))
         }
         Aim::WrongConfiguration => {
@@ -145,23 +146,25 @@ fn walk_on(random: &mut Random, aim: Aim, draft: &Draft, edge: Option<usize>) ->
     with_spare(random, aim, draft, configuration, path)
 }
 
-/// The tables of a draft, often with more bytes than are in use: any, or the
+/// The bytes of a table, often with more of them than are in use: any, or the
 /// same records again.
-fn with_spare(random: &mut Random, aim: Aim, draft: &Draft, configuration: Configuration, path: Vec<u32>) -> DrawnWalk {
-    let mut spare = |records: &[[u8; RECORD]]| {
-        let used = records.as_flattened();
-        let more = match random.below(6) {
-            0 | 1 => Vec::new(),
-            2 => vec![random.byte(); random.below(RECORD)],
-            3 => vec![random.byte(); random.below(3 * RECORD)],
-            _ => used.to_vec(),
-        };
-        [used, &more].concat()
+pub(crate) fn spare(random: &mut Random, records: &[[u8; RECORD]]) -> Vec<u8> {
+    let used = records.as_flattened();
+    let more = match random.below(6) {
+        0 | 1 => Vec::new(),
+        2 => vec![random.byte(); random.below(RECORD)],
+        3 => vec![random.byte(); random.below(3 * RECORD)],
+        _ => used.to_vec(),
     };
+    [used, &more].concat()
+}
+
+/// A walk on the tables of a draft.
+fn with_spare(random: &mut Random, aim: Aim, draft: &Draft, configuration: Configuration, path: Vec<u32>) -> DrawnWalk {
     DrawnWalk {
         aim,
-        locations: spare(&draft.locations),
-        edges: spare(&draft.edges),
+        locations: spare(random, &draft.locations),
+        edges: spare(random, &draft.edges),
         location_count: draft.locations.len(),
         edge_count: draft.edges.len(),
         configuration,
@@ -266,7 +269,7 @@ fn long_walk(random: &mut Random, aim: Aim, mut draft: Draft, length: usize) -> 
 }
 
 /// One of these.
-fn any_of<T: Copy>(random: &mut Random, items: &[T]) -> T {
+pub(crate) fn any_of<T: Copy>(random: &mut Random, items: &[T]) -> T {
     items[random.below(items.len())]
 }
 
@@ -280,7 +283,7 @@ fn within(random: &mut Random, low: usize, high: usize) -> usize {
 }
 
 /// One of the numbers below this one that fit, if there is any.
-fn pick(random: &mut Random, below: usize, fits: impl Fn(usize) -> bool) -> Option<usize> {
+pub(crate) fn pick(random: &mut Random, below: usize, fits: impl Fn(usize) -> bool) -> Option<usize> {
     let all: Vec<usize> = (0..below).filter(|&number| fits(number)).collect();
     if all.is_empty() {
         None

@@ -8,10 +8,12 @@ pub mod dropped;
 pub mod edges;
 pub mod index;
 pub mod joined;
+pub mod ranges;
 pub mod rings;
 pub mod searches;
 pub mod small;
 pub mod stream;
 pub mod walks;
 
-pub use currantplane::{fold, make_move, make_walk, record, search, step, translate, unfold, Configuration, Node, Refusal};
+pub use currantplane::{fold, follow_ranges, make_move, make_walk, record, search, step, tell_ranges, translate, unfold};
+pub use currantplane::{Configuration, Node, Ranged, Refusal, RANGES};

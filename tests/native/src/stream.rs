@@ -10,11 +10,15 @@
 //!   R  lengths of both tables, both counts, which table, number; where the record begins, its length
 //!   M  locations, edges, both counts, location, twelve counters, number of the edge; location and counters
 //!   W  the same with the bytes of a path, four for each number, for the one number; moves made, location and counters
+//!   G  locations, edges, both counts, start, the bytes of a path, number of ranges, these; 1 where some start follows, the location
+//!      reached, 24 numbers of ranges, all 0 where none follows
 //!   N  table, count, record; in place of a refusal 1 and the number of the newest that is equal, or 0 and 0
 //!   Z  the end: how many trials there were
 
 use crate::draw::Image;
+use crate::ranges::{due, pairs};
 use crate::searches::Search;
+use reference::ranges_draw::DrawnRanges;
 use reference::walk_damage::DrawnWalk;
 use reference::{Configuration, Refusal, Stepped, Translated};
 
@@ -147,6 +151,24 @@ impl Stream {
         self.refusal(told.refusal);
         self.number(told.made);
         self.configuration(&told.configuration);
+    }
+
+    /// A drawn path from ranges that are lent so, as the library has them.
+    pub fn ranging(&mut self, drawn: &DrawnRanges, given: &[u32]) {
+        let DrawnRanges { locations, edges, location_count, edge_count, start, path, .. } = drawn;
+        let told = reference::ranges(locations, edges, *location_count, *edge_count, *start, &pairs(given), path);
+        self.begin(b'G');
+        self.block(locations);
+        self.block(edges);
+        self.numbers(&[*location_count, *edge_count, *start]);
+        self.block(&path.iter().flat_map(|number| number.to_le_bytes()).collect::<Vec<u8>>());
+        self.number(given.len());
+        given.iter().for_each(|&end| self.number(end as usize));
+        let (number, [place, follows, location], mut ranges) = due(&told);
+        ranges.resize(24, 0);
+        self.refusal(Some(Refusal::at(number, place)));
+        self.numbers(&[follows, location]);
+        ranges.iter().for_each(|&end| self.number(end as usize));
     }
 
     pub fn searching(&mut self, Search { table, count, record }: &Search) {

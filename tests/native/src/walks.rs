@@ -1,9 +1,12 @@
-//! Moves and walks: by both, as the records themselves say, and along edges drawn at random.
+//! Moves and walks: by both, as the records themselves say, and along edges drawn at random; and the tables for them.
 
-use crate::draw::Draw;
+use crate::damage::many_nodes;
+use crate::draw::{dropping_routine, relinking_routine, routine, testing_routine, Draw};
 use crate::edges::{enabled, updates};
 use crate::{make_move, make_walk, Configuration};
 use reference::walk_damage::DrawnWalk;
+
+pub type Record = [u8; 32];
 
 /// Refusal, moves made and configuration after a walk.
 pub type Walked = (u8, usize, Configuration);
@@ -137,4 +140,37 @@ impl Tables {
         }
         (path, at)
     }
+}
+
+/// A location with so many nodes, which nothing holds.
+pub fn nodes(count: usize) -> Record {
+    let mut record = [0; 32];
+    (record[0], record[3]) = (0x4c, count as u8);
+    record[4..10 + count].fill(0xfe);
+    record
+}
+
+/// An edge without guards.
+pub fn edge(from: u8, to: u8, updates: &[u16]) -> Record {
+    let mut record = [0; 32];
+    (record[0], record[2], record[4]) = (0x45, from, to);
+    updates.iter().enumerate().for_each(|(i, update)| record[8 + 2 * i..][..2].copy_from_slice(&update.to_le_bytes()));
+    record
+}
+
+/// Of four kinds, small and large, some with shapes of many nodes.
+pub fn drawn_routine(d: &mut Draw, i: usize) -> Vec<u8> {
+    // more large ones than the routines' own numbering gives
+    let size = [0, 0, 1, 2, 5][i / 4 % 5];
+    let mut input = [routine, relinking_routine, testing_routine, dropping_routine][i % 4](d, size);
+    if d.one_in(6) {
+        let (shape, last) = (many_nodes(d), input.len() - 32);
+        input[last..].copy_from_slice(&shape);
+    }
+    input
+}
+
+/// A routine of the folder `inputs`.
+pub fn shipped(name: &str) -> Vec<u8> {
+    std::fs::read(format!("{}/inputs/{name}.in", env!("CARGO_MANIFEST_DIR"))).unwrap()
 }

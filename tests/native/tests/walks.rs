@@ -3,15 +3,12 @@
 //! is counted, and too few fail.
 
 use native::counts::Counts;
-use native::damage::many_nodes;
-use native::draw::{dropping_routine, relinking_routine, routine, testing_routine, Draw};
-use native::walks::{standing, Tables, Walked};
+use native::draw::Draw;
+use native::walks::{drawn_routine, edge, nodes, shipped, standing, Record, Tables, Walked};
 use native::Configuration;
 use reference::walk_damage::{aims, draw, Aim, DrawnWalk};
 use reference::{broken_clauses, Clause};
 use std::collections::BTreeMap;
-
-type Record = [u8; 32];
 
 const MAX: u32 = u32::MAX;
 const MOST: usize = 4096;
@@ -265,23 +262,6 @@ fn follow(d: &mut Draw, input: &[u8], tables: &Tables, counts: &mut Counts) -> u
     path.len()
 }
 
-/// Of four kinds, small and large, some with shapes of many nodes.
-fn drawn_routine(d: &mut Draw, i: usize) -> Vec<u8> {
-    // more large ones than the routines' own numbering gives
-    let size = [0, 0, 1, 2, 5][i / 4 % 5];
-    let mut input = [routine, relinking_routine, testing_routine, dropping_routine][i % 4](d, size);
-    if d.one_in(6) {
-        let (shape, last) = (many_nodes(d), input.len() - 32);
-        input[last..].copy_from_slice(&shape);
-    }
-    input
-}
-
-/// A routine of the folder `inputs`.
-fn shipped(name: &str) -> Vec<u8> {
-    std::fs::read(format!("{}/inputs/{name}.in", env!("CARGO_MANIFEST_DIR"))).unwrap()
-}
-
 #[test]
 fn listings_are_walked_as_routines_run() {
     let (mut d, mut counts) = (Draw::new(17), Counts::default());
@@ -375,22 +355,6 @@ fn walks_cut_in_two_and_into_moves() {
         }
     }
     counts.at_least(10_000, &["cut before the end", "cut at the end or past it", "into moves"]);
-}
-
-/// A location with so many nodes, which nothing holds.
-fn nodes(count: usize) -> Record {
-    let mut record = [0; 32];
-    (record[0], record[3]) = (0x4c, count as u8);
-    record[4..10 + count].fill(0xfe);
-    record
-}
-
-/// An edge without guards.
-fn edge(from: u8, to: u8, updates: &[u16]) -> Record {
-    let mut record = [0; 32];
-    (record[0], record[2], record[4]) = (0x45, from, to);
-    updates.iter().enumerate().for_each(|(i, update)| record[8 + 2 * i..][..2].copy_from_slice(&update.to_le_bytes()));
-    record
 }
 
 #[test]

@@ -4,7 +4,8 @@ use native.Mathlib.Omega.{arith}
 use borrow.Author.Needs.{needs}
 use borrow.Author.Tests.{le-ltb, lt-ltb}
 use Rattle.model.specs.Base.{numbers, placeOf}
-use Rattle.canonical.proofs.Finding.{Found, below, found-here, found-later, found-none, found-start}
+use Rattle.model.proofs.lists.Finding.{Found, found-here, found-later, found-none, found-start}
+use Rattle.canonical.proofs.Finding.{below}
 use Rattle.canonical.proofs.first_below.Statement.{statement}
 use Rattle.canonical.proofs.first_below.Tie as tie
 

@@ -6,7 +6,8 @@ use mathlib.Core.Bool.{not}
 use borrow.Author.Needs.{needs}
 use borrow.Author.Tests.{eq-eqb, ne-eqb}
 use Rattle.model.specs.Base.{numbers, placeOf}
-use Rattle.canonical.proofs.Finding.{Found, found-here, found-later, found-none, found-start, moved}
+use Rattle.model.proofs.lists.Finding.{Found, found-here, found-later, found-none, found-start}
+use Rattle.canonical.proofs.Finding.{moved}
 use Rattle.canonical.proofs.first_moved.Statement.{statement}
 use Rattle.canonical.proofs.first_moved.Tie as tie
 

@@ -19,11 +19,13 @@ use Rattle.model.specs.Machine.{entry, step}
 use Rattle.model.specs.Records.{Refusal, filled, isAccepted, isRefused, isS, shapeOf, shapeRecord, stmtOf}
 use Rattle.model.specs.Shape.{counters, shape}
 use Rattle.model.specs.Translate.{Routine, Tables, bad, check, good, translate}
+use Rattle.model.specs.Ranges.{rangedTo, ranging}
 use Rattle.model.specs.Walking.{moved, walked}
 use Rattle.model.specs.declared.Configuration.{Configuration}
 use Rattle.model.specs.declared.Ended.{Ended}
 use Rattle.model.specs.declared.Folded.{Folded}
 use Rattle.model.specs.declared.Moved.{Moved}
+use Rattle.model.specs.declared.Ranged.{Ranged}
 use Rattle.model.specs.declared.Unfolded.{Unfolded}
 use Rattle.model.specs.declared.Stepped.{Stepped}
 use Rattle.model.specs.declared.Translated.{Translated}
@@ -61,6 +63,8 @@ OneOutcome = ((s : List ℕ) (a b : ℕ) (x y : Translated) (ls es ms fs : List 
     → (x ≡ y) × (qs ≡ us) × (ds ≡ es))
     × ((t : Tables) (c : Configuration) (n : ℕ) (x y : Moved) → x ≡ moved t c n → y ≡ moved t c n → x ≡ y)
     × ((t : Tables) (c : Configuration) (ns : List ℕ) (x y : Walked) → x ≡ walked t c ns → y ≡ walked t c ns → x ≡ y)
+    × ((t : Tables) (l : ℕ) (rs ns : List ℕ) (x y : Ranged) → x ≡ rangedTo (ranging t l rs ns)
+    → y ≡ rangedTo (ranging t l rs ns) → x ≡ y)
 
 pub one-outcome : OneOutcome
 one-outcome = (
@@ -70,6 +74,7 @@ one-outcome = (
   λ r p c ps cs x y qs ds us es e f. steppings-one x y qs ds us es (e ∙ sym f),
   λ t c n x y p q. p ∙ sym q,
   λ t c ns x y p q. p ∙ sym q,
+  λ t l rs ns x y p q. p ∙ sym q,
 )
 
 -- "The two record counts are reported, both 0 on a refusal." A refused translation leaves both tables all zero.

@@ -25,7 +25,7 @@ use Rattle.model.proofs.shapes.Same.{place-found, place-passes}
 -- ---- the first node
 
 -- before the first place where a test passes it passes nowhere
-place-before : {A : Type 0} (p : A → Bool) (l : List A) (d : A) (i : ℕ) → i < placeOf p l → p (getD l i d) ≡ false
+pub place-before : {A : Type 0} (p : A → Bool) (l : List A) (d : A) (i : ℕ) → i < placeOf p l → p (getD l i d) ≡ false
 place-before p [] d i h = absurd (omega arith)
 place-before p (x ∷ l) d zero h = bool-case (p x) (λ t. absurd (let k = rw t at h in omega arith)) (λ t. t)
 place-before p (x ∷ l) d (suc i) h = bool-case (p x) (λ t. absurd (let k = rw t at h in omega arith))

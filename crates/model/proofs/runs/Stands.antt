@@ -29,7 +29,7 @@ use Rattle.model.proofs.records.Bytes.{filled-length, zeros-pass}
 use Rattle.model.proofs.records.LayoutFacts.{could-keeps, layout-kept, layout-nodes}
 
 -- one update for each node of the target
-updates-number : (j : ℕ) (r : List ℕ) → length (updatesOf j r) ≡ j
+pub updates-number : (j : ℕ) (r : List ℕ) → length (updatesOf j r) ≡ j
 updates-number j r = length-map (numbers 0 j) (λ i. word r (8 + 2 * i)) ∙ length-numbers 0 j
 
 -- a move that was made was enabled

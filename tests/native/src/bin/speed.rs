@@ -4,6 +4,8 @@
 
 #[path = "speed/images.rs"]
 mod images;
+#[path = "speed/ranges.rs"]
+mod ranges;
 #[path = "speed/ratios.rs"]
 mod ratios;
 #[path = "speed/searches.rs"]
@@ -43,5 +45,6 @@ fn main() -> ExitCode {
     translations::growth(large);
     searches::looks(inputs.iter().filter(median_or_large));
     walks::walks();
+    ranges::ranges();
     ratios::judge(&ratios)
 }

@@ -5,9 +5,11 @@
 use native::damage::{among_shapes, any_values, counters_of, drawn_routine, many_nodes, spoil_shape, spoiled};
 use native::draw::{damage_record, damaged_image, image, statement, Draw};
 use native::joined::{any_image, drop_of};
+use native::ranges::laid;
 use native::rings::{exact, fork, full, plain_ring, ring, ring_at_border, FULL};
 use native::searches::drawn_search;
 use native::stream::Stream;
+use reference::ranges_draw::{draw_ranges, ranges_aims, DrawnRanges};
 use reference::selftest::damaged_shapes;
 use reference::walk_damage::{self, DrawnWalk};
 use reference::{Refusal, Translated};
@@ -27,6 +29,8 @@ const BY_CHANCE: usize = 1_000;
 /// So many turns of the aims of walks.
 const TURNS: usize = 70;
 const SEARCHES: usize = 6_000;
+/// So many turns of the aims of paths from ranges.
+const RANGES_TURNS: usize = 120;
 
 /// The bytes of the bench's tables.
 const BENCH: [usize; 2] = [4_096, 8_192];
@@ -229,11 +233,8 @@ fn records(out: &mut Stream, d: &mut Draw) {
     }
 }
 
-/// A drawn walk whose tables are now and then shorter, longer or not there, or whose counts are others.
-fn drawn_walk(d: &mut Draw, seed: u64) -> DrawnWalk {
-    let mut drawn = walk_damage::draw(seed);
-    let DrawnWalk { locations, edges, location_count, edge_count, path, .. } = &mut drawn;
-    let (table, count) = if d.one_in(2) { (locations, location_count) } else { (edges, edge_count) };
+/// One of two tables with its count, now and then shorter, longer or not there, or with another count.
+fn other_table(d: &mut Draw, table: &mut Vec<u8>, count: &mut usize, path: &mut Vec<u32>) {
     match d.below(24) {
         0 => table.truncate(d.below(table.len() + 1)),
         // a byte short of what is in use
@@ -244,7 +245,37 @@ fn drawn_walk(d: &mut Draw, seed: u64) -> DrawnWalk {
         5 => (*table, *count, *path) = (Vec::new(), 0, Vec::new()),
         _ => {}
     }
+}
+
+/// A drawn walk, with one of its tables or counts now and then another.
+fn drawn_walk(d: &mut Draw, seed: u64) -> DrawnWalk {
+    let mut drawn = walk_damage::draw(seed);
+    let DrawnWalk { locations, edges, location_count, edge_count, path, .. } = &mut drawn;
+    let (table, count) = if d.one_in(2) { (locations, location_count) } else { (edges, edge_count) };
+    other_table(d, table, count, path);
     drawn
+}
+
+/// The same for a drawn path from ranges.
+fn drawn_ranges(d: &mut Draw, seed: u64) -> DrawnRanges {
+    let mut drawn = draw_ranges(seed);
+    let DrawnRanges { locations, edges, location_count, edge_count, path, .. } = &mut drawn;
+    let (table, count) = if d.one_in(2) { (locations, location_count) } else { (edges, edge_count) };
+    other_table(d, table, count, path);
+    drawn
+}
+
+/// Each drawn path from ranges, with 24 numbers of these most often; else fewer, which may be too few, or more.
+fn ranges(out: &mut Stream, d: &mut Draw) {
+    let first = d.number();
+    for i in 0..RANGES_TURNS * ranges_aims().len() {
+        let drawn = drawn_ranges(d, first + i as u64);
+        let mut given = laid(&drawn.ranges);
+        let length = if d.one_in(2) { 24 } else { [d.below(27), 13 + d.below(14)][d.below(2)] };
+        given.truncate(length);
+        given.resize_with(length, || d.number() as u32);
+        out.ranging(&drawn, &given);
+    }
 }
 
 /// Each drawn walk as a whole, and one move from where it starts: along its first edge, or along any.
@@ -265,7 +296,7 @@ fn searches(out: &mut Stream, d: &mut Draw) {
 
 fn batch(seed: u64) -> Stream {
     let (mut out, mut d) = (Stream::default(), Draw::new(seed));
-    for kind in [translations, folds, steps, drops, unfoldings, records, damaged, walks, searches] {
+    for kind in [translations, folds, steps, drops, unfoldings, records, damaged, walks, searches, ranges] {
         kind(&mut out, &mut d);
     }
     out

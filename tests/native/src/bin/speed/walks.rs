@@ -2,12 +2,15 @@
 
 use super::turns::round;
 use native::draw::Draw;
-use native::walks::{standing, Tables, Walked};
+use native::walks::{shipped, standing, Tables, Walked};
 use native::Configuration;
 use reference::walk_damage::{aims, draw};
 use std::hint::black_box;
 
 const MOST: usize = 4096;
+
+/// The inputs in whose listings paths are followed.
+pub const LISTED: [&str; 5] = ["2-reverse", "3-median", "4-big-walk", "5-big-mixed", "6-big-make"];
 
 /// The walk in C, where it was linked.
 #[cfg(peer)]
@@ -84,10 +87,10 @@ fn returning(t: &Tables) -> Vec<bool> {
     edges.iter().map(|&[from, to]| reaches(to, from)).collect()
 }
 
-/// A path from any location with any counters, drawn from edges that can be taken, those that can return first.
-fn drawn_path(t: &Tables, returning: &[bool], d: &mut Draw) -> (Configuration, Vec<u32>) {
+/// A path from any location with counters of at most so much, drawn from edges that can be taken, those that can return first.
+fn drawn_path(t: &Tables, returning: &[bool], d: &mut Draw, most: usize) -> (Configuration, Vec<u32>) {
     let location = d.below(t.counts[0]) as u32;
-    let counters: Vec<u32> = (0..t.location(location)[3]).map(|_| [1, 2, 1 + d.below(1 << 20) as u32][d.below(3)]).collect();
+    let counters: Vec<u32> = (0..t.location(location)[3]).map(|_| [1, 2, 1 + d.below(most) as u32][d.below(3)]).collect();
     let start = standing(location, &counters);
     let (mut at, mut path) = (start, Vec::new());
     while path.len() < MOST {
@@ -101,15 +104,15 @@ fn drawn_path(t: &Tables, returning: &[bool], d: &mut Draw) -> (Configuration, V
     (start, path)
 }
 
-/// The first path of 4,096 edges, or the longest of many.
-fn long_path(t: &Tables) -> (Configuration, Vec<u32>) {
+/// The first path of 4,096 edges from counters of at most so much, or the longest of many.
+pub fn long_path(t: &Tables, most: usize) -> (Configuration, Vec<u32>) {
     let (returning, mut d) = (returning(t), Draw::new(1));
-    let mut longest = drawn_path(t, &returning, &mut d);
+    let mut longest = drawn_path(t, &returning, &mut d, most);
     for _ in 0..5_000 {
         if longest.1.len() == MOST {
             break;
         }
-        let other = drawn_path(t, &returning, &mut d);
+        let other = drawn_path(t, &returning, &mut d, most);
         if other.1.len() > longest.1.len() {
             longest = other;
         }
@@ -162,9 +165,8 @@ fn ratio(name: &str, above: [f64; 4], below: [f64; 4]) {
 }
 
 fn walk(name: &str) {
-    let input = std::fs::read(format!("{}/inputs/{name}.in", env!("CARGO_MANIFEST_DIR"))).unwrap();
-    let t = Tables::listed(&input).expect("a listing");
-    let (start, path) = long_path(&t);
+    let t = Tables::listed(&shipped(name)).expect("a listing");
+    let (start, path) = long_path(&t, 1 << 20);
     let none = if path.len() < MOST { ", and no longer path was found" } else { "" };
     println!("{name}: {} locations, {} edges, {} moves{none}", t.counts[0], t.counts[1], path.len());
     let due = t.walk_proved(start, &path);
@@ -185,7 +187,7 @@ fn walk(name: &str) {
 /// `check` is the time of a walk without a move, and `a move` what is left of the walk for each of its moves.
 pub fn walks() {
     println!("\n{:<18} {:>12} {:>12} {:>12} {:>12}", "walks", "walk", "check", "a move", "move alone");
-    for name in ["2-reverse", "3-median", "4-big-walk", "5-big-mixed", "6-big-make"] {
+    for name in LISTED {
         walk(name);
     }
 }

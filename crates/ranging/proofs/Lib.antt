@@ -1,0 +1,4 @@
+pub mod Twelve
+pub mod Starting
+pub mod Going
+pub mod Outcomes
