@@ -1,4 +1,6 @@
 // The answers of the calls in numbers, written over the start of what the caller lends, as far as it reaches.
+#![tactic(auto)]
+
 ghost use Rattle.std.specs.Prelude.{◌≡◌, min, set};
 ghost use Rattle.model.specs.Answers.{found_numbers, found_of, refusal_of, step_answer_of, step_numbers, unfolded_verdict, verdict_of};
 ghost use Rattle.model.specs.Image.{step_verdict};

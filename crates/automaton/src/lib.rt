@@ -1,4 +1,6 @@
 // The translator: a routine in records to its locations and edges, in two lent tables.
+#![tactic(auto)]
+
 ghost use Rattle.std.specs.Prelude.{◌≡◌, length, replicate};
 ghost use Rattle.model.specs.Answers.{outcome_of};
 ghost use Rattle.model.specs.Records.{is_accepted};

@@ -1,4 +1,6 @@
 // The branch that a statement takes, by the bytes of the pointers.
+#![tactic(auto)]
+
 ghost use Rattle.std.specs.Prelude.{◌≡◌, List, ℕ, ◌<◌, length};
 ghost use Rattle.model.specs.Base.{pointer_count};
 ghost use Rattle.model.specs.Heap.{same_val};

@@ -1,5 +1,7 @@
 // The test of a shape: the first node of a heap image that is not reachable, that is not core, or that the walks
 // number otherwise.
+#![tactic(auto)]
+
 ghost use Rattle.std.specs.Prelude.{◌≡◌, true, not, ◌≤◌, eqb, ltb, length, get_or};
 ghost use Rattle.model.specs.Base.{numbers, place_of, most_nodes};
 ghost use Rattle.model.specs.Heap.{closed};

@@ -13,7 +13,7 @@ use Rattle.model.specs.Edges.{update_of}
 use Rattle.model.specs.Records.{update_code}
 use Rattle.model.specs.Shape.{Seg, cells}
 use Rattle.model.proofs.expansion.Cuts.{flat_mem, flat_nodup, mem_flat}
-use Rattle.model.proofs.lists.Lists.{get_d_map}
+use Rattle.model.proofs.lists.Lists.{get_or_map}
 use Rattle.model.specs.Notions.{NoDup, flat, seg_at, seg}
 use Rattle.model.proofs.lists.Logic.{bool_ext, mem_here, mem_there}
 use Rattle.model.proofs.lists.Slices.{sum_append}
@@ -118,4 +118,4 @@ module _ (l node : List ℕ) (w : Weights) (ss : List Seg) (S : Segmented l node
       (λ j lt.
       let below : j < length ss = rw len at lt in
       get_or-take (length ss) us j 0 below ∙ e j below ∙ update_code_lem j below
-      ∙ sym (get_d_map code ss j (seg 0 []) 0 below))
+      ∙ sym (get_or_map code ss j (seg 0 []) 0 below))

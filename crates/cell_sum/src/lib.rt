@@ -1,4 +1,6 @@
 // The updates of a run, summed up cell by cell: the code of each node's update from the cells of an opened shape.
+#![tactic(auto)]
+
 ghost use Rattle.std.specs.Prelude.{◌≡◌, true, ℕ, ◌+◌, ◌≤◌, ◌<◌, length, get_or, replicate, set};
 ghost use Rattle.model.specs.Base.{most_nodes};
 ghost use Rattle.cell_sum.specs.Codes.{CellsReady, base_at, code_at, plus_in, sum_at};

@@ -11,7 +11,7 @@ use borrow.Author.Tests.{eqb-false, ltb-false, ltb-true}
 use Rattle.model.specs.Base.{all}
 use Rattle.model.specs.Heap.{in_use, slot_named}
 use Rattle.model.specs.Image.{cell_slot}
-use Rattle.model.proofs.lists.Lists.{get_d_map}
+use Rattle.model.proofs.lists.Lists.{get_or_map}
 use Rattle.model.proofs.lists.Logic.{and_true, bool_case, eq-case}
 use Rattle.model.proofs.lists.Slices.{all_end, all_step}
 use Rattle.visit.specs.Steps.{slot_at}
@@ -58,7 +58,7 @@ module _ (cs : List ℕ) (t : List Bool) (none : (i : ℕ) → get_or t i false 
   told_in : (b : ℕ) → b < length cs → get_or (told cs t) b false ≡ used_cell (get_or cs b 0)
   told_in b h =
       get_or-append (map used_cell cs) (drop (length cs) t) false b (rw (length-map cs used_cell) h)
-      ∙ get_d_map used_cell cs b 0 false h
+      ∙ get_or_map used_cell cs b 0 false h
 
   told_past : (b : ℕ) → length cs ≤ b → get_or (told cs t) b false ≡ false
   told_past b h =

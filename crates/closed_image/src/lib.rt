@@ -1,5 +1,7 @@
 // Whether a heap image is closed: its values name only cells in use. A heap image is pointer bytes and cell bytes: a
 // cell number, 0xfe null, 0xff undefined, for a cell 0xfd not in use.
+#![tactic(auto)]
+
 ghost use Rattle.std.specs.Prelude.{◌≡◌, ◌&&◌, false, ◌++◌, map, ◌≤◌, drop, get_or, length};
 ghost use Rattle.model.specs.Base.{all, most_cells};
 ghost use Rattle.model.specs.Heap.{closed, in_use, named, slot_named};

@@ -1,4 +1,6 @@
 // Lost cells collected: by the marks of a visit, so that nothing is walked a second time.
+#![tactic(auto)]
+
 ghost use Rattle.std.specs.Prelude.{◌≡◌, ◌≤◌, length};
 ghost use Rattle.collection.specs.Left.{left_byte, left_bytes};
 

@@ -1,4 +1,6 @@
 // Whether twelve counters fit the nodes of a shape and the cells of a heap.
+#![tactic(auto)]
+
 ghost use Rattle.std.specs.Prelude.{◌≡◌, ◌≤◌, leb, length};
 ghost use Rattle.model.specs.Base.{all, sum, most_nodes};
 ghost use Rattle.model.specs.Image.{counters_fit, counters_of};

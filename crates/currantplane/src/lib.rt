@@ -4,6 +4,8 @@
 // answers whether there is such a record. What a call writes must not overlap with anything else that is lent to it:
 // the contracts are about slices that are apart. The calls are declared in `bindings/` and `include/currantplane.h`,
 // which `tests/declarations` compares with this file.
+#![tactic(auto)]
+
 ghost use Rattle.std.specs.Prelude.{◌≡◌, length};
 ghost use Rattle.model.specs.Answers.{found_numbers};
 ghost use Rattle.model.specs.Image.{fold_image, step_image, unfold_image};

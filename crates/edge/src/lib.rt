@@ -1,5 +1,7 @@
 // One edge of a location: the statement is run on the location's shape, opened for the way, and the result is folded.
 // A test, a choice or a skip needs no run.
+#![tactic(auto)]
+
 ghost use Rattle.std.specs.Prelude.{◌≡◌, true, ◌≤◌, length, set};
 ghost use Rattle.model.specs.Base.{most_nodes, record_size};
 ghost use Rattle.model.specs.Records.{byte};

@@ -1,4 +1,6 @@
 // Whether an edge's record keeps the layout: its ends, its bytes, its guards and its updates.
+#![tactic(auto)]
+
 ghost use Rattle.std.specs.Prelude.{◌≡◌, true, ℕ, ◌+◌, ◌*◌, ◌<◌, ◌≤◌, length};
 ghost use Rattle.model.specs.Base.{most_nodes, record_size};
 ghost use Rattle.model.specs.Layout.{edge_keeps, ends_keep};

@@ -18,7 +18,7 @@ use Rattle.model.specs.Notions.{Closed, Used}
 use Rattle.model.proofs.visits.Order.{used_below}
 use Rattle.model.proofs.expansion.Effects.{closed_ptr}
 use Rattle.model.proofs.expansion.Facts.{test_closed}
-use Rattle.model.proofs.lists.Lists.{get_d_map, map_set}
+use Rattle.model.proofs.lists.Lists.{get_or_map, map_set}
 use Rattle.model.proofs.expansion.Writes.{slot-clash}
 use Rattle.branch.proofs.Bytes.{ptr_byte}
 use Rattle.model.specs.declared.Decoded.{Decoded}
@@ -27,7 +27,7 @@ use Rattle.effect.specs.Effect.{Access, EffectReady, Named, HasEffect, assigned,
 -- ---- reading
 
 next_byte : (ps cs : List ℕ) (c : ℕ) → c < length cs → next (heap_of ps cs) c ≡ cell_slot (get_or cs c 0)
-next_byte ps cs c h = get_d_map cell_slot cs c 0 unused h
+next_byte ps cs c h = get_or_map cell_slot cs c 0 unused h
 
 used_slot : (b : ℕ) → (b ≡ 0xfd → ⊥) → cell_slot b ≡ holds (val_of b)
 used_slot b p = rw (ne_eqb b 0xfd p)

@@ -1,6 +1,8 @@
 // The effect of a statement on a heap image that is lent.
 // An effect answers 0 where it is done, else the fault's number; a fault leaves the image. Nothing is done about lost
 // cells.
+#![tactic(auto)]
+
 ghost use Rattle.std.specs.Prelude.{◌≡◌, List, map, ℕ, ◌≤◌, ◌<◌, length};
 ghost use Rattle.model.specs.Base.{most_cells};
 ghost use Rattle.model.specs.Machine.{effect, free_val, make, perform};

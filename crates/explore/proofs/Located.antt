@@ -13,7 +13,7 @@ use Rattle.model.specs.Records.{byte, loc_record, record_at}
 use Rattle.model.specs.Translate.{Listing}
 use Rattle.model.proofs.records.Bytes.{records_wide, table_record}
 use Rattle.model.specs.Listings.{loc_at}
-use Rattle.model.proofs.lists.Lists.{get_or_in_lem, get_d_map}
+use Rattle.model.proofs.lists.Lists.{get_or_in_lem, get_or_map}
 use Rattle.model.proofs.records.ReadBack.{fault_positive, record_length}
 use Rattle.model.proofs.records.Statements.{leads, statement_fields}
 use Rattle.model.specs.Structs.{decoded, stmt_in}
@@ -61,7 +61,7 @@ module _ (t : Listing) (ls es ix : List ℕ) (c : Counts) (i : ℕ) (H : Holds t
       let k : i < length rs = omega (arith, below, length-map t.locs loc_record) in
       ap (λ x. record_at x i) H.locs
       ∙ table_record (length ls) rs i (records_wide loc_record t.locs (λ l q. record_length l (H.good_locs l q))) k
-      ∙ get_d_map loc_record t.locs i (failed 0 leak) [] below
+      ∙ get_or_map loc_record t.locs i (failed 0 leak) [] below
 
   -- a fault
   pub fault_added : (n : ℕ) (sts : List Stmt) (l : List ℕ) → LocsOk n t → l ≡ record_at ls i → (byte l 2 ≡ 0 → ⊥)

@@ -1,4 +1,6 @@
 // The exploration: each location in turn, by number, with its statement decoded; its edges go into the two tables.
+#![tactic(auto)]
+
 ghost use Rattle.std.specs.Prelude.{◌≡◌, ◌*◌, ◌≤◌, ◌<◌, length, take};
 ghost use Rattle.model.specs.Base.{record_size};
 ghost use Rattle.explore.specs.Explore.{AllExplored, ExploreReady, LocationExplored};

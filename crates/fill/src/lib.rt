@@ -1,4 +1,6 @@
 // One value for all bytes of a lent part.
+#![tactic(auto)]
+
 ghost use Rattle.std.specs.Prelude.{◌≡◌, length, replicate};
 
 // The compiler makes one memset of the loop.

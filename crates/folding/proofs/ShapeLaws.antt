@@ -15,7 +15,7 @@ use Rattle.model.specs.Image.{cell_slot, heap_of}
 use Rattle.model.proofs.records.Bytes.{byte_back}
 use Rattle.model.proofs.expansion.Cuts.{AllCore, Head, core_of_pointed, node_head}
 use Rattle.model.proofs.expansion.Facts.{heap_closed, heap_kept}
-use Rattle.model.proofs.lists.Lists.{get_d_map}
+use Rattle.model.proofs.lists.Lists.{get_or_map}
 use Rattle.model.proofs.lists.Logic.{bool_case, mem_here, or_l}
 use Rattle.model.specs.Notions.{seg_at, AllClosed, Closed, Used, seg}
 use Rattle.model.proofs.visits.Order.{used_below}
@@ -55,7 +55,7 @@ module _ (ps cs : List ℕ) (x : IsHeap (heap_of ps cs)) (few : length cs ≤ 24
   pub slot_of : (c : ℕ) (v : Val) → next (heap_of ps cs) c ≡ holds v → val_of (get_or cs c 0) ≡ v
   slot_of c v e =
       let b = get_or cs c 0 in
-      let s : cell_slot b ≡ holds v = sym (get_d_map cell_slot cs c 0 unused (cell_low c (v, e))) ∙ e in
+      let s : cell_slot b ≡ holds v = sym (get_or_map cell_slot cs c 0 unused (cell_low c (v, e))) ∙ e in
       bool_case (eqb b 0xfd) (λ t. slot-clash refl (rw t at s)) (λ t. holds_inj (rw t at s))
 
   module _ (m : List ℕ) (is : Nodes (segments (heap_of ps cs)) m) where

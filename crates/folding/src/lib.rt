@@ -1,4 +1,6 @@
 // The values of a heap image in terms of nodes: the bytes of the folded shape.
+#![tactic(auto)]
+
 ghost use Rattle.std.specs.Prelude.{◌≡◌, ◌++◌, map, ◌+◌, ◌<◌, ◌≤◌, length, get_or, drop};
 ghost use Rattle.model.specs.Base.{pointer_count};
 ghost use Rattle.word.specs.Words.{number_of};

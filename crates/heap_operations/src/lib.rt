@@ -1,5 +1,7 @@
 // The three calls on heap images: folding, unfolding and the plain step. They take any bytes and lengths: each tests,
 // and answers a refusal, before it works. What they answer, and every byte afterwards, is the definition's.
+#![tactic(auto)]
+
 ghost use Rattle.std.specs.Prelude.{◌≡◌};
 ghost use Rattle.model.specs.Answers.{folding_of, unfolding_of, stepping_of};
 ghost use Rattle.model.specs.Image.{heap_of, fold_image, unfold_image, step_image};

@@ -1,4 +1,6 @@
 // Records as lines of hex digits: 64 to a line, a line for each location and then for each edge.
+#![tactic(auto)]
+
 ghost use Rattle.std.specs.Prelude.{◌≡◌, ◌++◌, ◌+◌, ◌*◌, ◌≤◌, ◌<◌, length, take, drop};
 ghost use Rattle.model.specs.Base.{record_size};
 ghost use Rattle.hex_lines.specs.Lines.{byte_of, digit_of, line_of, lines_of, Stand};

@@ -1,5 +1,7 @@
 // The checks of the calls on heap images: of an image, of an unfolding's record and counters, and of a step's record
 // and entry.
+#![tactic(auto)]
+
 ghost use Rattle.std.specs.Prelude.{◌<◌, ◌&&◌, ◌≡◌, eqb, length, replicate};
 ghost use Rattle.model.specs.Base.{record_size, most_cells};
 ghost use Rattle.model.specs.Image.{lengths, checks_unfold, checks_statement};

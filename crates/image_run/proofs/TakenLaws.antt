@@ -13,7 +13,7 @@ use Rattle.model.specs.Machine.{action}
 use Rattle.model.specs.Records.{op_count, op_of, val_of}
 use Rattle.model.specs.Structs.{cuts_at, keeps_at, op_in}
 use Rattle.model.specs.Notions.{In}
-use Rattle.model.proofs.lists.Lists.{get_d_map, map_in, mem_in}
+use Rattle.model.proofs.lists.Lists.{get_or_map, map_in, mem_in}
 use Rattle.model.proofs.lists.Logic.{eq-case}
 use Rattle.model.proofs.records.Bytes.{val_cell}
 use Rattle.model.proofs.records.Ops.{each_op}
@@ -34,7 +34,7 @@ pub next_cell : (cs : List ℕ) (b : ℕ) → Named cs b → (b ≡ 0xfe → ⊥
     → val_of (get_or cs b 0) ≡ next_at (map cell_slot cs) (val_of b)
 next_cell cs b n p q =
     let k = n p q in
-    rw (val_cell b p q, get_d_map cell_slot cs b 0 unused k.0, ne_eqb (get_or cs b 0) 0xfd k.1)
+    rw (val_cell b p q, get_or_map cell_slot cs b 0 unused k.0, ne_eqb (get_or cs b 0) 0xfd k.1)
 
 module _ (b : ℕ) (high : 0xfd < b) (small : b < 0x100) where
   -- a byte above 0xfd is null's or undefined's
@@ -59,7 +59,7 @@ module _ {d : Decoded} {ps cs : List ℕ} (r : TakenReady d ps cs) where
   Taken v = v ≡ takes (action (op_in d)) (heap_of ps cs)
 
   u_holds : ptr (heap_of ps cs) u ≡ val_of (get_or ps u 0)
-  u_holds = get_d_map val_of ps u 0 undef (omega (arith, r.fields.is_u, r.six))
+  u_holds = get_or_map val_of ps u 0 undef (omega (arith, r.fields.is_u, r.six))
 
   op_takes : (k c : Bool) → keeps_at d.op ≡ k → cuts_at d.op ≡ c
       → Taken (cond k null (cond c (next_at (map cell_slot cs) (val_of (get_or ps u 0))) (val_of (get_or ps u 0))))

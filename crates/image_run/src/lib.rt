@@ -1,4 +1,6 @@
 // A statement run on a heap image that passed the checks: a fault leaves the image as it stood.
+#![tactic(auto)]
+
 ghost use Rattle.std.specs.Prelude.{cond, true, map, ◌≡◌, eqb, length};
 ghost use Rattle.model.specs.Base.{mem};
 ghost use Rattle.model.specs.Machine.{action};

@@ -10,7 +10,7 @@ use borrow.Author.Tests.{eq-eqb, eqb-true}
 use Rattle.model.specs.Records.{record_at}
 use Rattle.model.specs.Search.{equal_at, highest_below}
 use Rattle.model.proofs.lists.Highest.{TellsHighest, highest_tells}
-use Rattle.model.proofs.lists.Lists.{get_d_map}
+use Rattle.model.proofs.lists.Lists.{get_or_map}
 use Rattle.model.proofs.lists.Logic.{clash}
 use Rattle.model.proofs.records.Bytes.{table_record}
 use Rattle.model.proofs.shapes.Same.{bytes_same}
@@ -92,7 +92,7 @@ module _ (ix : List ℕ) (h : ℕ) (t : List ℕ) (n : ℕ) (r : List ℕ) (R : 
       let same : get_or rs j [] ≡ r =
       sym (ap (λ x. record_at x j) I.held ∙ table_record (length t) rs j I.wide k)
       ∙ bytes_same (record_at t j) r e in
-      eq-eqb (get_or hs j 0) h (get_d_map hash_of rs j [] 0 k ∙ ap hash_of same ∙ sym R.hash)
+      eq-eqb (get_or hs j 0) h (get_or_map hash_of rs j [] 0 k ∙ ap hash_of same ∙ sym R.hash)
 
   -- from any number on, the search goes on at the last below it with the hash
   goes_on : (m : ℕ) → m ≤ n → found_below t r n m ≡ found_below t r n (after (highest_below m (has_hash hs h)))

@@ -1,5 +1,7 @@
 // The index of the locations known in one translation, by hashes of their records, lent by the caller: a search looks
 // at the records with one hash alone, from the newest back. A hash that spreads badly costs time and nothing else.
+#![tactic(auto)]
+
 ghost use Rattle.std.specs.Prelude.{◌≡◌, ◌+◌, ◌*◌, ◌<◌, ◌≤◌, get_or, length};
 ghost use Rattle.model.specs.Base.{most_locations, record_size};
 ghost use Rattle.model.specs.Records.{record_at};

@@ -17,7 +17,7 @@ use Rattle.model.specs.Translate.{Routine, between, check, good}
 use Rattle.model.proofs.records.Checked.{accepted_h}
 use Rattle.model.proofs.lists.Sorted.{Sorted, kinds_sorted, not_both}
 use Rattle.model.specs.Listings.{records_of}
-use Rattle.model.proofs.lists.Lists.{all_at, get_d_map}
+use Rattle.model.proofs.lists.Lists.{all_at, get_or_map}
 use Rattle.model.proofs.lists.Logic.{and_l, and_r}
 use Rattle.model.proofs.records.ShapeBack.{shape_record_back}
 use Rattle.input.specs.declared.Checked.TheVariants.{Good}
@@ -40,13 +40,13 @@ module _ (s : List ℕ) (n m : ℕ) (w : 32 * (n + m) ≡ length s) where
 
   pub stmt_at_lem : (i : ℕ) → i < n → stmt_at (routine_in n s).stmts i ≡ stmt_of (record_at s i)
   stmt_at_lem i h =
-      get_d_map stmt_of (take n (records_of s)) i [] _
+      get_or_map stmt_of (take n (records_of s)) i [] _
       (omega (arith, length-take-le n (records_of s) (omega (arith, records_length s (n + m) w))))
       ∙ ap stmt_of (get_or-take n (records_of s) i [] h ∙ records_at s (n + m) w i (omega arith))
 
   pub start_at : (j : ℕ) (d : Heap) → j < m → get_or (routine_in n s).starts j d ≡ shape_of (record_at s (n + j))
   start_at j d h =
-      get_d_map shape_of (drop n (records_of s)) j [] d
+      get_or_map shape_of (drop n (records_of s)) j [] d
       (omega (arith, length-drop n (records_of s), records_length s (n + m) w))
       ∙ ap shape_of (get_or-drop n (records_of s) j [] ∙ records_at s (n + m) w (n + j) (omega arith))
 

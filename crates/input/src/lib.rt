@@ -1,5 +1,7 @@
 // The checks of the translator's input: S records, then H records, 32 bytes each. The first that fails gives the
 // refusal.
+#![tactic(auto)]
+
 ghost use Rattle.std.specs.Prelude.{◌≡◌, false, ◌+◌, ◌*◌, ◌≤◌, eqb, length};
 ghost use Rattle.std.proofs.Math.Option.{none};
 ghost use Rattle.model.specs.Base.{any, count, same_list, record_size};

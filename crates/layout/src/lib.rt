@@ -1,5 +1,7 @@
 // S and H records of 32 bytes: which refusal a statement has, whether a shape keeps the layout, and what fails of its
 // nodes.
+#![tactic(auto)]
+
 pub mod fields;
 
 ghost use Rattle.std.specs.Prelude.{◌≡◌, true, length};

@@ -1,4 +1,6 @@
 // A listing in two lent tables grows by one edge: its target is looked for, and takes the next place where it is new.
+#![tactic(auto)]
+
 ghost use Rattle.std.specs.Prelude.{◌≡◌};
 ghost use Rattle.index.specs.Index.{index_kept};
 ghost use Rattle.location_table.specs.Target.{count_kept, target_kept};

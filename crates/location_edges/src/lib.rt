@@ -1,4 +1,6 @@
 // The edges of one location with a shape, way by way, into the two tables.
+#![tactic(auto)]
+
 ghost use Rattle.location_edges.specs.LocationEdges.{AreWays, EdgesAdded, ShapeGiven, WayAdded, WayGiven};
 
 use listing::Grown;

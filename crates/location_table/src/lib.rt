@@ -1,4 +1,6 @@
 // The places of a table, and the location table with a target kept: a new one takes the next place.
+#![tactic(auto)]
+
 ghost use Rattle.std.specs.Prelude.{◌≡◌, ◌+◌, ◌*◌, ◌≤◌, length};
 ghost use Rattle.model.specs.Base.{record_size};
 ghost use Rattle.model.specs.Part.{in_places};

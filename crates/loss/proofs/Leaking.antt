@@ -11,7 +11,7 @@ use Rattle.model.specs.Heap.{Heap, Val, cell, holds, next, null, ptr, undef, unu
 use Rattle.model.specs.Records.{byte, shape_of, val_byte, val_of}
 use Rattle.model.proofs.records.Bytes.{byte_back, val_cell}
 use Rattle.model.proofs.expansion.Effects.{closed_ptr}
-use Rattle.model.proofs.lists.Lists.{get_d_map, some_inj, some-none}
+use Rattle.model.proofs.lists.Lists.{get_or_map, some_inj, some-none}
 use Rattle.model.proofs.lists.Logic.{bool_case, eq-case}
 use Rattle.model.proofs.visits.Order.{used_below}
 use Rattle.model.specs.Notions.{Closed, Used, Views, AllClosed}
@@ -77,13 +77,13 @@ module _ (l : List ℕ) (wide : length l ≡ 32) (few : byte l 3 ≤ 12) where
   pointer_is : (i : ℕ) → i < 6 → ptr (shape_of l) i ≡ val_of (byte l (i + 4))
   pointer_is i lt =
       let len = length-take-le 6 (drop 4 l) (omega (arith, length-drop 4 l)) in
-      get_d_map val_of (take 6 (drop 4 l)) i 0 undef (omega arith)
+      get_or_map val_of (take 6 (drop 4 l)) i 0 undef (omega arith)
       ∙ ap val_of (get_or-take 6 (drop 4 l) i 0 lt ∙ get_or-drop 4 l i 0 ∙ ap (byte l) (omega arith))
 
   next_is : (b : ℕ) → b < byte l 3 → next (shape_of l) b ≡ holds (val_of (byte l (b + 10)))
   next_is b lt =
       let len = length-take-le (byte l 3) (drop 10 l) (omega (arith, length-drop 10 l)) in
-      get_d_map (λ x. holds (val_of x)) (take (byte l 3) (drop 10 l)) b 0 unused (omega arith)
+      get_or_map (λ x. holds (val_of x)) (take (byte l 3) (drop 10 l)) b 0 unused (omega arith)
       ∙ ap (λ x. holds (val_of x)) (get_or-take (byte l 3) (drop 10 l) b 0 lt ∙ get_or-drop 10 l b 0
       ∙ ap (byte l) (omega arith))
 

@@ -1,5 +1,7 @@
 // Leaks that are seen in a location's record, before the statement is run: a third of the edges of large listings are
 // such.
+#![tactic(auto)]
+
 ghost use Rattle.std.specs.Prelude.{◌+◌, ◌≤◌, ◌<◌, true, ◌≡◌, length};
 ghost use Rattle.model.specs.Base.{most_nodes, record_size, pointer_count};
 ghost use Rattle.model.specs.Records.{byte};

@@ -1,5 +1,7 @@
 // A statement run on a heap image that is lent. The translator runs this; the plain step takes the same steps in
 // `image_run`, by the same laws.
+#![tactic(auto)]
+
 ghost use Rattle.std.specs.Prelude.{◌≡◌, ◌≤◌, length};
 ghost use Rattle.machine.specs.Run.{IsRun, RunReady, Settled, bytes, kept_by};
 

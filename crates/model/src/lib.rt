@@ -1,5 +1,6 @@
 // The types that the code shares, and the definitions that every contract cites (specs/).
 // Numbers of three kinds that must not be mixed up, each a type of its own.
+#![tactic(auto)]
 
 // The sizes that the request names.
 pub const POINTERS: usize = 6;

@@ -15,7 +15,7 @@ use Rattle.model.specs.Records.{filled, is_zero, word}
 use Rattle.model.specs.Runs.{added, applied, updates_of}
 use Rattle.model.specs.Walking.{in_counters, stays_with}
 use Rattle.model.specs.declared.Configuration.{Configuration}
-use Rattle.model.proofs.lists.Lists.{all_of, get_d_map, in_get_or_lem}
+use Rattle.model.proofs.lists.Lists.{all_of, get_or_map, in_get_or_lem}
 use Rattle.model.proofs.lists.Loops.{test_end, test_fail, test_pass}
 use Rattle.model.proofs.lists.Numbers.{length_numbers, map_number}
 use Rattle.model.proofs.lists.Slices.{map_end, map_fill, map_step}
@@ -138,7 +138,7 @@ module _ (r cs : List ℕ) (k : ℕ) (few : k ≤ 12) (l : length cs ≡ 12) (C 
       (length-map (updates_of k r) (applied cs) ∙ us_length r cs k ∙ sym (length-take-le k cs (omega arith)))
       (λ j lt.
       let q : j < k = omega (arith, length-map (updates_of k r) (applied cs), us_length r cs k) in
-      get_d_map (applied cs) (updates_of k r) j 0 0 (omega (arith, us_length r cs k))
+      get_or_map (applied cs) (updates_of k r) j 0 0 (omega (arith, us_length r cs k))
       ∙ ap (applied cs) (us_at r cs k j q ∙ C j q) ∙ carried j cs (omega arith) l ∙ sym (get_or-take k cs j 0 q))
 
   -- and fit, since each has 32 bits

@@ -1,4 +1,6 @@
 // One record out of two tables, as a part of whichever table was meant.
+#![tactic(auto)]
+
 ghost use Rattle.std.specs.Prelude.{◌≡◌, ◌-◌, ◌≤◌, drop, length, take};
 ghost use Rattle.model.specs.Part.{answerable, meant, onward, part_bytes, record_part};
 ghost use Rattle.model.specs.Structs.{tables_in};

@@ -1,4 +1,6 @@
 // The plain step on an image that passed the checks. The image is kept aside, so that a run with a fault leaves it.
+#![tactic(auto)]
+
 ghost use Rattle.std.specs.Prelude.{◌≡◌};
 ghost use Rattle.model.specs.Answers.{stepping_of};
 ghost use Rattle.model.specs.Image.{checks_statement, step_image};

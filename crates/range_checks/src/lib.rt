@@ -1,4 +1,6 @@
 // What is asked about ranges and a path: whether each range is one, and how far the path's edges lead on.
+#![tactic(auto)]
+
 ghost use Rattle.std.specs.Prelude.{◌≡◌, ◌&&◌, List, ℕ, ◌+◌, ◌*◌, ◌≤◌, eqb, leb, ltb, get_or, length};
 ghost use Rattle.model.specs.Base.{most_nodes, record_size};
 ghost use Rattle.model.specs.Ranges.{first_wrong, in_limits, linked_part, reached};

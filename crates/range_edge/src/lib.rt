@@ -1,4 +1,6 @@
 // One edge followed with ranges: its guards cut them, and its updates move them.
+#![tactic(auto)]
+
 ghost use Rattle.std.specs.Prelude.{◌≡◌, ◌<◌, length};
 ghost use Rattle.model.specs.Ranges.{cut, high_passed, left_at, low_passed};
 ghost use Rattle.model.specs.Structs.{code_in};

@@ -1,5 +1,7 @@
 // Counters known only within ranges: whether some start within them follows a path, and within which ranges the final
 // counters are.
+#![tactic(auto)]
+
 ghost use Rattle.std.specs.Prelude.{◌≡◌, List, map, ◌++◌, ℕ, ◌+◌, ◌≤◌, drop, get_or, length, length as size};
 ghost use Rattle.model.specs.Base.{most_nodes, numbers};
 ghost use Rattle.model.specs.Ranges.{along, askable, ends_at, ranged_to, ranging, reached, refused_at, start_box};

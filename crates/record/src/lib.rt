@@ -1,5 +1,7 @@
 // L, H and E records of 32 bytes: a writer is lent the part of a table that starts at its record, or a record of its
 // own that is entered later.
+#![tactic(auto)]
+
 ghost use Rattle.std.specs.Prelude.{◌≡◌, ◌∷◌, ◌++◌, ◌+◌, ◌*◌, ◌≤◌, length, take, drop, replicate};
 ghost use Rattle.model.specs.Base.{most_nodes, record_size};
 ghost use Rattle.model.specs.Records.{branch_byte};

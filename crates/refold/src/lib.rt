@@ -1,4 +1,6 @@
 // What a run leaves, folded by the marks of the run.
+#![tactic(auto)]
+
 ghost use Rattle.std.specs.Prelude.{◌≡◌, min, ◌<◌, length};
 ghost use Rattle.model.specs.Base.{record_size};
 ghost use Rattle.folding.specs.Fold.{folded_bytes};

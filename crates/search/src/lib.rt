@@ -1,4 +1,6 @@
 // Looking for a record among those of a table: a known location, or a shape among those before it.
+#![tactic(auto)]
+
 ghost use Rattle.std.specs.Prelude.{◌≡◌, ◌+◌, ◌*◌, ◌≤◌, eqb, length, take, drop};
 ghost use Rattle.model.specs.Base.{same_list, record_size};
 ghost use Rattle.search.specs.Search.{found_at, key_at};

@@ -1,4 +1,6 @@
 // The visit order cut into segments.
+#![tactic(auto)]
+
 ghost use Rattle.std.specs.Prelude.{◌≡◌, ◌+◌, ◌-◌, ◌<◌, ◌≤◌, length, get_or, drop};
 ghost use Rattle.model.specs.Base.{most_cells};
 ghost use Rattle.segment.specs.Cut.{CutReady, Entered, IsCut, Put, PutReady, Within, held_core, inner, named, segs, cut_tables};

@@ -1,4 +1,6 @@
 // The run by a way out of a location: its shape is opened for the way, and the statement run on that.
+#![tactic(auto)]
+
 ghost use Rattle.machine.specs.Run.{bytes};
 ghost use Rattle.shape_run.specs.WayRun.{RunsReady, WayRan};
 

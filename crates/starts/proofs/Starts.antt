@@ -15,7 +15,7 @@ use Rattle.model.specs.Translate.{check, good, places, table_of}
 use Rattle.model.proofs.records.Bytes.{records_wide, table_empty}
 use Rattle.model.specs.Notions.{Canon, In}
 use Rattle.model.proofs.records.Checked.{check_good}
-use Rattle.model.proofs.lists.Lists.{get_d_map, in_map}
+use Rattle.model.proofs.lists.Lists.{get_or_map, in_map}
 use Rattle.model.specs.Listings.{WritableLoc}
 use Rattle.model.proofs.records.ReadBack.{canon_writable, record_length}
 use Rattle.input.specs.Input.{routine_in}
@@ -56,9 +56,9 @@ module _ (s : List ℕ) (n m : ℕ) (g : check s ≡ good (routine_in n s)) (A :
   start_is : (j : ℕ) → j < m → get_or (map loc_record (start_locs n s)) j [] ≡ location_bytes 0 0 (record_at s (n + j))
   start_is j h =
       let d : Heap = shape_of [] in
-      get_d_map loc_record (start_locs n s) j (at 0 d) [] (omega (arith, count_is))
+      get_or_map loc_record (start_locs n s) j (at 0 d) [] (omega (arith, count_is))
       ∙ ap loc_record
-      (get_d_map (at 0) (routine_in n s).starts j d (at 0 d) (omega (arith, starts_length s n m A.whole)))
+      (get_or_map (at 0) (routine_in n s).starts j d (at 0 d) (omega (arith, starts_length s n m A.whole)))
       ∙ ap (λ x. loc_record (at 0 x)) (start_at s n m A.whole j d h) ∙ start_record s n m A j h
 
   -- one more

@@ -1,4 +1,6 @@
 // The starting shapes of an input, entered as the first locations of a lent table.
+#![tactic(auto)]
+
 ghost use Rattle.std.specs.Prelude.{◌≡◌, map, ◌+◌, ◌*◌, ◌≤◌, length};
 ghost use Rattle.model.specs.Base.{record_size};
 ghost use Rattle.model.specs.Records.{loc_record, record_at};

@@ -1,4 +1,6 @@
 // A statement's record decoded, the statement after it, and what kind of op it has.
+#![tactic(auto)]
+
 ghost use Rattle.std.specs.Prelude.{◌≡◌, length};
 ghost use Rattle.model.specs.Base.{record_size};
 ghost use Rattle.model.specs.Machine.{target};

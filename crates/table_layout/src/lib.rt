@@ -1,4 +1,6 @@
 // Whether the two tables keep the layout: their counts, their locations, then their edges.
+#![tactic(auto)]
+
 ghost use Rattle.std.specs.Prelude.{◌≡◌, ℕ, ◌*◌, ◌<◌, ◌≤◌, length};
 ghost use Rattle.model.specs.Base.{all, most_nodes, numbers, record_size};
 ghost use Rattle.model.specs.Layout.{edge_keeps_in, keeps_layout, location_keeps};

@@ -1,4 +1,6 @@
 // The search for a record called by itself, on any table, count and record.
+#![tactic(auto)]
+
 ghost use Rattle.std.specs.Prelude.{◌≡◌};
 ghost use Rattle.model.specs.Answers.{found_of};
 ghost use Rattle.model.specs.Search.{cut_count, number_below, searched};

@@ -1,4 +1,6 @@
 // The text of an outcome: a line of 64 hex digits for each location and then for each edge, or the refusal.
+#![tactic(auto)]
+
 ghost use Rattle.std.specs.Prelude.{◌≡◌, ◌++◌, ◌+◌, ◌≤◌, length, take};
 ghost use Rattle.model.specs.Answers.{outcome_of};
 ghost use Rattle.model.specs.Records.{refusal_at, tells_node};

@@ -1,5 +1,7 @@
 // The translator as a program: a routine in records on standard input, its locations and then its edges on standard
 // output.
+#![tactic(auto)]
+
 ghost use Rattle.std.specs.Prelude.{◌≡◌, ◌≤◌, length, take};
 ghost use Rattle.io.specs.Counts.{IsPrefixLen};
 ghost use Rattle.translate.specs.Printed.{printed};

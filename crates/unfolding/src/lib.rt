@@ -1,4 +1,6 @@
 // The heap image that a shape with counters unfolds to: cells are numbered from 0, node by node, head to tail.
+#![tactic(auto)]
+
 ghost use Rattle.std.specs.Prelude.{◌≡◌, true, ◌++◌, map, ◌+◌, ◌<◌, ◌≤◌, leb, length, get_or, take};
 ghost use Rattle.model.specs.Base.{all, sum, most_cells};
 ghost use Rattle.model.specs.Image.{unfold_heap, cell_bytes_of};

@@ -1,5 +1,7 @@
 // Updates. An update's code: bits 0 to 11 are the old counters added, bits 12 and 13 the constant plus one. Codes are
 // written one by one, carried where the heap stays as it is, and read.
+#![tactic(auto)]
+
 ghost use Rattle.std.specs.Prelude.{◌≡◌, ℕ, ◌+◌, ◌*◌, ◌^◌, ◌≤◌, ◌<◌, length, get_or, set};
 ghost use Rattle.std.specs.Int.Bits.{bit_and};
 ghost use Rattle.std.specs.Int.Count.{ones};

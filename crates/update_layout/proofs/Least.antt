@@ -17,7 +17,7 @@ use Rattle.model.specs.Layout.{adds_old, asks_more, constant_keeps, could_fall, 
 use Rattle.model.specs.Notions.{In}
 use Rattle.model.specs.Records.{GuardCode, is_zero}
 use Rattle.model.specs.Runs.{added, applied, guards_hold}
-use Rattle.model.proofs.lists.Lists.{any_find, any_in, get_d_map}
+use Rattle.model.proofs.lists.Lists.{any_find, any_in, get_or_map}
 use Rattle.model.proofs.lists.Logic.{and_both, and_l, and_r, and_true, bool_case, bool_ext, clash, eqb_same, eqb_sym, not-false, not-true, or_cases, or_false_l, or_false_r}
 use Rattle.model.proofs.lists.Numbers.{at_number, length_numbers}
 use Rattle.model.proofs.records.Falls.{least_at, least_length}

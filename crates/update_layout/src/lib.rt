@@ -1,5 +1,7 @@
 // Whether the updates of an edge keep the layout: each by itself under the edge's guards, and that no old counter is
 // added in two of them.
+#![tactic(auto)]
+
 ghost use Rattle.std.specs.Prelude.{◌≡◌, true, ◌&&◌, ◌%◌, ◌≤◌, eqb, length};
 ghost use Rattle.std.specs.Int.Bits.{bit_and, bit_or};
 ghost use Rattle.model.specs.Base.{all, most_nodes, record_size};

@@ -11,7 +11,7 @@ use Rattle.model.specs.Image.{cell_slot}
 use Rattle.model.specs.Records.{val_byte, val_of}
 use Rattle.model.specs.Shape.{holds_cell, is_cell}
 use Rattle.model.proofs.records.Bytes.{byte_back}
-use Rattle.model.proofs.lists.Lists.{get_d_map}
+use Rattle.model.proofs.lists.Lists.{get_or_map}
 use Rattle.model.proofs.lists.Logic.{bool_case, eq-case}
 use Rattle.model.proofs.visits.Order.{used_below}
 use Rattle.model.specs.Notions.{AllClosed, Closed, Used}
@@ -22,7 +22,7 @@ pub cell_val : (v c : ℕ) → val_of v ≡ cell c → v ≡ c
 cell_val v c e = sym (byte_back v) ∙ ap val_byte e
 
 pub slot_at_lem : (cs : List ℕ) (c : ℕ) → c < length cs → slot_at cs c ≡ cell_slot (get_or cs c 0)
-slot_at_lem cs c h = get_d_map cell_slot cs c 0 unused h
+slot_at_lem cs c h = get_or_map cell_slot cs c 0 unused h
 
 pub used_few : (cs : List ℕ) (c : ℕ) → Used (slot_at cs) c → c < length cs
 used_few cs c u = rw (length-map cs cell_slot) at (used_below (map cell_slot cs) c u)

@@ -19,7 +19,7 @@ use Rattle.model.specs.Records.{val_of}
 use Rattle.model.specs.Shape.{core, is_cell}
 use Rattle.model.proofs.expansion.Collect.{collect_back, visited_stays}
 use Rattle.model.proofs.expansion.Cores.{of_two, two_of}
-use Rattle.model.proofs.lists.Lists.{get_d_map, in_get_or_lem, mem_at, mem_in}
+use Rattle.model.proofs.lists.Lists.{get_or_map, in_get_or_lem, mem_at, mem_in}
 use Rattle.model.specs.Notions.{NoDup}
 use Rattle.model.proofs.lists.Logic.{bool_case, bool_ext, eq-case, eqb_same}
 use Rattle.model.proofs.visits.Order.{used_below}
@@ -122,7 +122,7 @@ module _ (cs l : List ℕ) (nd : NoDup l) (left : List Slot)
                 (cell c, e),
           ) in (
             h,
-            stays (get_or l i 0) (mem_at l i h) ∙ sym (get_d_map (slot_at cs) l i 0 unused h) ∙ e,
+            stays (get_or l i 0) (mem_at l i h) ∙ sym (get_or_map (slot_at cs) l i 0 unused h) ∙ e,
           )
 
       place : (d : ℕ) → get_or left d unused ≡ holds (cell c) → (i : ℕ) × (get_or l i 0 ≡ d)
@@ -130,7 +130,7 @@ module _ (cs l : List ℕ) (nd : NoDup l) (left : List Slot)
       place d e =
           let b = back d (cell c) e in
           let r = in_get_or_lem l 0 d (mem_in d l b.0) in
-          (r.0, r.2, get_d_map (slot_at cs) l r.0 0 unused r.1 ∙ ap (slot_at cs) r.2 ∙ b.1)
+          (r.0, r.2, get_or_map (slot_at cs) l r.0 0 unused r.1 ∙ ap (slot_at cs) r.2 ∙ b.1)
 
 alike_two : {a b : ℕ} → Alike a b → leb 2 a ≡ leb 2 b
 alike_two (inl e) = ap (leb 2) e

@@ -1,6 +1,8 @@
 // The visit of a heap image: the cells in order of first visit with the number of their holders, and the test for lost
 // cells. A heap image is pointer bytes and cell bytes: a cell number, 0xfe null, 0xff undefined, for a cell 0xfd not
 // in use. Each is linear in the number of cells: the mark of a cell says that it was seen, and counts its holders.
+#![tactic(auto)]
+
 ghost use Rattle.std.specs.Prelude.{◌≡◌, not, ◌&&◌, map, ◌≤◌, eqb, length, get_or, take};
 ghost use Rattle.model.specs.Heap.{each_used};
 ghost use Rattle.model.specs.Image.{cell_slot};

@@ -1,5 +1,7 @@
 // Moves and walks along the edges of an automaton, by value: what is asked of the tables and of the configuration is
 // looked at once, and then the moves are made.
+#![tactic(auto)]
+
 ghost use Rattle.std.specs.Prelude.{◌≡◌, true};
 ghost use Rattle.model.specs.Layout.{keeps_layout};
 ghost use Rattle.model.specs.Structs.{tables_in};

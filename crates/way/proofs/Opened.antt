@@ -13,7 +13,7 @@ use Rattle.model.specs.Heap.{Heap, Slot, unused, holds, cell, undef}
 use Rattle.model.specs.Image.{cell_slot, heap_of}
 use Rattle.model.specs.Machine.{collects, done, kind, set_ptr, settle, carry_out, put, Op, action, Action, perform, point, follow, link, make, makes, release, compare, splice, stay}
 use Rattle.model.specs.Records.{byte, shape_of, val_of, value_byte}
-use Rattle.model.proofs.lists.Lists.{get_d_map, map_set}
+use Rattle.model.proofs.lists.Lists.{get_or_map, map_set}
 use Rattle.model.proofs.lists.Logic.{and_l, and_r, bool_case, or_cases, clash}
 use Rattle.way.specs.Way.{OpenReady, opened_bytes, opened_count, opened_heap, with_unused, makes_at}
 use Rattle.way.proofs.ListLaws.{take_push}
@@ -78,7 +78,7 @@ module _ (ss : List ℕ) (few : length ss ≤ 12) (values : all (value_byte (len
 
   slot_of : (n : ℕ) → n < length ss → cell_slot (get_or ss n 0) ≡ get_or (map (λ b. holds (val_of b)) ss) n unused
   slot_of n h =
-      sym (get_d_map cell_slot ss n 0 unused h) ∙ ap (λ l. get_or l n unused) same_slots
+      sym (get_or_map cell_slot ss n 0 unused h) ∙ ap (λ l. get_or l n unused) same_slots
 
   split_slots : (n : ℕ) → n < length ss → map cell_slot (set ss n (length ss) ++ get_or ss n 0 ∷ [])
       ≡ put (put (map (λ b. holds (val_of b)) ss) (length ss) (get_or (map (λ b. holds (val_of b)) ss) n unused)) n

@@ -11,7 +11,7 @@ use Rattle.model.specs.Heap.{Heap, Val, cell, null, undef}
 use Rattle.model.specs.Machine.{Action, Kind, action, follow, kind, link, make, makes, point, release, compare, splice, stay}
 use Rattle.model.specs.Records.{op_count, op_of, val_of, is_zero}
 use Rattle.model.proofs.expansion.Splits.{pair_none}
-use Rattle.model.proofs.lists.Lists.{get_d_map}
+use Rattle.model.proofs.lists.Lists.{get_or_map}
 use Rattle.model.proofs.lists.Logic.{bool_case, clash, eq-case, eqb_same}
 use Rattle.model.proofs.records.Ops.{each_op, op_stops, op_goes}
 use Rattle.way.specs.Way.{looks_at, makes_at, picks_at, view_by, way_number}
@@ -20,7 +20,7 @@ use Rattle.model.specs.Image.{past_end}
 use Rattle.model.specs.Structs.{keeps_at}
 
 pub pointer_value : (ps : List ℕ) (u : ℕ) → u < length ps → val_of (get_or ps u 0) ≡ get_or (map val_of ps) u undef
-pointer_value ps u h = sym (get_d_map val_of ps u 0 undef h)
+pointer_value ps u h = sym (get_or_map val_of ps u 0 undef h)
 
 -- ---- ops
 

@@ -1,4 +1,6 @@
 // The ways out of a location: what its statement looks at, which ways there are, and its shape opened for one of them.
+#![tactic(auto)]
+
 ghost use Rattle.std.specs.Prelude.{ℕ, ◌≤◌, ◌<◌, true, List, ◌≡◌, length, take, drop};
 ghost use Rattle.model.specs.Base.{most_nodes, pointer_count};
 ghost use Rattle.model.specs.Edges.{two_nodes, view, view_pair, view_val};

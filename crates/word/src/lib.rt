@@ -1,5 +1,7 @@
 // Bytes of records as numbers, the low byte first, and back: two, four or eight of them. What is written as eight bytes
 // in a row is one move of the processor, and is read at once as eight bytes; what was written byte by byte is not.
+#![tactic(auto)]
+
 ghost use Rattle.std.specs.Prelude.{◌≡◌, ◌++◌, ◌+◌, ◌≤◌, drop, length, take};
 ghost use Rattle.model.specs.Base.{record_size};
 ghost use Rattle.model.specs.Records.{word};

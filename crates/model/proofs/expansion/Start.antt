@@ -12,7 +12,7 @@ use Rattle.model.proofs.expansion.Cores.{mem_last, one_holder}
 use Rattle.model.proofs.expansion.Cuts.{AllCore, Cuts, Head, alls_at, core_of_pointed, cuts_trail, flat_apart, flat_cut, flat_mem, flat_nodup, inner_has, linked_chain, mem_flat, node_head, tours_trail}
 use Rattle.model.proofs.expansion.Folds.{Alls}
 use Rattle.model.specs.Notions.{Kept, NoDup, Expansion, flat, img, seg_at, AllClosed, Closed, ClosedHeap, Used, seg}
-use Rattle.model.proofs.lists.Lists.{get_d_map}
+use Rattle.model.proofs.lists.Lists.{get_or_map}
 use Rattle.model.proofs.lists.Logic.{clash, mem-cases, or_l}
 use Rattle.model.proofs.visits.Order.{toured, used_below}
 use Rattle.model.proofs.visits.Walks.{holders, pointed}
@@ -77,7 +77,7 @@ module _ (h : Heap) (cl : ClosedHeap h) (kp : Kept h) where
       (mem_last (seg_at (segments h) n).first (seg_at (segments h) n).rest)
 
   pub slot_at_lem : (n : ℕ) (k : n < length (segments h)) → next (shape h) n ≡ holds (node_val (segments h) (end n k).0)
-  slot_at_lem n k = get_d_map (λ (s : Seg). node_slot (segments h) (next h (last s))) (segments h) n (seg 0 []) unused k
+  slot_at_lem n k = get_or_map (λ (s : Seg). node_slot (segments h) (next h (last s))) (segments h) n (seg 0 []) unused k
       ∙ ap (node_slot (segments h)) (end n k).1
 
   below : (n : ℕ) → Used (next (shape h)) n → n < length (segments h)

@@ -17,7 +17,7 @@ use Rattle.model.proofs.expansion.Effects.{set_closed}
 use Rattle.model.proofs.expansion.Facts.{heap_closed}
 use Rattle.model.proofs.expansion.Reach.{order_reaches, reaches_order}
 use Rattle.model.proofs.images.Stepping.{step_answers, step_heap}
-use Rattle.model.proofs.lists.Lists.{get_d_map, map_back, map_set}
+use Rattle.model.proofs.lists.Lists.{get_or_map, map_back, map_set}
 use Rattle.model.proofs.lists.Logic.{bool_case, not-true}
 use Rattle.model.proofs.records.Bytes.{byte_back}
 use Rattle.model.proofs.ways.Drops.{drop_goes}
@@ -50,7 +50,7 @@ module _ (r : List ℕ) (p c : ℕ) (ps cs : List ℕ) (ok : step_verdict (step_
   cell_left : (i : ℕ) → i < length cs → get_or (step_image r p c ps cs).cell_bytes i 0 ≡ slot_byte (next (collect cut) i)
   cell_left i lt =
       ap (λ (s : Stepping). get_or s.cell_bytes i 0) dropped
-      ∙ get_d_map slot_byte (collect cut).slots i unused 0
+      ∙ get_or_map slot_byte (collect cut).slots i unused 0
       (omega (arith, collect_slots cut, length-map cs cell_slot))
 
   cut_closed : ClosedHeap cut
@@ -59,7 +59,7 @@ module _ (r : List ℕ) (p c : ℕ) (ps cs : List ℕ) (ok : step_verdict (step_
   pub drop_stays : (i : ℕ) → i < length cs → Reaches cut i → get_or (step_image r p c ps cs).cell_bytes i 0 ≡ get_or cs i 0
   drop_stays i lt q =
       cell_left i lt ∙ ap slot_byte (visited_stays cut i (reaches_order cut cut_closed i q)
-      ∙ get_d_map cell_slot cs i 0 unused lt) ∙ slot_byte_lem (get_or cs i 0)
+      ∙ get_or_map cell_slot cs i 0 unused lt) ∙ slot_byte_lem (get_or cs i 0)
 
   pub drop_gone : (i : ℕ) → i < length cs → (Reaches cut i → ⊥)
       → get_or (step_image r p c ps cs).cell_bytes i 0 ≡ 0xfd

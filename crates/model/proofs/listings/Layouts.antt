@@ -69,8 +69,8 @@ module _ (s : List ℕ) (r : Routine) (c : check s ≡ good r) (t : Listing) (X 
       ap (edge_keeps_in T) (edge_record_lem r t X G a b n h)
       ∙ ap₂ (λ x y. edge_keeps m x y R) source target
       ∙ edge_keeps_lem k.from k.dest (nodes_of l) k.edge (from_few r t X G a b n h) S m L.from_below
-      L.dest_below (good_once r.stmts l g k.edge L.Edge-of)
-      (edge_positive r.stmts l g k.edge L.Edge-of)
+      L.dest_below (good_once r.stmts l g k.edge L.edge_of)
+      (edge_positive r.stmts l g k.edge L.edge_of)
 
   listing_keeps : counts_in_places T ≡ true → keeps_layout T ≡ true
   unfolding keeps_layout

@@ -21,7 +21,7 @@ use Rattle.model.proofs.records.EdgeBack.{edge_branch, edge_from, edge_length_le
 use Rattle.model.proofs.listings.Exact.{LinkGood, link_good}
 use Rattle.model.specs.Listings.{Exact, WritableLoc, link_at, loc_at, no_link, GoodLoc}
 use Rattle.model.specs.Notions.{In, SmallEdge, nodes_of, worth, guards_on}
-use Rattle.model.proofs.lists.Lists.{any_find, any_in, get_or_in_lem, get_d_map, map_same, some_inj, some-none}
+use Rattle.model.proofs.lists.Lists.{any_find, any_in, get_or_in_lem, get_or_map, map_same, some_inj, some-none}
 use Rattle.model.proofs.lists.Logic.{and_both, and_l, and_r, bool_case}
 use Rattle.model.proofs.lists.Numbers.{in_numbers, numbers_in}
 use Rattle.model.proofs.listings.Reached.{good_edge, reached_good}
@@ -60,7 +60,7 @@ module _ (r : Routine) (t : Listing) (X : Exact r t) (G : GoodStarts r) (a b : �
   pub link_small : (k : Link) → LinkGood r.stmts t k → SmallEdge (nodes_of (loc_at t.locs k.from)) k.edge
       × GoodLoc k.edge.to
   link_small k L = good_edge r.stmts (loc_at t.locs k.from) (loc_good k.from L.from_below) k.edge
-      L.Edge-of
+      L.edge_of
 
   -- records of the tables
   pub locs_wide : (x : List ℕ) → In x (map loc_record t.locs) → length x ≡ 32
@@ -75,7 +75,7 @@ module _ (r : Routine) (t : Listing) (X : Exact r t) (G : GoodStarts r) (a b : �
   pub loc_record_lem : (i : ℕ) → i < length t.locs → record_at T.loc_bytes i ≡ loc_record (loc_at t.locs i)
   loc_record_lem i h =
       table_record a (map loc_record t.locs) i locs_wide (omega (arith, length-map t.locs loc_record))
-      ∙ get_d_map loc_record t.locs i (failed 0 leak) [] h
+      ∙ get_or_map loc_record t.locs i (failed 0 leak) [] h
 
   pub loc_nodes : (i : ℕ) → i < length t.locs → nodes_at T i ≡ nodes_of (loc_at t.locs i)
   loc_nodes i h = ap (λ x. byte x 3) (loc_record_lem i h) ∙ record_nodes (loc_at t.locs i)
@@ -83,7 +83,7 @@ module _ (r : Routine) (t : Listing) (X : Exact r t) (G : GoodStarts r) (a b : �
   pub edge_record_lem : (n : ℕ) → n < length t.links → record_at T.edge_bytes n ≡ link_record (link_at t n)
   edge_record_lem n h =
       table_record b (map link_record t.links) n links_wide (omega (arith, length-map t.links link_record))
-      ∙ get_d_map link_record t.links n no_link [] h
+      ∙ get_or_map link_record t.links n no_link [] h
 
   edge_word : (n : ℕ) → n < length t.links → word (record_at T.edge_bytes n) 2 ≡ (link_at t n).from
   edge_word n h = let k = link_at t n in ap (λ x. word x 2) (edge_record_lem n h) ∙ edge_from k.from k.dest k.edge

@@ -29,7 +29,7 @@ use Rattle.model.proofs.expansion.Facts.{heap_closed, heap_kept, kept_test}
 use Rattle.model.proofs.ways.Guards.{edges_cover, edges_exclude}
 use Rattle.model.proofs.ways.Leave.{Fit, MatchIn, begin}
 use Rattle.model.specs.Listings.{GoodInput, Reached, by_edge, from_start, GoodLoc}
-use Rattle.model.proofs.lists.Lists.{get_d_default, in_map, in_single, map_in, some_inj}
+use Rattle.model.proofs.lists.Lists.{get_or_default, in_map, in_single, map_in, some_inj}
 use Rattle.model.proofs.lists.Logic.{and_both, bool_case, eqb_same}
 use Rattle.model.proofs.lists.Numbers.{length_numbers, map_number}
 use Rattle.model.proofs.ways.Location.{edge_goes, edge_way, leave_backward, way_guards}
@@ -242,4 +242,4 @@ good_cover sts (at s h) g cs len pos E i =
     let a = action (stmt_at sts s).op in
     edges_cover s (stmt_at sts s) h (kept_test h g.0.kept) cs
     (λ n e. let lt = used_below h.slots n (view_used a h g.0.closed.0 n e) in
-    let z = get_d_default cs 0 1 n (omega arith) in let o = pos n (omega arith) in omega arith) E i
+    let z = get_or_default cs 0 1 n (omega arith) in let o = pos n (omega arith) in omega arith) E i

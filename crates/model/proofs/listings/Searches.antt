@@ -26,7 +26,7 @@ use Rattle.model.proofs.listings.Moves.{good_writable}
 use Rattle.model.proofs.listings.Outcomes.{fitting, records_distinct}
 use Rattle.model.proofs.listings.Reached.{good_edge}
 use Rattle.model.proofs.lists.Highest.{TellsHighest, highest_only, highest_tells}
-use Rattle.model.proofs.lists.Lists.{any_in, get_or_in_lem, get_d_map, in_append_l}
+use Rattle.model.proofs.lists.Lists.{any_in, get_or_in_lem, get_or_map, in_append_l}
 use Rattle.model.proofs.lists.Logic.{bool_case, bool_ext, clash, not-true}
 use Rattle.model.proofs.records.Bytes.{records_wide, table_length, table_record}
 use Rattle.model.proofs.records.Checked.{GoodStarts}
@@ -107,7 +107,7 @@ module _ (ls : List Loc) (l : Loc) (a : ℕ) (t r : List ℕ) (once : Distinct l
       let m = get_or ls j l in
       let k' : j < length (map loc_record ls) = omega (arith, length-map ls loc_record) in
       let e : record_at t j ≡ loc_record m =
-      ap (λ x. record_at x j) p ∙ table_record a (map loc_record ls) j wide k' ∙ get_d_map loc_record ls j l [] k in
+      ap (λ x. record_at x j) p ∙ table_record a (map loc_record ls) j wide k' ∙ get_or_map loc_record ls j l [] k in
       ap₂ (same_list eqb) e q ∙ same_record m l (W m (get_or_in_lem ls l j k)) L
 
   -- the place of the location, where it is known; nothing else is equal

@@ -104,14 +104,14 @@ in_get_or_lem (y ∷ l) d x (inl e) = (0, omega arith, sym e)
 in_get_or_lem (y ∷ l) d x (inr h) = let r = in_get_or_lem l d x h in (suc r.0, omega arith, r.2)
 
 -- within the list the default does not matter
-pub get_d_default : {A : Type 0} (l : List A) (d e : A) (i : ℕ) → i < length l → get_or l i d ≡ get_or l i e
-get_d_default [] d e i h = absurd (omega arith)
-get_d_default (x ∷ l) d e zero h = refl
-get_d_default (x ∷ l) d e (suc i) h = get_d_default l d e i (omega arith)
+pub get_or_default : {A : Type 0} (l : List A) (d e : A) (i : ℕ) → i < length l → get_or l i d ≡ get_or l i e
+get_or_default [] d e i h = absurd (omega arith)
+get_or_default (x ∷ l) d e zero h = refl
+get_or_default (x ∷ l) d e (suc i) h = get_or_default l d e i (omega arith)
 
-pub get_d_map : {A B : Type 0} (f : A → B) (l : List A) (i : ℕ) (d : A) (e : B) → i < length l → get_or (map f l) i e
+pub get_or_map : {A B : Type 0} (f : A → B) (l : List A) (i : ℕ) (d : A) (e : B) → i < length l → get_or (map f l) i e
     ≡ f (get_or l i d)
-get_d_map f l i d e h = get_d_default (map f l) e (f d) i (omega (arith, length-map l f)) ∙ ListN.get_d_map f l i d
+get_or_map f l i d e h = get_or_default (map f l) e (f d) i (omega (arith, length-map l f)) ∙ ListN.get_or-map f l i d
 
 pub in_drop : {A : Type 0} (x : A) (n : ℕ) (l : List A) → In x (drop n l) → In x l
 in_drop x zero l i = i

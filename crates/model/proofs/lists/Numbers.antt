@@ -10,7 +10,7 @@ use lib.ListN.{get_or, length}
 use borrow.Author.Tests.{eqb-false}
 use Rattle.model.specs.Base.{all, mem, numbers}
 use Rattle.model.specs.Notions.{In, Pairs, NoDup}
-use Rattle.model.proofs.lists.Lists.{all_in, all_of, get_d_map, in_mem, mem_in}
+use Rattle.model.proofs.lists.Lists.{all_in, all_of, get_or_map, in_mem, mem_in}
 use Rattle.model.proofs.lists.Logic.{clash, eq-case, not-true}
 
 -- it holds the numbers from i on, below i + n, each once
@@ -85,4 +85,4 @@ at_number i (suc n) (suc j) d h = let r = at_number (suc i) n j d (omega arith) 
 -- what a function makes of the numbers below n, by the place
 pub map_number : {A : Type 0} (f : ℕ → A) (n j : ℕ) (d : A) → j < n → get_or (map f (numbers 0 n)) j d ≡ f j
 map_number f n j d h =
-    get_d_map f (numbers 0 n) j 0 d (omega (arith, length_numbers 0 n)) ∙ ap f (at_number 0 n j 0 h ∙ zero-add j)
+    get_or_map f (numbers 0 n) j 0 d (omega (arith, length_numbers 0 n)) ∙ ap f (at_number 0 n j 0 h ∙ zero-add j)

@@ -12,15 +12,15 @@ use borrow.Author.Tests.{ne_eqb}
 use Rattle.model.specs.Base.{numbers}
 use Rattle.model.specs.Machine.{Op, collects, is_stop, kind, stop}
 use Rattle.model.specs.Records.{is_zero, op_count, op_of, ops_by}
-use Rattle.model.proofs.lists.Lists.{get_d_map}
+use Rattle.model.proofs.lists.Lists.{get_or_map}
 use Rattle.model.proofs.lists.Numbers.{at_number, length_numbers}
 
 pub each_op : {A : Type 0} (f : Op → A) (g : ℕ → A) (u w : ℕ) → map f (ops_by u w) ≡ map g (numbers 0 op_count)
     → (op : ℕ) → op < op_count
     → f (op_of op u w) ≡ g op
 each_op f g u w e op h =
-    sym (ListN.get_d_map f (ops_by u w) op stop) ∙ ap (λ l. get_or l op (f stop)) e
-    ∙ get_d_map g (numbers 0 op_count) op 0 (f stop) (let l = length_numbers 0 op_count in omega arith)
+    sym (ListN.get_or-map f (ops_by u w) op stop) ∙ ap (λ l. get_or l op (f stop)) e
+    ∙ get_or_map g (numbers 0 op_count) op 0 (f stop) (let l = length_numbers 0 op_count in omega arith)
     ∙ ap g (at_number 0 op_count op 0 h ∙ zero-add op)
 
 -- op 0 alone stops

@@ -14,7 +14,7 @@ use lib.ListN.{get_or, length, length-map, length-take, take}
 use lib.Seq.{get_or-take, length-take-le}
 use Rattle.model.specs.Base.{all, any, count, mem, same_list}
 use borrow.Author.Tests.{leb-true}
-use Rattle.model.proofs.lists.Lists.{all_at, all_in, get_d_map, mem_in}
+use Rattle.model.proofs.lists.Lists.{all_at, all_in, get_or_map, mem_in}
 use Rattle.model.proofs.lists.Sorted.{kinds_sorted}
 use Rattle.model.specs.Edges.{stmt_at}
 use Rattle.model.specs.Heap.{next}
@@ -298,7 +298,7 @@ good_leads s r G =
       λ i lt.
           let e = get_or-take n rs i [] lt in
           let t = ap is_s (sym e) ∙ all_at is_s (take n rs) [] i S.statements (omega arith) in
-          subst (Leads n) (sym (get_d_map stmt_of (take n rs) i [] _ (omega arith) ∙ ap stmt_of e))
+          subst (Leads n) (sym (get_or_map stmt_of (take n rs) i [] _ (omega arith) ∙ ap stmt_of e))
           (leads n (get_or rs i []) (rw t at (G.records i (omega (arith, S.whole))))),
     )
 

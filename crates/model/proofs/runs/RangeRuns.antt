@@ -13,7 +13,7 @@ use Rattle.model.specs.Ranges.{Box, Reaches, RunsAlong, RunsNowhere, Within, end
 use Rattle.model.specs.Records.{byte, is_accepted, record_at, shape_of}
 use Rattle.model.specs.Runs.{Advance, Config, Describes, Forced, Matching, State, final, move_of, nodes_at, trace}
 use Rattle.model.specs.Translate.{Routine, Tables, check, good, translate}
-use Rattle.model.proofs.lists.Lists.{get_d_default, some_inj, some-none}
+use Rattle.model.proofs.lists.Lists.{get_or_default, some_inj, some-none}
 use Rattle.model.proofs.runs.Anywhere.{from_location}
 use Rattle.model.proofs.runs.Boxes.{Full}
 use Rattle.model.proofs.runs.Follows.{followed_none, followed_some}
@@ -62,7 +62,7 @@ runs_nowhere sts t q a M ns p e es =
 -- values within full ranges are counters of 1 or more
 within_positive : (b : Box) → Full b → (cs : List ℕ) → Within cs b → Positive cs
 within_positive b F cs w n lt =
-    omega (arith, get_d_default cs 1 0 n lt, w.at_least n, F.positive n (omega (arith, w.one_each)))
+    omega (arith, get_or_default cs 1 0 n lt, w.at_least n, F.positive n (omega (arith, w.one_each)))
 
 module _ (s : List ℕ) (a b : ℕ) (z : (translate s a b).verdict ≡ is_accepted) (r : Routine) (e : check s ≡ good r)
     (l : ℕ) (rs ns : List ℕ) where

@@ -130,7 +130,7 @@ module _ (r : Routine) (t : Listing) (X : Exact r t) (G : GoodStarts r) (a b : �
       L = link_facts r t X G a b n M.0
 
       in_edges : In (link_at t n).edge (edges_of sts (loc_at t.locs c.loc))
-      in_edges = subst (λ i. In (link_at t n).edge (edges_of sts (loc_at t.locs i))) M.1 L.Edge-of
+      in_edges = subst (λ i. In (link_at t n).edge (edges_of sts (loc_at t.locs i))) M.1 L.edge_of
 
       by_status : (f : Status) → MatchIn f q.stmt q.heap (loc_at t.locs c.loc) c.values
           → (x : Advance State) × (step_in f sts q e ≡ some x) × (x.branch_no ≡ y.branch_no) × Both x.after y.after

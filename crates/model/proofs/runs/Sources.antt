@@ -12,7 +12,7 @@ use Rattle.model.specs.Layout.{added_once}
 use Rattle.model.specs.Notions.{In}
 use Rattle.model.specs.Ranges.{Box, Within, image_of}
 use Rattle.model.specs.Runs.{added, applied}
-use Rattle.model.proofs.lists.Lists.{get_or_in_lem, get_d_map, map_in, map_same}
+use Rattle.model.proofs.lists.Lists.{get_or_in_lem, get_or_map, map_in, map_same}
 use Rattle.model.proofs.records.Falls.{NoMore, added_mono, applied_mono}
 use Rattle.model.proofs.runs.Boxes.{Full}
 use Rattle.model.proofs.runs.Sums.{Once, bit, mask_of, once_masks}
@@ -42,7 +42,7 @@ image_full us b F pos = record {
       (λ u. applied_mono u b.lows b.highs F.ordered);
   positive = λ i lt.
       let k : i < length us = omega (arith, length-map us (applied b.lows)) in
-      rw (get_d_map (applied b.lows) us i 0 0 k) (pos (get_or us i 0) (get_or_in_lem us 0 i k));
+      rw (get_or_map (applied b.lows) us i 0 0 k) (pos (get_or us i 0) (get_or_in_lem us 0 i k));
 }
 
 -- ---- one update: each value between those of the ends has a source

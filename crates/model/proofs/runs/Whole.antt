@@ -54,7 +54,7 @@ module _ (r : Routine) (t : Listing) (X : Exact r t) (G : GoodStarts r) (a b : �
       let L = link_facts r t X G a b q.0 q.1 in (
         (link_at t q.0).edge,
         subst (λ j. In (link_at t q.0).edge (edges_of sts (loc_at t.locs j))) q.2
-            L.Edge-of,
+            L.edge_of,
       )
 
   in_leaves : (i : ℕ) (E : Edge) → In E (edges_of sts (loc_at t.locs i)) → leaves T i ≡ true

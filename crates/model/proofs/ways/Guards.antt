@@ -37,6 +37,7 @@ AllApart [] = Unit {0}
 AllApart (y ∷ ys) = ApartFrom y.guards ys × AllApart ys
 
 apart_in : (gs : List Guard) (ys : List Way) → ApartFrom gs ys → (z : Way) → In z ys → Apart gs z.guards
+apart_in gs [] a z i = elim i [ ]
 apart_in gs (y ∷ ys) a z (inl e) = subst (λ (x : Way). Apart gs x.guards) (sym e) a.0
 apart_in gs (y ∷ ys) a z (inr i) = apart_in gs ys a.1 z i
 

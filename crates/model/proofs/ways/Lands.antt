@@ -14,7 +14,7 @@ use Rattle.model.specs.Machine.{Entry, Op, Stmt, accepts, branch, picks, is_stop
 use Rattle.model.specs.Shape.{counters, segments, shape}
 use Rattle.model.specs.Notions.{Kept, In, SmallGuards, Views, seg_at, ClosedHeap, guard_on, guards_on}
 use Rattle.model.proofs.ways.Leave.{Lands, fault_lands, fits_lands}
-use Rattle.model.proofs.lists.Lists.{get_d_default, in_map, map_in}
+use Rattle.model.proofs.lists.Lists.{get_or_default, in_map, map_in}
 use Rattle.model.proofs.lists.Logic.{bool_case, and_l, and_r, clash}
 use Rattle.model.proofs.visits.Order.{used_below}
 use Rattle.model.proofs.ways.Picks.{branch_pick, kind-case, pick_in, pick_low, accept_pick, accept_room}
@@ -56,7 +56,7 @@ module _ (s : ℕ) (st : Stmt) (H : Heap) (cl : ClosedHeap H) (kp : Kept H) wher
   counter_same : (n : ℕ) → Views (view does (shape H)) n → get_or (counters H) n 0 ≡ get_or (counters H) n 1
   counter_same n a =
       let lt = used_below (shape H).slots n (view_node H cl kp does n a) in
-      get_d_default (counters H) 0 1 n (omega (arith, count_length H cl kp))
+      get_or_default (counters H) 0 1 n (omega (arith, count_length H cl kp))
 
   -- the branch on the heap and on its shape
   plain_branch : (p q : ℕ) → (kind op_of_lem ≡ picks → p ≡ q) → branch op_of_lem p H ≡ branch op_of_lem q (shape H)

@@ -68,7 +68,7 @@ any_owner w i l h = let r = any_find (λ c. adds_counter i (w c)) l h in (r.0, i
 pub update_adds : (k : ℕ) (w : ℕ → Weight) (s : Seg) (i : ℕ) → get_or (update_of k w s).adds i false ≡ true
     → (c : ℕ) × (mem c (cells s) ≡ true) × (adds_counter i (w c) ≡ true)
 update_adds k w s i h =
-    any_owner w i (cells s) (rw zero-add at (flag_at (λ j. any (λ c. adds_counter j (w c)) (cells s)) 0 k i h))
+    any_owner w i (cells s) (subst (λ j. any (λ c. adds_counter j (w c)) (cells s) ≡ true) (zero-add i) (flag_at (λ j. any (λ c. adds_counter j (w c)) (cells s)) 0 k i h))
 
 pub adds_update : (k : ℕ) (w : ℕ → Weight) (s : Seg) (i c : ℕ) → i < k → mem c (cells s) ≡ true
     → adds_counter i (w c) ≡ true → get_or (update_of k w s).adds i false ≡ true

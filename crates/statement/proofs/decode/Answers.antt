@@ -1,0 +1,7 @@
+-- `statement::decode` meets its contract, field by field.
+use mathlib.Core.Path.{refl}
+use borrow.Author.Rules.{rules}
+use Rattle.statement.proofs.decode.Goals as goal
+
+pub returns : goal.returns
+returns c = refl

@@ -1,0 +1,261 @@
+#!/usr/bin/env python3
+"""Turns a crate's Proof.antt files, which list the answers of a walk, into Invariants.antt and Answers.antt.
+
+usage: tools/answers.py CRATE [FUNCTION..]     at the top of the repository, once the crates below are proved
+
+A file that goes through the code by hand is left as it is. Answers that only search are dropped, since the check looks by itself. What the
+check made of the old names is read from `rt check --generated .. --old-names`; the names that the older files had, from the commit before
+the port. It goes by text: rt check decides.
+"""
+import glob
+import json
+import os
+import re
+import subprocess
+import sys
+import tempfile
+
+BEFORE = '800176d745a78893a978ddc0cabccb90cbca330b'
+
+
+def norm(name):
+    return name.replace('-', '_')
+
+
+def made(crate):
+    with tempfile.TemporaryDirectory() as d:
+        subprocess.run(['rt', 'check', '--generated', d + '/n', '--old-names'], cwd='crates/' + crate, stdout=subprocess.DEVNULL, stderr=subprocess.DEVNULL)
+        found = glob.glob(d + '/n/**/names.json', recursive=True)
+        out = {}
+        for f in found:
+            out.update(json.load(open(f)))
+        return out
+
+
+def items(text):
+    """The file's declarations: (kind, name, text)."""
+    out, comment = [], []
+    for line in text.split('\n'):
+        if not line.strip() or line.startswith('--'):
+            if line.startswith('--'):
+                comment.append(line)
+            elif comment:
+                comment.append(line)
+            continue
+        if line[0] in ' )':
+            out[-1][2].append(line)
+            continue
+        m = re.match(r"(?:pub |abbrev |unfoldable |opaque )*([^\s:]+)", line)
+        name = m.group(1)
+        if name in ('use', 'module', 'record', 'data'):
+            out.append([name, line, comment + [line]])
+        elif out and out[-1][1] == name and out[-1][0] == 'decl' and not comment:
+            out[-1][2].append(line)
+        else:
+            out.append(['decl', name, comment + [line]])
+        comment = []
+    return out
+
+
+def needs_of(old_text):
+    """For each name that the older file answers by: the old name of the goal."""
+    out = {}
+    for m in re.finditer(r"^([^\s:]+) : tie\.Need-([^\s]+)", old_text, re.M):
+        out[m.group(1)] = m.group(2)
+    return out
+
+
+def arguments(spec):
+    """The arguments of tie.spec, as text."""
+    i = spec.index('tie.spec') + len('tie.spec')
+    depth, out, cur = 0, [], ''
+    for ch in spec[i:]:
+        if ch == '(':
+            depth += 1
+        if ch == ')':
+            depth -= 1
+            if depth < 0:
+                break
+        if depth == 0 and ch in ' \n':
+            if cur.strip():
+                out.append(cur.strip())
+            cur = ''
+            continue
+        cur += ch
+    if cur.strip():
+        out.append(cur.strip())
+    return out
+
+
+class Names:
+    def __init__(self, entry):
+        self.needs = {norm(a): b for a, b in entry['needs']}
+        self.order = [b for _, b in entry['needs']]
+        self.settled = set(entry['settled'])
+        self.loops = {norm(l[0][0]): (l[0][1], l[1], c) for l, c in zip(entry['loops'], entry['changed'])}
+        self.steps = {}
+        self.doubt = set()
+        self.typed = {}
+        for (_, _, (a, b), _, _), t in zip(entry['places'], entry['typed']):
+            if not a:
+                continue
+            if norm(a) in self.steps and self.steps[norm(a)] != b:
+                self.doubt.add(norm(a))
+            self.steps.setdefault(norm(a), b)
+            for var, step in t:
+                if step:
+                    self.typed.setdefault(norm(step), var)
+
+    def body(self, text):
+        text = re.sub(r"(?:\.before)+(?![\w-])", '', text)
+
+        def known(m):
+            var = self.typed.get(norm(m.group(2)))
+            return 'c.type_inv.' + var if var else m.group(0)
+        text = re.sub(r"\b(\w+)\.(shared-slice-known(?:-\d+)?|shared_slice_known(?:-\d+)?|slice-known(?:-\d+)?)\.given", known, text)
+
+        def step(m):
+            n = norm(m.group(1))
+            return '.' + self.steps[n] if n in self.steps else m.group(0)
+        return re.sub(r"(?<=[\w'₀₁₂₃₄₅₆₇₈₉])\.([a-z][\w]*(?:-[\w]+)*)", step, text)
+
+
+def turn(crate, fn, path, entry):
+    text = open(path).read()
+    if 'tie.spec' not in text:
+        return f'{path}: goes by hand'
+    old = subprocess.run(['git', 'show', f'{BEFORE}:{path}'], capture_output=True, text=True).stdout
+    old_needs = needs_of(old)
+    new_needs = needs_of(text)
+    names = Names(entry)
+    its = items(text)
+    said = []
+    head = []
+    invs, answers, uses, made_up = [], [], [], {}
+    t = '\n'.join(its[0][2])
+    for kind, name, lines in its:
+        body = '\n'.join(lines)
+        if kind == 'use':
+            if not head:
+                head = [l for l in lines if l.startswith('--')]
+            l = [x for x in lines if not x.startswith('--')]
+            if re.search(r'\.(Statement|Tie)\b', l[0]):
+                continue
+            uses.append('\n'.join(l))
+            continue
+        if kind == 'decl' and re.search(r':\s+tie\.(invariant|decreases)-', body):
+            m = re.search(r':\s+tie\.(invariant|decreases)-([^\s]+)', body)
+            loop = names.loops.get(norm(m.group(2)))
+            if not loop:
+                said.append(f'{path}: no loop {m.group(2)}')
+                continue
+            to, vs, changed = loop
+            word = f'{m.group(1)}-{to}'
+            rest = body[body.index('\n', m.end()) + 1:]
+            mm = re.match(re.escape(name) + r'((?: [^\s=]+)*) =', rest)
+            args = mm.group(1).split()
+            fields = {}
+            now = [v for v, c in zip(vs, changed) if c]
+            for i, a in enumerate(args):
+                if i < len(vs):
+                    fields[a] = ('l.initial.' if changed[i] else 'l.') + vs[i]
+                else:
+                    fields[a] = 'l.' + now[i - len(vs)]
+            rhs = rest[mm.end():]
+            rhs = re.sub(r"(?<![\w.'-])[\w'₀₁₂₃₄₅₆₇₈₉]+(?![\w'₀₁₂₃₄₅₆₇₈₉-])", lambda q: fields.get(q.group(0), q.group(0)), rhs)
+            cs = [l for l in lines if l.startswith('--')]
+            invs.append('\n'.join(cs + [f'abbrev pub {word} : goal.{word}', f'{word} l ={rhs}']))
+            made_up[name] = word
+            continue
+        if kind == 'decl' and 'tie.close' in body:
+            spec = body
+            continue
+        m = re.search(r':\s+tie\.Need-(\S+)', body) if kind == 'decl' else None
+        if m:
+            was = old_needs.get(name)
+            if was is None:
+                # the port turned the answer's own name too
+                for n, w in old_needs.items():
+                    if norm(n) == norm(name):
+                        was = w
+            was = norm(was or m.group(1))
+            was = re.sub(r'^loop(\w*)_again$', r'loop\1_preserved', was)
+            cands = [was, norm(m.group(1))]
+            to = next((names.needs[x] for x in cands if x in names.needs), None)
+            made_up[name] = to
+            answers.append([name, to, body, m.group(1)])
+            continue
+        answers.append([None, None, body, None])
+    args = arguments(spec)
+    n_inv = 2 * len(names.loops)
+    rest = args[n_inv:]
+    # which goal stands where: by the named ones, and by the place where the numbers agree
+    where = {}
+    if len(rest) == len(names.order):
+        where = dict(zip(range(len(rest)), names.order))
+    out = []
+    for name, to, body, need in answers:
+        if name is None:
+            out.append(names.body(body))
+            continue
+        if to is None and name in rest and rest.index(name) in where:
+            to = where[rest.index(name)]
+        if to is None:
+            said.append(f'{path}: {name} (Need-{need}) has no goal today: {[x for x in names.order]}')
+            if norm(need) in {norm(x) for x in names.settled} or norm(re.sub('^overflow', '', need)) in {norm(x) for x in names.settled}:
+                continue
+            to = need
+        cs = [l for l in body.split('\n') if l.startswith('--')]
+        b = '\n'.join(l for l in body.split('\n') if not l.startswith('--'))
+        first = re.match(r'.*?:\s+tie\.Need-\S+[^\n]*(?:\n(?!' + re.escape(name) + r'[ ])[^\n]*)*\n', b)
+        clauses = b[first.end():]
+        clauses = re.sub(r'^' + re.escape(name) + r'(?=\s)', to, clauses, flags=re.M)
+        out.append('\n'.join(cs + [f'pub {to} : goal.{to}', names.body(clauses)]))
+    for i, a in enumerate(rest):
+        if a.startswith('(') and 'search rules' not in a or (a.startswith('(') and not re.fullmatch(r'\(λ [^.]*\. search rules\)', re.sub(r'\s+', ' ', a))):
+            to = where.get(i)
+            m = re.match(r'\(λ ([^.]*)\.\s*(.*)\)$', a, re.S)
+            if not m:
+                said.append(f'{path}: argument {i} by hand: {a[:100]}')
+                continue
+            if to is None:
+                said.append(f'{path}: argument {i} of {len(rest)} (goals {len(names.order)}), by hand: {a[:160]}')
+                to = f'goal_{i}'
+            out.append(f'pub {to} : goal.{to}\n{to} {m.group(1).strip()} = {names.body(m.group(2))}')
+        elif a in made_up or a.startswith('('):
+            pass
+        else:
+            said.append(f'{path}: argument {i} is {a}, goal {where.get(i)}')
+    folder = os.path.dirname(path)
+    use = '\n'.join(uses)
+    if invs:
+        title = head or []
+        with open(folder + '/Invariants.antt', 'w') as f:
+            f.write('\n'.join(title + [use, f'use Rattle.{crate}.proofs.{fn}.Given as goal', '', '\n\n'.join(invs), '']))
+    if out:
+        with open(folder + '/Answers.antt', 'w') as f:
+            f.write('\n'.join(head + [use, f'use Rattle.{crate}.proofs.{fn}.Goals as goal', '', '\n\n'.join(out), '']))
+    os.remove(path)
+    for d in sorted(names.doubt):
+        if re.search(r'\.' + d.replace('_', '[-_]') + r'\b', text):
+            said.append(f'{path}: {d} is more than one step')
+    return '\n'.join(said)
+
+
+def main(argv):
+    crate, only = argv[0], argv[1:]
+    js = made(crate)
+    for path in sorted(glob.glob(f'crates/{crate}/proofs/**/Proof.antt', recursive=True)):
+        fn = path[len(f'crates/{crate}/proofs/'):-len('/Proof.antt')]
+        if only and fn not in only:
+            continue
+        key = f'Rattle-{crate}-proofs.' + fn.replace('/', '.') + '.Lts'
+        if key not in js:
+            print(f'{path}: no names ({key})')
+            continue
+        said = turn(crate, fn.replace('/', '.'), path, js[key])
+        if said:
+            print(said)
+
+
+main(sys.argv[1:])
