@@ -89,6 +89,7 @@ def arguments(spec):
 
 class Names:
     def __init__(self, entry):
+        self.places = {norm(p[0]): n for p, n in zip(entry['places'], entry['places_by_name'])}
         self.needs = {norm(a): b for a, b in entry['needs']}
         self.order = [b for _, b in entry['needs']]
         self.settled = set(entry['settled'])
@@ -96,9 +97,12 @@ class Names:
         self.steps = {}
         self.doubt = set()
         self.typed = {}
-        for (_, _, (a, b), _, _), t in zip(entry['places'], entry['typed']):
+        self.params = {}
+        for (_, _, (a, b), callee, _), t in zip(entry['places'], entry['typed']):
             if not a:
                 continue
+            if callee in entry['params']:
+                self.params[b] = entry['params'][callee]
             if norm(a) in self.steps and self.steps[norm(a)] != b:
                 self.doubt.add(norm(a))
             self.steps.setdefault(norm(a), b)
@@ -106,18 +110,54 @@ class Names:
                 if step:
                     self.typed.setdefault(norm(step), var)
 
+    def chain(self, fields, prefix):
+        """The new path of a chain of fields, after the path that its base stands for (None: no path of the walk's)."""
+        out = list(prefix)
+        for f in fields:
+            if not out:
+                if f == 'before':
+                    continue
+                if f == 'pre':
+                    f = 'requires'
+                n = norm(f)
+                if re.match(r'(shared_)?slice_known', n) and n in self.typed:
+                    out += ['type_inv', self.typed[n]]
+                    continue
+                out.append(self.steps.get(n, f) if not (n in ('args', 'requires', 'ranges')) else f)
+                continue
+            if out[:1] == ['type_inv'] and f == 'given' and len(out) == 2:
+                continue
+            # what a call left in a lent argument, by its name
+            if len(out) >= 2 and out[0] in self.params and out[1] in ('new', 'auto') and f.isdigit():
+                out.append(f)
+                tail = out[2:]
+                if tail[-1] == '0':
+                    i = len(tail) - 1
+                    ps = self.params[out[0]]
+                    if i < len(ps):
+                        out[2:] = [ps[i]]
+                continue
+            out.append(f)
+        return out
+
     def body(self, text):
-        text = re.sub(r"(?:\.before)+(?![\w-])", '', text)
+        alias = {'c': []}
+        spot = re.compile(r"(?<![\w.'])(let )?(?:([A-Za-z][\w'₀₁₂₃₄₅₆₇₈₉]*) = )?([A-Za-z][\w'₀₁₂₃₄₅₆₇₈₉]*)((?:\.(?:[a-z][\w]*(?:-[\w]+)*|\d+))*)(?= in\b)?(?![\w'])")
 
-        def known(m):
-            var = self.typed.get(norm(m.group(2)))
-            return 'c.type_inv.' + var if var else m.group(0)
-        text = re.sub(r"\b(\w+)\.(shared-slice-known(?:-\d+)?|shared_slice_known(?:-\d+)?|slice-known(?:-\d+)?)\.given", known, text)
-
-        def step(m):
-            n = norm(m.group(1))
-            return '.' + self.steps[n] if n in self.steps else m.group(0)
-        return re.sub(r"(?<=[\w'₀₁₂₃₄₅₆₇₈₉])\.([a-z][\w]*(?:-[\w]+)*)", step, text)
+        def one(m):
+            let, to, base, fields = m.group(1), m.group(2), m.group(3), m.group(4)
+            fs = [f for f in fields.split('.') if f]
+            head = (let or '') + (to + ' = ' if to else '')
+            if base not in alias:
+                return m.group(0)
+            new = self.chain(fs, alias[base])
+            if let and to and text[m.end():m.end() + 3] == ' in':
+                alias[to] = new
+            shown = new[len(alias[base]):] if new[:len(alias[base])] == alias[base] else None
+            if shown is None:
+                return head + '.'.join(['c'] + new)
+            return head + '.'.join([base] + shown)
+        return spot.sub(one, text)
 
 
 def turn(crate, fn, path, entry):
@@ -186,6 +226,29 @@ def turn(crate, fn, path, entry):
             answers.append([name, to, body, m.group(1)])
             continue
         answers.append([None, None, body, None])
+    # a lemma over what the paths of several goals share
+    shares, imported = {}, []
+    for item in answers:
+        if item[0] is None:
+            m = re.match(r"(?:--[^\n]*\n)*(?:pub |abbrev )*([^\s:]+) :", item[2])
+            m2 = re.search(r"\(c : tie\.([^\s)]+)[^)]*\)", item[2])
+            if m and m2:
+                place = names.places.get(norm(m2.group(1)))
+                if place is None:
+                    said.append(f'{path}: no place {m2.group(1)}: {sorted(names.places.values())}')
+                    continue
+                shares[m.group(1)] = place
+                imported.append(place)
+                item[2] = item[2].replace(m2.group(0), f'(c : {place})')
+
+    def shared(text, to):
+        roots = ['c'] + re.findall(r"\blet (\w+) = c in\b", text)
+        for h, place in shares.items():
+            if not to:
+                continue
+            by = f'(goal.at.{to} c).{place}'
+            text = re.sub(r"(?<![\w.'\n-])(?<!^)" + re.escape(h) + r"\s+(" + '|'.join(roots) + r")(?![\w.'])", lambda m: f'{h} {by}', text)
+        return text
     args = arguments(spec)
     n_inv = 2 * len(names.loops)
     rest = args[n_inv:]
@@ -196,7 +259,7 @@ def turn(crate, fn, path, entry):
     out = []
     for name, to, body, need in answers:
         if name is None:
-            out.append(names.body(body))
+            out.append(shared(names.body(body), None))
             continue
         if to is None and name in rest and rest.index(name) in where:
             to = where[rest.index(name)]
@@ -210,7 +273,10 @@ def turn(crate, fn, path, entry):
         first = re.match(r'.*?:\s+tie\.Need-\S+[^\n]*(?:\n(?!' + re.escape(name) + r'[ ])[^\n]*)*\n', b)
         clauses = b[first.end():]
         clauses = re.sub(r'^' + re.escape(name) + r'(?=\s)', to, clauses, flags=re.M)
-        out.append('\n'.join(cs + [f'pub {to} : goal.{to}', names.body(clauses)]))
+        clauses = shared(names.body(clauses), to)
+        if clauses.count('κs') == 1:
+            clauses = clauses.replace(' κs', '', 1)
+        out.append('\n'.join(cs + [f'pub {to} : goal.{to}', clauses]))
     for i, a in enumerate(rest):
         if a.startswith('(') and 'search rules' not in a or (a.startswith('(') and not re.fullmatch(r'\(λ [^.]*\. search rules\)', re.sub(r'\s+', ' ', a))):
             to = where.get(i)
@@ -221,7 +287,10 @@ def turn(crate, fn, path, entry):
             if to is None:
                 said.append(f'{path}: argument {i} of {len(rest)} (goals {len(names.order)}), by hand: {a[:160]}')
                 to = f'goal_{i}'
-            out.append(f'pub {to} : goal.{to}\n{to} {m.group(1).strip()} = {names.body(m.group(2))}')
+            ps = m.group(1).strip()
+            if ps.endswith(' κs') and 'κs' not in m.group(2):
+                ps = ps[:-3]
+            out.append(f'pub {to} : goal.{to}\n{to} {ps} = {shared(names.body(m.group(2)), to)}')
         elif a in made_up or a.startswith('('):
             pass
         else:
@@ -234,7 +303,7 @@ def turn(crate, fn, path, entry):
             f.write('\n'.join(title + [use, f'use Rattle.{crate}.proofs.{fn}.Given as goal', '', '\n\n'.join(invs), '']))
     if out:
         with open(folder + '/Answers.antt', 'w') as f:
-            f.write('\n'.join(head + [use, f'use Rattle.{crate}.proofs.{fn}.Goals as goal', '', '\n\n'.join(out), '']))
+            f.write('\n'.join(head + [use, f'use Rattle.{crate}.proofs.{fn}.Goals as goal'] + ([f'use Rattle.{crate}.proofs.{fn}.Goals.{{{", ".join(sorted(set(imported)))}}}'] if imported else []) + ['', '\n\n'.join(out), '']))
     os.remove(path)
     for d in sorted(names.doubt):
         if re.search(r'\.' + d.replace('_', '[-_]') + r'\b', text):

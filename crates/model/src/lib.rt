@@ -24,26 +24,26 @@ pub const MOST_MOVES: usize = 4096;
 pub const OPS: u8 = 14;
 
 // A pointer's number, 0 to 5.
-#[derive(Drop)]
+#[derive(Clone, Copy)]
 pub struct Pointer(pub u8);
 
 // A node's number; in a shape 0 to 11.
-#[derive(Drop)]
+#[derive(Clone, Copy)]
 pub struct Node(pub u8);
 
 // A statement's number, 0 to 63.
-#[derive(Drop)]
+#[derive(Clone, Copy)]
 pub struct Statement(pub u8);
 
 // The first check of a record that fails: its number, 0 for none, and the node that is told with it, 0 for none.
-#[derive(Drop)]
+#[derive(Clone, Copy)]
 pub struct Failure {
     pub number: u8,
     pub node: Node,
 }
 
 // What `translate` answers: the two record counts, or a refusal's number, place and node.
-#[derive(Drop)]
+#[derive(Clone, Copy)]
 pub enum Translated {
     Listed {
         locations: usize,
@@ -57,14 +57,14 @@ pub enum Translated {
 }
 
 // How a call ends that tells no node.
-#[derive(Drop)]
+#[derive(Clone, Copy)]
 pub enum Ended {
     Accepted,
     Refused { number: u8, place: usize },
 }
 
 // What `unfold` answers: how it ended, with a refusal's node too.
-#[derive(Drop)]
+#[derive(Clone, Copy)]
 pub enum Unfolded {
     Accepted,
     Refused {
@@ -75,7 +75,7 @@ pub enum Unfolded {
 }
 
 // What `fold` answers: how it ended, the H record and the counters.
-#[derive(Drop)]
+#[derive(Clone, Copy)]
 pub struct Folded {
     pub ended: Ended,
     pub shape: [u8; 32],
@@ -83,7 +83,7 @@ pub struct Folded {
 }
 
 // What a plain step answers.
-#[derive(Drop)]
+#[derive(Clone, Copy)]
 pub enum Stepped {
     Went { branch: u8, next: Statement },
     Faulted { fault: u8 },
@@ -92,14 +92,14 @@ pub enum Stepped {
 }
 
 // What a search answers: the number of the record that it found, or none.
-#[derive(Drop)]
+#[derive(Clone, Copy)]
 pub enum Found {
     At { number: usize },
     Nothing,
 }
 
 // A statement's record, decoded: the op, its pointers and its targets.
-#[derive(Drop)]
+#[derive(Clone, Copy)]
 pub struct Decoded {
     pub op: u8,
     pub u: Pointer,
@@ -109,14 +109,14 @@ pub struct Decoded {
 }
 
 // A guard on the counter of a node: 0 for none, 1 for = 1, 2 for at least 2.
-#[derive(Drop)]
+#[derive(Clone, Copy)]
 pub struct Guard {
     pub test: u8,
     pub node: Node,
 }
 
 // The guards of a way or an edge: as many as an E record holds. Without a first there is no second.
-#[derive(Drop)]
+#[derive(Clone, Copy)]
 pub struct Guards {
     pub first: Guard,
     pub second: Guard,
@@ -124,7 +124,7 @@ pub struct Guards {
 
 // What a way makes beside the target's record and the updates: the branch, the guards, and how many new nodes there
 // are.
-#[derive(Drop)]
+#[derive(Clone, Copy)]
 pub struct EdgeMade {
     pub branch: u8,
     pub guards: Guards,
@@ -132,14 +132,14 @@ pub struct EdgeMade {
 }
 
 // How many locations and edges a listing has.
-#[derive(Drop)]
+#[derive(Clone, Copy)]
 pub struct Counts {
     pub locations: usize,
     pub edges: usize,
 }
 
 // An edge's fields beside its updates: its branch, its ends, its guards, and how many new nodes there are.
-#[derive(Drop)]
+#[derive(Clone, Copy)]
 pub struct EdgeFields {
     pub branch: u8,
     pub from: usize,
@@ -150,21 +150,21 @@ pub struct EdgeFields {
 
 // A configuration of the automaton, as the caller keeps it: a location's number and twelve counters.
 #[repr(C)]
-#[derive(Drop)]
+#[derive(Clone, Copy)]
 pub struct Configuration {
     pub location: u32,
     pub counters: [u32; 12],
 }
 
 // What a move gives: the refusal's number, 0 for none, and the configuration.
-#[derive(Drop)]
+#[derive(Clone, Copy)]
 pub struct Moved {
     pub refusal: u8,
     pub configuration: Configuration,
 }
 
 // What a walk gives: the refusal's number, 0 for none, how many moves were made, and the configuration.
-#[derive(Drop)]
+#[derive(Clone, Copy)]
 pub struct Walked {
     pub refusal: u8,
     pub made: usize,
@@ -174,7 +174,7 @@ pub struct Walked {
 // What the call for ranges gives: the refusal's number, 0 for none, with its place; whether some start within the
 // ranges follows the path (1 or 0), and if not, as the place, the first position where none can go on; else the
 // location reached, and the ranges of its counters: the lowest values of twelve, then the highest, 0 past the last.
-#[derive(Drop)]
+#[derive(Clone, Copy)]
 pub struct Ranged {
     pub refusal: u8,
     pub place: usize,

@@ -8,21 +8,17 @@ use lib.ListN.{set, take, drop, length-set}
 use lib.Seq.{sets-eq}
 use borrow.Author.Rules.{rules}
 use Rattle.hex_lines.specs.Lines.{byte_of, digit_of}
-use Rattle.hex_lines.proofs.write_byte.Statement.{statement}
-use Rattle.hex_lines.proofs.write_byte.Tie as tie
+use Rattle.hex_lines.proofs.write_byte.Goals as goal
 
-returns : tie.Need-returns
+pub returns : goal.returns
 returns c =
-    let a = c.before.before.before.args in
+    let a = c.args in
     let l = a.line.now in
     let n = 2 * a.i in
-    ap₂ (λ x y. set (set l n x) (n + 1) y) c.before.digit.ensures c.digit2.ensures
+    ap₂ (λ x y. set (set l n x) (n + 1) y) c.digit.ensures c.digit-2.ensures
     ∙ ap (λ m. set (set l n (digit_of (a.byte / 16))) m (digit_of (a.byte % 16))) (add-one n)
     ∙ sets-eq (byte_of a.byte) l n (omega arith)
     ∙ append_assoc (take n l) (byte_of a.byte) (drop (n + 2) l)
 
-pub write-byte-spec : {M : Type 1} → statement M
-write-byte-spec =
-    tie.close
-    (tie.spec (λ c κs. search rules) (λ c. search rules) (λ c. search rules) (λ c κs. search rules) (λ c. search rules)
-    (λ c. search rules) (λ c. simp length-set (omega arith)) (λ c. search rules) returns)
+pub bounds-line-i-2 : goal.bounds-line-i-2
+bounds-line-i-2 c = simp length-set (omega arith)

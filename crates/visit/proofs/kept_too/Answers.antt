@@ -2,8 +2,7 @@
 use mathlib.Core.Path.{◌≡◌, refl}
 use mathlib.Core.Bool.{Bool, true, false, not, ◌&&◌, ◌||◌}
 use lib.Dec.{eqb}
-use Rattle.visit.proofs.kept_too.Statement.{statement}
-use Rattle.visit.proofs.kept_too.Tie as tie
+use Rattle.visit.proofs.kept_too.Goals as goal
 
 -- before, not in use, and without a mark
 kept : (a x y : Bool) → a && (x || not y) ≡ not (not x && y) && a
@@ -16,8 +15,5 @@ kept false true false = refl
 kept false false true = refl
 kept false false false = refl
 
-returns : tie.Need-returns
+pub returns : goal.returns
 returns c = kept c.args.before (eqb c.args.b 253) (eqb c.args.mark 0)
-
-pub kept-too-spec : {M : Type 1} → statement M
-kept-too-spec = tie.close (tie.spec returns)

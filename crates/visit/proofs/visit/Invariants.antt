@@ -1,0 +1,30 @@
+-- `visit::visit` meets its contract. The invariant: the cells so far are a visit, the tour of the pointers left is the
+-- whole tour, and the marks count all holders but the pointers left. Assumes nothing.
+use Prim.Native.Nat.{ℕ, ◌+◌, ◌-◌, ◌<◌}
+use native.Mathlib.Nat.{add-zero}
+use native.Mathlib.Omega.{arith}
+use mathlib.Core.Path.{◌≡◌, ◌∙◌}
+use mathlib.Core.Logic.{inl}
+use mathlib.Core.List.{List, [], map}
+use lib.ListN.{length, get_or, take, drop}
+use borrow.Author.Rules.{rules}
+use Rattle.model.specs.Image.{heap_of}
+use Rattle.model.specs.Records.{val_of}
+use Rattle.model.proofs.expansion.Facts.{test_closed}
+use Rattle.model.specs.Notions.{Tours}
+use Rattle.visit.proofs.ByteLaws.{pointer_closed}
+use Rattle.visit.specs.Steps.{Alike, Visiting, held_by, slot_at}
+use Rattle.visit.proofs.Counting.{pointing, pointing_end, pointing_step}
+use Rattle.visit.proofs.Walking.{tour_end, tour_step, visited_of, visiting_none}
+use Rattle.visit.proofs.visit.Given as goal
+
+abbrev pub invariant-loop-i : goal.invariant-loop-i
+invariant-loop-i l =
+    (length l.order ≡ length l.initial.order) × (length l.seen ≡ length l.initial.seen) × Visiting l.cells l.order l.seen l.n
+    × ((t : List ℕ) → Tours (slot_at l.cells) (take l.n l.order) (map val_of (drop l.i l.pointers)) t
+    → Tours (slot_at l.cells) [] (map val_of l.pointers) t)
+    × ((c : ℕ) → c < length l.cells → Alike (get_or l.seen c 0 + pointing c (drop l.i l.pointers))
+    (pointing c l.pointers + held_by l.cells c (take l.n l.order)))
+
+abbrev pub decreases-loop-i : goal.decreases-loop-i
+decreases-loop-i l = length l.pointers - l.i
