@@ -140,8 +140,8 @@ class Names:
             out.append(f)
         return out
 
-    def body(self, text):
-        alias = {'c': []}
+    def body(self, text, root='c'):
+        alias = {root: []}
         spot = re.compile(r"(?<![\w.'])(let )?(?:([A-Za-z][\w'₀₁₂₃₄₅₆₇₈₉]*) = )?([A-Za-z][\w'₀₁₂₃₄₅₆₇₈₉]*)((?:\.(?:[a-z][\w]*(?:-[\w]+)*|\d+))*)(?= in\b)?(?![\w'])")
 
         def one(m):
@@ -155,9 +155,49 @@ class Names:
                 alias[to] = new
             shown = new[len(alias[base]):] if new[:len(alias[base])] == alias[base] else None
             if shown is None:
-                return head + '.'.join(['c'] + new)
+                return head + '.'.join([root] + new)
             return head + '.'.join([base] + shown)
-        return spot.sub(one, text)
+        # which case a value is, is a fact of the arm
+        text = re.sub(r"(?:let (\w+) = [^\n]*\.given\.0 in\s+)?let (\w+) : \w+(?:\.\w+)*\.args\.\w+(?:\.now)? ≡ \w+\.(\w+)(?: \1[.\d]*)* =\s+search rules in", lambda m: f"let {m.group(2)} = c.in-{m.group(3)}.is in", text)
+        text = spot.sub(one, text)
+        # a test of !x says of x what it says
+        return re.sub(r"\(?\bnot-(?:true|false) _ ((?:\w+)(?:\.[\w-]+)+)\)?", lambda m: m.group(1) if m.group(0).startswith('(') == m.group(0).endswith(')') else m.group(0).replace(re.match(r"\(?not-(?:true|false) _ ", m.group(0)).group(0).lstrip('('), ''), text)
+
+
+def ensured(crate, fn):
+    """The names of a function's ensures, where it has several."""
+    for f in glob.glob(f'crates/{crate}/src/**/*.rt', recursive=True):
+        m = re.search(r'\bfn ' + re.escape(fn.split('.')[-1]) + r'\b(.*?)\n\{', open(f).read(), re.S)
+        if m:
+            return re.findall(r'^\s+ensures ([a-z_]+) \{', m.group(1), re.M)
+    return []
+
+
+def by_name(text, names):
+    """A pair at the end as a record with the clauses' names."""
+    s = text.rstrip()
+    if not s.endswith(')'):
+        return text
+    depth, i = 0, len(s) - 1
+    cuts = []
+    while i >= 0:
+        if s[i] in ')}]':
+            depth += 1
+        if s[i] in '({[':
+            depth -= 1
+        if s[i] == ',' and depth == 1:
+            cuts.append(i)
+        if depth == 0:
+            break
+        i -= 1
+    if not re.search(r'(=|\bin|\brw (?:\w+|\([^()]*(\([^()]*\)[^()]*)*\)))\s*$', s[:i]):
+        return text
+    cuts = [i] + cuts[::-1] + [len(s) - 1]
+    parts = [s[a + 1:b].strip() for a, b in zip(cuts, cuts[1:])]
+    parts = [x for x in parts if x]
+    if len(parts) != len(names):
+        return text
+    return s[:i] + 'record { ' + '; '.join(f'{n} = {x}' for n, x in zip(names, parts)) + ' }'
 
 
 def turn(crate, fn, path, entry):
@@ -231,18 +271,26 @@ def turn(crate, fn, path, entry):
     for item in answers:
         if item[0] is None:
             m = re.match(r"(?:--[^\n]*\n)*(?:pub |abbrev )*([^\s:]+) :", item[2])
-            m2 = re.search(r"\(c : tie\.([^\s)]+)[^)]*\)", item[2])
+            m2 = re.search(r"(?:\((\w+) : )?tie\.([^\s)]+)(?: (?:invariant|decreases)-[^\s)]+)*(?(1)\))", item[2])
             if m and m2:
-                place = names.places.get(norm(m2.group(1)))
+                place = names.places.get(norm(m2.group(2)))
                 if place is None:
-                    said.append(f'{path}: no place {m2.group(1)}: {sorted(names.places.values())}')
+                    said.append(f'{path}: no place {m2.group(2)}: {sorted(names.places.values())}')
                     continue
                 shares[m.group(1)] = place
                 imported.append(place)
-                item[2] = item[2].replace(m2.group(0), f'(c : {place})')
+                item[2] = item[2].replace(m2.group(0), f'({m2.group(1)} : {place})' if m2.group(1) else place)
+                root = m2.group(1)
+                if not root:
+                    mm = re.search(r"^" + re.escape(m.group(1)) + r" (\w+)", item[2][m.end():], re.M)
+                    root = mm.group(1) if mm else 'c'
+                item.append(root)
 
     def shared(text, to):
-        roots = ['c'] + re.findall(r"\blet (\w+) = c in\b", text)
+        roots = ['c']
+        for to_, of in re.findall(r"\blet (\w+) = (\w+) in\b", text):
+            if of in roots:
+                roots.append(to_)
         for h, place in shares.items():
             if not to:
                 continue
@@ -257,9 +305,10 @@ def turn(crate, fn, path, entry):
     if len(rest) == len(names.order):
         where = dict(zip(range(len(rest)), names.order))
     out = []
-    for name, to, body, need in answers:
+    clauses_of = ensured(crate, fn)
+    for name, to, body, need, *root in answers:
         if name is None:
-            out.append(shared(names.body(body), None))
+            out.append(shared(names.body(body, root[0] if root else 'c'), None))
             continue
         if to is None and name in rest and rest.index(name) in where:
             to = where[rest.index(name)]
@@ -274,6 +323,8 @@ def turn(crate, fn, path, entry):
         clauses = b[first.end():]
         clauses = re.sub(r'^' + re.escape(name) + r'(?=\s)', to, clauses, flags=re.M)
         clauses = shared(names.body(clauses), to)
+        if to.startswith('returns') and len(clauses_of) > 1:
+            clauses = by_name(clauses, clauses_of)
         if clauses.count('κs') == 1:
             clauses = clauses.replace(' κs', '', 1)
         out.append('\n'.join(cs + [f'pub {to} : goal.{to}', clauses]))

@@ -20,7 +20,7 @@ pub fn lay(from: &[u8], to: &mut [u8])
     ensures { to.new ≡ over from.now to.old }
 {
     let n = shorter(from.len(), to.len());
-    bytes::copy(&from[..n], to);
+    fill::copy(&from[..n], to);
 }
 
 // Counters.

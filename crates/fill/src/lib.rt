@@ -1,7 +1,7 @@
-// One value for all bytes of a lent part.
+// Bytes of a lent part: one value for all, or a copy over the first.
 #![tactic(auto)]
 
-ghost use Rattle.std.specs.Prelude.{◌≡◌, length, replicate};
+ghost use Rattle.std.specs.Prelude.{◌≡◌, ◌++◌, ◌≤◌, drop, length, replicate, take};
 
 // The compiler makes one memset of the loop.
 pub fn fill(part: &mut [u8], value: u8)
@@ -12,4 +12,15 @@ pub fn fill(part: &mut [u8], value: u8)
         part[i] = value;
         i += 1;
     }
+}
+
+// Copies bytes over the first of a part, and answers how many.
+pub fn copy(from: &[u8], to: &mut [u8]) -> usize
+    requires { length from.now ≤ length to.old }
+    ensures { (result ≡ length from.now)
+        × (to.new ≡ take (length from.now) from.now ++ drop (length from.now) to.old) }
+{
+    let n = from.len();
+    to[..n].copy_from_slice(from);
+    n
 }

@@ -102,8 +102,8 @@ fn restore(fault: u8, ps: &[u8], cs: &[u8], pointers: &mut [u8], cells: &mut [u8
         × (cells.new ≡ cond (eqb fault 0) cells.old cs.now) }
 {
     if fault != 0 {
-        bytes::copy(ps, pointers);
-        bytes::copy(cs, cells);
+        fill::copy(ps, pointers);
+        fill::copy(cs, cells);
     }
 }
 

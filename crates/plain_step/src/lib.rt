@@ -19,8 +19,8 @@ fn run_statement(d: Decoded, x: usize, pointers: &mut [u8], cells: &mut [u8]) ->
     let n = cells.len();
     let mut ps = [0u8; model::POINTERS];
     let mut cs = [0u8; model::MOST_CELLS];
-    bytes::copy(&pointers[..], &mut ps);
-    bytes::copy(&cells[..], &mut cs);
+    fill::copy(&pointers[..], &mut ps);
+    fill::copy(&cells[..], &mut cs);
     image_run::run_saved(d, x, pointers, cells, &ps, &cs[..n])
 }
 

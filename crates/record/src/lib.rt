@@ -49,7 +49,7 @@ pub fn write_location(part: &mut [u8], statement: Statement, fault: u8, rec: &[u
     ensures { part.new ≡ location_bytes statement.0 fault rec.now
         ++ drop record_size part.old }
 {
-    bytes::copy(rec, part);
+    fill::copy(rec, part);
     part[0] = 0x4c;
     part[1] = statement.0;
     part[2] = fault;

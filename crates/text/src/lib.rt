@@ -14,7 +14,7 @@ fn put(from: &[u8], text: &mut [u8], at: usize) -> usize
     ensures { (result ≡ at + length from.now)
         × (take result text.new ≡ take at text.old ++ from.now) }
 {
-    let n = bytes::copy(from, &mut text[at..]);
+    let n = fill::copy(from, &mut text[at..]);
     at + n
 }
 

@@ -207,8 +207,8 @@ pub fn open_way(rec: &[u8], op: u8, way: Way, pointers: &mut [u8], cells: &mut [
         ≡ opened_heap way.split op way.node.0 (shape_of rec.now) }
 {
     let k = rec[3] as usize;
-    bytes::copy(&rec[4..10], pointers);
+    fill::copy(&rec[4..10], pointers);
     // all twelve successors, of which the first k count: a copy of one length is quicker
-    bytes::copy(&rec[10..22], cells);
+    fill::copy(&rec[10..22], cells);
     open_cells(cells, k, op, way.split, way.node)
 }

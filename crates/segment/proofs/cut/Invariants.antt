@@ -1,0 +1,18 @@
+-- `segment::cut` meets its contract: after i cells the tables are those of the cut of the first i.
+use Prim.Native.Nat.{◌-◌, ◌≤◌}
+use mathlib.Core.Path.{◌≡◌}
+use native.Mathlib.Omega.{arith}
+use lib.ListN.{drop, length, take}
+use lib.Seq.{take-length}
+use borrow.Author.Rules.{rules}
+use Rattle.segment.specs.Cut.{IsCut, segs, cut_tables, CutTables}
+use Rattle.segment.proofs.CutStep.{Alike, ready_at, size_past, turn_at}
+use Rattle.segment.proofs.cut.Given as goal
+
+abbrev pub invariant-loop-i : goal.invariant-loop-i
+invariant-loop-i l =
+    (l.i ≤ length l.order) × Alike (cut_tables l.node l.last l.size) (cut_tables l.initial.node l.initial.last l.initial.size)
+    × IsCut (segs l.held (take l.i l.order)) (cut_tables l.node l.last l.size) l.k × (drop l.k l.size ≡ drop l.k l.initial.size)
+
+abbrev pub decreases-loop-i : goal.decreases-loop-i
+decreases-loop-i l = length l.order - l.i
