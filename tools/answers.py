@@ -88,7 +88,8 @@ def arguments(spec):
 
 
 class Names:
-    def __init__(self, entry):
+    def __init__(self, entry, crate, fn):
+        self.crate, self.fn = crate, fn
         self.places = {norm(p[0]): n for p, n in zip(entry['places'], entry['places_by_name'])}
         self.needs = {norm(a): b for a, b in entry['needs']}
         self.order = [b for _, b in entry['needs']]
@@ -97,10 +98,12 @@ class Names:
         self.steps = {}
         self.doubt = set()
         self.typed = {}
-        self.params = {}
+        self.params, self.callees = {}, {}
         for (_, _, (a, b), callee, _), t in zip(entry['places'], entry['typed']):
             if not a:
                 continue
+            if callee:
+                self.callees[b] = callee
             if callee in entry['params']:
                 self.params[b] = entry['params'][callee]
             if norm(a) in self.steps and self.steps[norm(a)] != b:
@@ -125,6 +128,16 @@ class Names:
                     continue
                 out.append(self.steps.get(n, f) if not (n in ('args', 'requires', 'ranges')) else f)
                 continue
+            # a clause by its name
+            if out[-1] in ('ensures', 'requires') and f.isdigit() and len(out) <= 2:
+                ns = self.clauses(out)
+                if len(ns) > 1:
+                    out.append(f)
+                    continue
+            if len(out) >= 2 and out[-1].isdigit():
+                pass
+            if f == 'last' and len(out) == 1 and out[0] in self.params:
+                f = 'new'
             if out[:1] == ['type_inv'] and f == 'given' and len(out) == 2:
                 continue
             # what a call left in a lent argument, by its name
@@ -138,7 +151,28 @@ class Names:
                         out[2:] = [ps[i]]
                 continue
             out.append(f)
+        for i, f in enumerate(out[:-1]):
+            if f in ('ensures', 'requires') and i <= 1 and out[i + 1].isdigit():
+                ns = self.clauses(out[:i + 1])
+                if len(ns) > 1:
+                    tail, j = out[i + 1:], 0
+                    while j < len(ns) - 2 and j < len(tail) and tail[j] == '1':
+                        j += 1
+                    if j < len(tail) and tail[j] in ('0', '1'):
+                        n = j + int(tail[j])
+                        if tail[j] == '0' or j == len(ns) - 2:
+                            out[i + 1:] = [ns[n]] + tail[j + 1:]
+                break
         return out
+
+    def clauses(self, path):
+        """The names of the clauses that a path ends at."""
+        if path == ['requires']:
+            return clause_names(self.crate, self.fn, 'requires')
+        if len(path) == 2 and path[1] == 'ensures' and path[0] in self.callees:
+            crate, fn = self.callees[path[0]].split('::')[0], self.callees[path[0]].split('::')[-1]
+            return clause_names(crate, fn, 'ensures')
+        return []
 
     def body(self, text, root='c'):
         alias = {root: []}
@@ -164,12 +198,12 @@ class Names:
         return re.sub(r"\(?\bnot-(?:true|false) _ ((?:\w+)(?:\.[\w-]+)+)\)?", lambda m: m.group(1) if m.group(0).startswith('(') == m.group(0).endswith(')') else m.group(0).replace(re.match(r"\(?not-(?:true|false) _ ", m.group(0)).group(0).lstrip('('), ''), text)
 
 
-def ensured(crate, fn):
-    """The names of a function's ensures, where it has several."""
+def clause_names(crate, fn, kind):
+    """The names of a function's clauses of a kind, where it has several."""
     for f in glob.glob(f'crates/{crate}/src/**/*.rt', recursive=True):
         m = re.search(r'\bfn ' + re.escape(fn.split('.')[-1]) + r'\b(.*?)\n\{', open(f).read(), re.S)
         if m:
-            return re.findall(r'^\s+ensures ([a-z_]+) \{', m.group(1), re.M)
+            return re.findall(r'^\s+' + kind + r' ([a-z_]+) \{', m.group(1), re.M)
     return []
 
 
@@ -207,7 +241,7 @@ def turn(crate, fn, path, entry):
     old = subprocess.run(['git', 'show', f'{BEFORE}:{path}'], capture_output=True, text=True).stdout
     old_needs = needs_of(old)
     new_needs = needs_of(text)
-    names = Names(entry)
+    names = Names(entry, crate, fn)
     its = items(text)
     said = []
     head = []
@@ -305,7 +339,7 @@ def turn(crate, fn, path, entry):
     if len(rest) == len(names.order):
         where = dict(zip(range(len(rest)), names.order))
     out = []
-    clauses_of = ensured(crate, fn)
+    clauses_of = clause_names(crate, fn, 'ensures')
     for name, to, body, need, *root in answers:
         if name is None:
             out.append(shared(names.body(body, root[0] if root else 'c'), None))
@@ -325,6 +359,13 @@ def turn(crate, fn, path, entry):
         clauses = shared(names.body(clauses), to)
         if to.startswith('returns') and len(clauses_of) > 1:
             clauses = by_name(clauses, clauses_of)
+        m = re.match(r'(.*)-requires', to)
+        if m:
+            callee = next((v for k, v in names.callees.items() if k == m.group(1) or v.split('::')[-1] == m.group(1)), None)
+            if callee:
+                asked = clause_names(callee.split('::')[0], callee.split('::')[-1], 'requires')
+                if len(asked) > 1:
+                    clauses = by_name(clauses, asked)
         if clauses.count('κs') == 1:
             clauses = clauses.replace(' κs', '', 1)
         out.append('\n'.join(cs + [f'pub {to} : goal.{to}', clauses]))

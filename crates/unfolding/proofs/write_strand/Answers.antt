@@ -8,27 +8,18 @@ use borrow.Author.Rules.{rules}
 use Rattle.unfolding.specs.Bytes.{strand_bytes}
 use Rattle.model.proofs.lists.Loops.{push}
 use Rattle.unfolding.proofs.Steps.{strand_last, strand_step}
-use Rattle.unfolding.proofs.write_strand.Statement.{statement}
-use Rattle.unfolding.proofs.write_strand.Tie as tie
+use Rattle.unfolding.proofs.write_strand.Goals as goal
 
-abbrev invariant-loop : tie.invariant-loop
-invariant-loop cells₀ at count value last i₀ cells i =
-    (at ≤ i) × (i ≤ last) × (length cells ≡ length cells₀)
-    × (take i cells ++ strand_bytes i (at + count - i) value ≡ take at cells₀ ++ strand_bytes at count value)
-
-abbrev decreases-loop : tie.decreases-loop
-decreases-loop cells₀ at count value last i₀ cells i = last - i
-
-loop-holds : tie.Need-loop-init invariant-loop decreases-loop
-loop-holds c =
+pub loop-i-init : goal.loop-i-init
+loop-i-init c =
     let a = c.args in
     let e : a.at + a.count - a.at ≡ a.count = omega arith in
     (omega arith, omega arith, refl, ap (λ m. take a.at a.cells.now ++ strand_bytes a.at m a.value) e)
 
-loop-again : tie.Need-loop-preserved invariant-loop decreases-loop
-loop-again c =
-    let l = c.before.loop in
-    let a = c.before.before.args in
+pub loop-i-preserved : goal.loop-i-preserved
+loop-i-preserved c =
+    let l = c.loop-i in
+    let a = c.args in
     let e = a.at + a.count in
     let h : l.i < length l.cells = omega arith in
     let g : l.i + 1 < e = omega arith in (
@@ -39,35 +30,16 @@ loop-again c =
           ∙ ap (λ r. take l.i l.cells ++ r) (sym (strand_step l.i e a.value g)) ∙ l.invariant.3,
     )
 
-same_length : tie.Need-same-length invariant-loop decreases-loop
-same_length c = simp length-set (search rules)
+pub shape_of-cells : goal.shape_of-cells
+shape_of-cells c = simp length-set (search rules)
 
-returns : tie.Need-returns invariant-loop decreases-loop
+pub returns : goal.returns
 returns c =
-    let l = c.before.loop in
-    let a = c.before.before.args in
+    let l = c.loop-i in
+    let a = c.args in
     let e : a.at + a.count ≡ l.i + 1 = omega arith in
     let z : a.at + a.count - 1 ≡ l.i = omega arith in
     let h : l.i < length l.cells = omega arith in
     ap₂ (λ m j. take m (set l.cells j a.value)) e z
     ∙ sym (append-nil (take (l.i + 1) (set l.cells l.i a.value))) ∙ push l.cells l.i a.value [] h
     ∙ ap (λ r. take l.i l.cells ++ r) (sym (strand_last l.i (a.at + a.count) a.value (sym e))) ∙ l.invariant.3
-
-pub write-strand-spec : {M : Type 1} → statement M
-write-strand-spec =
-    tie.close
-    (tie.spec
-    invariant-loop
-    decreases-loop
-    (λ c. search rules)
-    (λ c. search rules)
-    loop-holds
-    (λ c. search rules)
-    (λ c. search rules)
-    (λ c. search rules)
-    (λ c. search rules)
-    (λ c. search rules)
-    loop-again
-    (λ c. search rules)
-    same_length
-    returns)

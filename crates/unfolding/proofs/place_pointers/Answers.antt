@@ -8,21 +8,12 @@ use borrow.Author.Rules.{rules}
 use Rattle.model.proofs.lists.Slices.{map_end, map_step}
 use Rattle.unfolding.specs.Bytes.{placed_byte}
 use Rattle.model.proofs.lists.Loops.{push, pushed}
-use Rattle.unfolding.proofs.place_pointers.Statement.{statement}
-use Rattle.unfolding.proofs.place_pointers.Tie as tie
+use Rattle.unfolding.proofs.place_pointers.Goals as goal
 
-abbrev invariant-loop : tie.invariant-loop
-invariant-loop firsts values pointers₀ i₀ pointers i =
-    (i ≤ length values) × (length pointers ≡ length pointers₀)
-    × (take i pointers ++ map (placed_byte firsts) (drop i values) ≡ map (placed_byte firsts) values)
-
-abbrev decreases-loop : tie.decreases-loop
-decreases-loop firsts values pointers₀ i₀ pointers i = length values - i
-
-loop-again : tie.Need-loop-preserved invariant-loop decreases-loop
-loop-again c =
-    let l = c.before.before.before.loop in
-    let a = c.before.before.before.before.before.before.before.args in
+pub loop-i-preserved : goal.loop-i-preserved
+loop-i-preserved c =
+    let l = c.loop-i in
+    let a = c.args in
     let f = placed_byte a.firsts.now in
     let t = a.values.now in
     let h : l.i < length l.pointers = omega arith in
@@ -35,27 +26,11 @@ loop-again c =
           ∙ ap (λ r. take l.i l.pointers ++ r) (sym (map_step f t l.i g)) ∙ l.invariant.2,
     )
 
-returns : tie.Need-returns invariant-loop decreases-loop
+pub returns : goal.returns
 returns c =
-    let l = c.before.loop in
-    let a = c.before.before.before.before.before.args in
+    let l = c.loop-i in
+    let a = c.args in
     let f = placed_byte a.firsts.now in
     let g : length a.values.now ≤ l.i = omega arith in
     sym (pushed l.pointers l.i (omega arith))
     ∙ ap (λ r. take l.i l.pointers ++ r) (sym (map_end f a.values.now l.i g)) ∙ l.invariant.2
-
-pub place-pointers-spec : {M : Type 1} → statement M
-place-pointers-spec =
-    tie.close
-    (tie.spec
-    invariant-loop
-    decreases-loop
-    (λ c. search rules)
-    (λ c. search rules)
-    (λ c κs. search rules)
-    (λ c. search rules)
-    (λ c. search rules)
-    (λ c. search rules)
-    loop-again
-    (λ c. search rules)
-    returns)

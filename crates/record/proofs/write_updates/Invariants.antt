@@ -1,0 +1,15 @@
+-- `write_updates` meets its contract: the first j updates are written.
+use Prim.Native.Nat.{ℕ, ◌+◌, ◌-◌, ◌*◌, ◌/◌, ◌%◌, ◌≤◌}
+use mathlib.Core.Path.{◌≡◌, refl, sym, ap, ◌∙◌}
+use mathlib.Core.List.{List}
+use native.Mathlib.Omega.{arith}
+use lib.ListN.{length, get_or, set, take-append-drop, length-set}
+use borrow.Author.Rules.{rules}
+use Rattle.record.proofs.Bytes.{with_updates, updates_turn}
+use Rattle.record.proofs.write_updates.Given as goal
+
+abbrev pub invariant-loop-j : goal.invariant-loop-j
+invariant-loop-j l = (l.j ≤ l.k) × (length l.part ≡ length l.initial.part) × (l.part ≡ with_updates l.initial.part l.updates l.j)
+
+abbrev pub decreases-loop-j : goal.decreases-loop-j
+decreases-loop-j l = l.k - l.j

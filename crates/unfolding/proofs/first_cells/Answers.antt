@@ -1,0 +1,39 @@
+-- `first_cells` meets its contract: the entries below n are right, and the running sum is the first cell of node n.
+use Prim.Native.Nat.{ℕ, ◌+◌, ◌-◌, ◌<◌, ◌≤◌}
+use mathlib.Core.Path.{◌≡◌, refl}
+use native.Mathlib.Omega.{arith}
+use lib.ListN.{get_or, length, length-set}
+use borrow.Author.Rules.{rules}
+use Rattle.model.specs.Image.{first_cell}
+use Rattle.model.proofs.lists.Loops.{set_below}
+use Rattle.unfolding.proofs.Steps.{first_most, first_next}
+use Rattle.unfolding.proofs.first_cells.Goals as goal
+
+pub loop-n-init : goal.loop-n-init
+loop-n-init c = (omega arith, refl, refl, λ k h. absurd (omega arith))
+
+pub overflow_cast-firsts : goal.overflow_cast-firsts
+overflow_cast-firsts c =
+    let l = c.loop-n in
+    omega (arith, first_most c.args.counters.now l.n)
+
+pub overflow_add-at : goal.overflow_add-at
+overflow_add-at c =
+    let l = c.loop-n in
+    let t = c.args.counters.now in
+    let e = first_next t l.n (omega arith) in
+    omega (arith, first_most t (l.n + 1))
+
+pub loop-n-preserved : goal.loop-n-preserved
+loop-n-preserved c =
+    let l = c.loop-n in
+    let t = c.args.counters.now in
+    let e = first_next t l.n (omega arith) in (
+      omega arith,
+      simp length-set l.invariant.1,
+      omega arith,
+      set_below (first_cell t) l.firsts l.n l.at (omega arith) l.invariant.2 l.invariant.3,
+    )
+
+pub returns : goal.returns
+returns c = let l = c.loop-n in λ k h. l.invariant.3 k (omega arith)

@@ -1,0 +1,19 @@
+-- `write_strand` meets its contract: the cells below i are done, and the rest of the strand follows them.
+use Prim.Native.Nat.{◌+◌, ◌-◌, ◌<◌, ◌≤◌}
+use mathlib.Core.Path.{◌≡◌, refl, sym, ap, ap₂, ◌∙◌}
+use mathlib.Core.List.{[], ◌++◌, append-nil}
+use native.Mathlib.Omega.{arith}
+use lib.ListN.{length, length-set, set, take}
+use borrow.Author.Rules.{rules}
+use Rattle.unfolding.specs.Bytes.{strand_bytes}
+use Rattle.model.proofs.lists.Loops.{push}
+use Rattle.unfolding.proofs.Steps.{strand_last, strand_step}
+use Rattle.unfolding.proofs.write_strand.Given as goal
+
+abbrev pub invariant-loop-i : goal.invariant-loop-i
+invariant-loop-i l =
+    (l.at ≤ l.i) × (l.i ≤ l.last) × (length l.cells ≡ length l.initial.cells)
+    × (take l.i l.cells ++ strand_bytes l.i (l.at + l.count - l.i) l.value ≡ take l.at l.initial.cells ++ strand_bytes l.at l.count l.value)
+
+abbrev pub decreases-loop-i : goal.decreases-loop-i
+decreases-loop-i l = l.last - l.i
