@@ -95,6 +95,7 @@ class Names:
         self.order = [b for _, b in entry['needs']]
         self.settled = set(entry['settled'])
         self.loops = {norm(l[0][0]): (l[0][1], l[1], c) for l, c in zip(entry['loops'], entry['changed'])}
+        self.vars = {l[0][1]: l[1] for l in entry['loops']}
         self.steps = {}
         self.doubt = set()
         self.typed = {}
@@ -136,6 +137,9 @@ class Names:
                     continue
             if len(out) >= 2 and out[-1].isdigit():
                 pass
+            # a variable of that name, which the port took for a word of the check's
+            if f == 'auto' and len(out) == 1 and 'kept' in self.vars.get(out[0], []):
+                f = 'kept'
             if f == 'last' and len(out) == 1 and out[0] in self.params:
                 f = 'new'
             if out[:1] == ['type_inv'] and f == 'given' and len(out) == 2:
@@ -320,6 +324,36 @@ def turn(crate, fn, path, entry):
                     root = mm.group(1) if mm else 'c'
                 item.append(root)
 
+    # what the invariants speak of stands with them
+    moved, named = [], []
+    todo = '\n'.join(invs)
+    again = True
+    while again:
+        again = False
+        for item in answers:
+            if item[0] is not None or item in moved:
+                continue
+            m = re.match(r"(?:--[^\n]*\n)*(?:pub |abbrev )*(?:record |data )?([^\s:(]+)", item[2])
+            if m and re.search(r"(?<![\w.'-])" + re.escape(m.group(1)) + r"(?![\w'-])", todo):
+                moved.append(item)
+                named.append(m.group(1))
+                todo += '\n' + item[2]
+                again = True
+    answers = [a for a in answers if a not in moved]
+    if moved:
+        order = [i for i in its if any('\n'.join(i[2]) == m[2] for m in moved)]
+        pub = []
+        for _, _, lines in order:
+            b = '\n'.join(lines)
+            if re.search(r'^(pub )?record ', b, re.M):
+                b = re.sub(r'^  (?=[a-z]\w* :)', '  pub ', b, flags=re.M)
+            b = re.sub(r'^(?!--|pub |abbrev pub )(abbrev |unfoldable )?(?=(record |data )?[A-Za-z]\S* [:(])', lambda m: (m.group(1) or '') + 'pub ', b, count=1, flags=re.M)
+            pub.append(b)
+        invs = pub + invs
+        uses_more = f'use Rattle.{crate}.proofs.{fn}.Invariants.{{{", ".join(named)}}}'
+    else:
+        uses_more = ''
+
     def shared(text, to):
         roots = ['c']
         for to_, of in re.findall(r"\blet (\w+) = (\w+) in\b", text):
@@ -382,20 +416,22 @@ def turn(crate, fn, path, entry):
             ps = m.group(1).strip()
             if ps.endswith(' κs') and 'κs' not in m.group(2):
                 ps = ps[:-3]
-            out.append(f'pub {to} : goal.{to}\n{to} {ps} = {shared(names.body(m.group(2)), to)}')
+            b = shared(names.body(' ' + m.group(2)), to).strip()
+            out.append(f'pub {to} : goal.{to}\n{to} {ps} = {b}')
         elif a in made_up or a.startswith('('):
             pass
         else:
             said.append(f'{path}: argument {i} is {a}, goal {where.get(i)}')
     folder = os.path.dirname(path)
     use = '\n'.join(uses)
+    use_here = use + ('\n' + uses_more if uses_more else '')
     if invs:
         title = head or []
         with open(folder + '/Invariants.antt', 'w') as f:
             f.write('\n'.join(title + [use, f'use Rattle.{crate}.proofs.{fn}.Given as goal', '', '\n\n'.join(invs), '']))
     if out:
         with open(folder + '/Answers.antt', 'w') as f:
-            f.write('\n'.join(head + [use, f'use Rattle.{crate}.proofs.{fn}.Goals as goal'] + ([f'use Rattle.{crate}.proofs.{fn}.Goals.{{{", ".join(sorted(set(imported)))}}}'] if imported else []) + ['', '\n\n'.join(out), '']))
+            f.write('\n'.join(head + [use_here, f'use Rattle.{crate}.proofs.{fn}.Goals as goal'] + ([f'use Rattle.{crate}.proofs.{fn}.Goals.{{{", ".join(sorted(set(imported)))}}}'] if imported else []) + ['', '\n\n'.join(out), '']))
     os.remove(path)
     for d in sorted(names.doubt):
         if re.search(r'\.' + d.replace('_', '[-_]') + r'\b', text):

@@ -1,0 +1,11 @@
+-- `closed_image::cells_named` meets its contract: the three bytes that stand for no cell are fine. Assumes nothing.
+use mathlib.Core.Path.{refl}
+use borrow.Author.Rules.{rules}
+use Rattle.closed_image.proofs.Fine.{cells_fine}
+use Rattle.closed_image.proofs.cells_named.Goals as goal
+
+pub returns : goal.returns
+returns c =
+    let b = c in
+    let a = b in
+    cells_fine a.args.cells.now a.requires b.tell_used.ensures c.all_fine.ensures refl refl refl
