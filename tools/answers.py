@@ -42,7 +42,7 @@ def items(text):
             elif comment:
                 comment.append(line)
             continue
-        if line[0] in ' )':
+        if line[0] in ' )' or line.startswith('unfolding '):
             out[-1][2].append(line)
             continue
         m = re.match(r"(?:pub |abbrev |unfoldable |opaque )*([^\s:]+)", line)
@@ -387,7 +387,7 @@ def turn(crate, fn, path, entry):
             to = need
         cs = [l for l in body.split('\n') if l.startswith('--')]
         b = '\n'.join(l for l in body.split('\n') if not l.startswith('--'))
-        first = re.match(r'.*?:\s+tie\.Need-\S+[^\n]*(?:\n(?!' + re.escape(name) + r'[ ])[^\n]*)*\n', b)
+        first = re.match(r'.*?:\s+tie\.Need-\S+[^\n]*(?:\n(?!' + re.escape(name) + r'[ ]|unfolding )[^\n]*)*\n', b)
         clauses = b[first.end():]
         clauses = re.sub(r'^' + re.escape(name) + r'(?=\s)', to, clauses, flags=re.M)
         clauses = shared(names.body(clauses), to)
@@ -401,7 +401,7 @@ def turn(crate, fn, path, entry):
                 if len(asked) > 1:
                     clauses = by_name(clauses, asked)
         if clauses.count('κs') == 1:
-            clauses = clauses.replace(' κs', '', 1)
+            clauses = clauses.replace('λ κs. ', '', 1).replace(' κs', '', 1)
         out.append('\n'.join(cs + [f'pub {to} : goal.{to}', clauses]))
     for i, a in enumerate(rest):
         if a.startswith('(') and 'search rules' not in a or (a.startswith('(') and not re.fullmatch(r'\(λ [^.]*\. search rules\)', re.sub(r'\s+', ' ', a))):

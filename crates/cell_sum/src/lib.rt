@@ -9,7 +9,7 @@ use model::Node;
 
 // What the cells of an opened shape stand for: the number of old nodes, and whether and which node is split into its
 // head and the tail, a cell past the nodes.
-#[derive(Drop)]
+#[derive(Clone, Copy)]
 pub struct Weights {
     pub nodes: usize,
     pub split: bool,

@@ -9,7 +9,7 @@ use listing::Grown;
 use model::{Counts, Statement};
 
 // The counts of a full listing, or the refusal: 11 or 12, and the number of the location being explored.
-#[derive(Drop)]
+#[derive(Clone, Copy)]
 pub enum Explored {
     Listed { counts: Counts },
     Full { number: u8, place: usize },

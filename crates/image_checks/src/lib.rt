@@ -23,7 +23,7 @@ fn lengths_ok(pointers: &[u8], cells: &[u8]) -> bool
 }
 
 // What checking an image gives: the refusal (0 for none) and, without one, how many cells were visited.
-#[derive(Drop)]
+#[derive(Clone, Copy)]
 pub struct Checked {
     pub refusal: u8,
     pub visited: usize,

@@ -16,7 +16,7 @@ use layout::{failing, layout_ok, shape_failure, statement_refusal};
 use model::{Failure, Node};
 
 // A routine with its numbers of statements and of starting shapes, or the refusal's number, place and node.
-#[derive(Drop)]
+#[derive(Clone, Copy)]
 pub enum Checked {
     Good {
         statements: usize,

@@ -10,7 +10,7 @@ ghost use Rattle.listing.specs.Fields.{fields_to};
 use model::{Counts, EdgeFields, EdgeMade};
 
 // The counts after an edge more, or the refusal (11 no place for a new location, 12 no place for the edge).
-#[derive(Drop)]
+#[derive(Clone, Copy)]
 pub enum Grown {
     Added { counts: Counts },
     Full { number: u8 },

@@ -8,7 +8,7 @@ use model::{Counts, Decoded};
 use way::{Looked, Way};
 
 // The ways out of a location: what its statement looks at, and how many there are.
-#[derive(Drop)]
+#[derive(Clone, Copy)]
 struct Ways {
     view: Looked,
     count: u8,

@@ -8,7 +8,7 @@ ghost use Rattle.machine.specs.Run.{IsRun, RunReady, Settled, bytes, kept_by};
 use model::Decoded;
 
 // What a run gives: the fault (0 for none) and, without one, how many cells were visited.
-#[derive(Drop)]
+#[derive(Clone, Copy)]
 pub struct Ran {
     pub fault: u8,
     pub visited: usize,

@@ -14,7 +14,7 @@ use edge_layout::{guards_of, nodes_at};
 use model::{Counts, Guard, Node};
 
 // Where a move leads, and a refusal, 0 for none; a refused one leads nowhere else.
-#[derive(Drop)]
+#[derive(Clone, Copy)]
 pub struct Taken {
     pub refusal: u8,
     pub location: u32,

@@ -37,7 +37,7 @@ pub fn first_wrong(ranges: &[u32], k: usize) -> usize
 }
 
 // How many edges of a path lead on, each from where the one before it leads, and where the last of them leads.
-#[derive(Drop)]
+#[derive(Clone, Copy)]
 pub struct Led {
     pub linked: usize,
     pub location: usize,

@@ -9,7 +9,7 @@ use way::Way;
 
 // What the run by a way gives beside the heap image: the fault (0 for none), the branch, how many cells there are, and
 // how many were visited.
-#[derive(Drop)]
+#[derive(Clone, Copy)]
 pub struct Gone {
     pub fault: u8,
     pub branch: u8,

@@ -15,14 +15,14 @@ use model::{Decoded, Guard, Guards, Node, Pointer};
 
 // What a statement looks at: the bytes of two values, null where there is none. Without a first node there is no
 // second.
-#[derive(Drop)]
+#[derive(Clone, Copy)]
 pub struct Looked {
     pub first: u8,
     pub second: u8,
 }
 
 // A way out of a location: split at a node, or whole with a pick; and its guards.
-#[derive(Drop)]
+#[derive(Clone, Copy)]
 pub struct Way {
     pub split: bool,
     pub node: Node,

@@ -12,6 +12,7 @@ use Rattle.model.specs.Records.{byte}
 use Rattle.model.proofs.lists.Logic.{bool_case, eq-case}
 use Rattle.loss.proofs.stands_once.Invariants.{Counted}
 use Rattle.loss.proofs.stands_once.Goals as goal
+use Rattle.loss.proofs.stands_once.Goals.{then-location-i, else-location-i}
 
 hit : (l : List ℕ) (v i c : ℕ) → Counted l v i c → Counted l v (i + 1) (c + 1)
 hit l v i c C = record {
@@ -41,10 +42,10 @@ loop-i-preserved c =
     let C = Counted l v (q.i + 1) in (
       search rules,
       search rules,
-      ⊎_elim
-          (λ w. subst C (sym w.1) (hit l v q.i q.count q.invariant.2))
-          (λ w. subst C (sym w.1) (miss l v q.i q.count w.0.left q.invariant.2))
-          c.if-location-i.branch,
+      elim c.if-location-i.branch [
+        then-location-i w ↦ subst C (sym w.count-is) (hit l v q.i q.count q.invariant.2)
+        | else-location-i w ↦ subst C (sym w.count-is) (miss l v q.i q.count w.if-location-i.false q.invariant.2)
+      ],
     )
 
 pub returns : goal.returns

@@ -7,19 +7,12 @@ use lib.ListN.{length, length-set, get_or, set}
 use Rattle.effect.specs.Effect.{wipe_byte}
 use Rattle.effect.proofs.ListLaws.{part_map, part_at, part_step, part_all}
 use borrow.Author.Rules.{rules}
-use Rattle.effect.proofs.wipe_holders.Statement.{statement}
-use Rattle.effect.proofs.wipe_holders.Tie as tie
+use Rattle.effect.proofs.wipe_holders.Goals as goal
 
-abbrev invariant-loop : tie.invariant-loop
-invariant-loop c list₀ i₀ list i = (i ≤ length list₀) × (length list ≡ length list₀) × (list ≡ part_map (wipe_byte c) list₀ i)
-
-abbrev decreases-loop : tie.decreases-loop
-decreases-loop c list₀ i₀ list i = length list₀ - i
-
-loop-again : tie.Need-loop-preserved invariant-loop decreases-loop
-loop-again c =
-    let a = c.before.before.before.before.before.args in
-    let l = c.before.before.before.loop in
+pub loop-i-preserved : goal.loop-i-preserved
+loop-i-preserved c =
+    let a = c.args in
+    let l = c.loop-i in
     let f = wipe_byte a.c in
     let h : l.i < length a.list.now = omega arith in
     let e : c.wiped.result ≡ f (get_or a.list.now l.i 0) =
@@ -31,15 +24,8 @@ loop-again c =
           ∙ part_step f a.list.now l.i 0 h,
     )
 
-returns : tie.Need-returns invariant-loop decreases-loop
+pub returns : goal.returns
 returns c =
-    let a = c.before.before.before.args in
-    let l = c.before.loop in
+    let a = c.args in
+    let l = c.loop-i in
     l.invariant.2 ∙ part_all (wipe_byte a.c) a.list.now l.i (omega arith)
-
-pub wipe-holders-spec : {M : Type 1} → statement M
-wipe-holders-spec =
-    tie.close
-    (tie.spec invariant-loop decreases-loop (λ c. search rules) (λ c. search rules) (λ c κs. search rules) (λ c. search rules)
-    (λ c. search rules) (λ c. search rules)
-    loop-again (λ c. search rules) returns)

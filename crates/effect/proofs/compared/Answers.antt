@@ -2,20 +2,16 @@
 use mathlib.Core.Path.{refl}
 use Rattle.model.proofs.lists.Logic.{clash}
 use Rattle.effect.proofs.Ops.{compares}
-use Rattle.effect.proofs.compared.Statement.{statement}
-use Rattle.effect.proofs.compared.Tie as tie
+use Rattle.effect.proofs.compared.Goals as goal
 
-returns : tie.Need-returns
-returns c =
-    let a = c.before.args in
-    let t = c.if1.true in
+pub returns-then-a-b : goal.returns-then-a-b
+returns-then-a-b c =
+    let a = c.args in
+    let t = c.if-a-b.true in
     compares a.a a.b 2 (λ p. refl) (λ p q. refl) (λ p q. clash (rw (p, q) at t) refl)
 
-returns-2 : tie.Need-returns-2
-returns-2 c =
-    let a = c.before.args in
-    let t = c.if1.false in
+pub returns-else-a-b : goal.returns-else-a-b
+returns-else-a-b c =
+    let a = c.args in
+    let t = c.if-a-b.false in
     compares a.a a.b 0 (λ p. clash refl (rw p at t)) (λ p q. clash refl (rw (p, q) at t)) (λ p q. refl)
-
-pub compared-spec : {M : Type 1} → statement M
-compared-spec = tie.close (tie.spec returns returns-2)
