@@ -30,7 +30,7 @@ returns-then-not-answerable c =
     (meant a.mark a.locations.ref_ptr a.edges.ref_ptr)
     (sym c.answerable.ensures ∙ c.if-not-answerable.true)
     c.part_of.ensures.result_value c.part_of.ensures.ref_ptr_value in
-    record { part = h.0; stands = h.1; told = h.2 }
+    record { part = h.0; stands = h.1.0; told = h.1.1 }
 
 pub overflow_mul-begin : goal.overflow_mul-begin
 overflow_mul-begin c = omega (arith, in_table (goal.at.overflow_mul-begin c).Else-not-answerable)
@@ -47,4 +47,4 @@ returns c =
     let h = handed (tables_in a.locations.now a.edges.now a.counts) a.mark a.number
     (meant a.mark a.locations.ref_ptr a.edges.ref_ptr) (there (goal.at.returns c).Else-not-answerable) c.part_of-2.ensures.result_value
     c.part_of-2.ensures.ref_ptr_value in
-    record { part = h.0; stands = h.1; told = h.2 }
+    record { part = h.0; stands = h.1.0; told = h.1.1 }

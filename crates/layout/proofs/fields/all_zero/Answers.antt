@@ -13,14 +13,7 @@ use Rattle.model.specs.Records.{is_zero}
 use Rattle.model.proofs.lists.Logic.{and_both, and_l, and_r, and_true, bool_ext}
 use Rattle.model.proofs.lists.Slices.{drop_step}
 use Rattle.layout.proofs.Tests.{regroup}
-use Rattle.layout.proofs.fields.all_zero.Statement.{statement}
-use Rattle.layout.proofs.fields.all_zero.Tie as tie
-
-abbrev invariant-loop : tie.invariant-loop
-invariant-loop bytes met₀ i₀ met i = all is_zero bytes ≡ is_zero met && all is_zero (drop i bytes)
-
-abbrev decreases-loop : tie.decreases-loop
-decreases-loop bytes met₀ i₀ met i = length bytes - i
+use Rattle.layout.proofs.fields.all_zero.Goals as goal
 
 -- gathered bits are none where neither has any
 or_none : (a b : ℕ) → is_zero (bit_or a b) ≡ is_zero a && is_zero b
@@ -37,31 +30,21 @@ or_none a b = bool_ext (is_zero (bit_or a b)) (is_zero a && is_zero b)
     let s = or_add_and a b in
     eq-eqb (bit_or a b) 0 (omega arith))
 
-loop-again : tie.Need-loop-preserved invariant-loop decreases-loop
-loop-again c =
-    let l = c.before.before.loop in
-    let b = c.before.before.before.args.bytes.now in
+pub loop-i-preserved : goal.loop-i-preserved
+loop-i-preserved c =
+    let l = c.loop-i in
+    let b = c.args.bytes.now in
     let x = get_or b l.i 0 in
-    l.invariant ∙ ap (λ d. is_zero l.met && all is_zero d) (drop_step b l.i c.before.loop-test.true)
+    l.invariant ∙ ap (λ d. is_zero l.met && all is_zero d) (drop_step b l.i c.loop-i-test.true)
     ∙ regroup (is_zero l.met) (is_zero x) (all is_zero (drop (l.i + 1) b))
     ∙ ap (λ z. z && all is_zero (drop (l.i + 1) b)) (sym (or_none l.met x))
 
-returns : tie.Need-returns invariant-loop decreases-loop
+pub returns : goal.returns
 returns c =
-    let l = c.before.loop in
-    let b = c.before.before.args.bytes.now in
-    sym (l.invariant ∙ ap (λ d. is_zero l.met && all is_zero d) (drop_of_length-le b c.loop-test.false)
+    let l = c.loop-i in
+    let b = c.args.bytes.now in
+    sym (l.invariant ∙ ap (λ d. is_zero l.met && all is_zero d) (drop_of_length-le b c.loop-i-test.false)
     ∙ and_true (is_zero l.met))
 
-pub all-zero-spec : {M : Type 1} → statement M
-all-zero-spec =
-    tie.close
-    (tie.spec
-    invariant-loop
-    decreases-loop
-    (λ c. refl)
-    (λ c. search rules)
-    (λ c. search rules)
-    (λ c. search rules)
-    loop-again
-    returns)
+pub loop-i-init : goal.loop-i-init
+loop-i-init c = refl
