@@ -1,11 +1,10 @@
 -- `fill` meets its contract: the first i bytes have the value.
-use Prim.Native.Nat.{ℕ, ◌-◌, ◌≤◌, ◌<◌}
+use Prim.Native.Nat.{ℕ, ◌<◌}
 use mathlib.Core.Path.{◌≡◌, ap, ◌∙◌}
-use mathlib.Core.List.{List, ◌++◌, append-nil}
+use mathlib.Core.List.{List, append-nil}
 use native.Mathlib.Omega.{arith}
-use lib.ListN.{length, drop, set, replicate, length-set}
+use lib.ListN.{length, set, length-set}
 use lib.Seq.{drop-length}
-use borrow.Author.Rules.{rules}
 use borrow.Author.Fill.{fill_more}
 use Rattle.fill.proofs.fill.Goals as goal
 
