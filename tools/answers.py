@@ -144,6 +144,8 @@ class Names:
                 f = 'auto'
             if f == 'last' and len(out) == 1 and out[0] in self.params:
                 f = 'new'
+            if out[0] == 'args':
+                f = norm(f)
             if out[:1] == ['type_inv'] and f == 'given' and len(out) == 2:
                 continue
             # what a call left in a lent argument, by its name

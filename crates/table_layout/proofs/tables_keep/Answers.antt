@@ -33,7 +33,7 @@ returns-then-not-in_places c = counts_off (tables c.args.locations.now c.args.ed
 -- past it, the counts are within the places
 counted : (c : Else-not-in_places) → counts_in_places (tables c.args.locations.now c.args.edges.now c.args.counts) ≡ true
 unfolding tables
-counted c = sym (tested c) ∙ c.if-not-in_places.false
+counted c = sym (ap₂ ◌&&◌ c.in_places.ensures c.in_places-2.ensures) ∙ c.if-not-in_places.false
 
 locations_fit : (c : Else-not-in_places)
     → let a = c.args in
