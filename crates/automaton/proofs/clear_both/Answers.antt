@@ -1,5 +1,4 @@
 -- `clear_both` meets its contract: each table is cleared by a call.
-use borrow.Author.Rules.{rules}
 use Rattle.automaton.proofs.clear_both.Goals as goal
 
 pub returns : goal.returns

@@ -1,6 +1,6 @@
 -- `list` meets its contract: the starting shapes are entered, and the exploration ends or finds no place.
 use borrow.Author.Rules.{rules}
-use mathlib.Core.Path.{refl, ◌∙◌}
+use mathlib.Core.Path.{refl}
 use Rattle.automaton.proofs.Listed.{all_listed, index_ready, none_left, ready_to_explore}
 use Rattle.automaton.proofs.list.Goals as goal
 
@@ -30,20 +30,18 @@ returns-in-Listed c =
     let k = d.enter_starts in
     let b = d in
     let a = b.args in
-    let g = c.counts-1.given in
     all_listed _ a.n a.m a.locations.now _ _ b.requires k.ensures k.auto.locations _ i.ensures
-    _ _ _ x.result x.ensures x.auto.locations x.auto.edges g.0.0 g.1
+    _ _ _ x.result x.ensures x.auto.locations x.auto.edges c.in-Listed.counts c.in-Listed.is
 
 pub returns-in-Full : goal.returns-in-Full
 returns-in-Full c =
     let e = c in
-    let g = c.number-1.given in
     let x = e.explore_all in
     let i = e.enter_all in
     let k = e.enter_starts in
     let b = e in
     let a = b.args in
-    let z = c.Clear-both.ensures in
+    let z = c.clear_both.ensures in
     none_left _ a.n a.m a.locations.now _ _ b.requires k.ensures k.auto.locations _ i.ensures
-    _ _ _ x.result x.ensures x.auto.locations x.auto.edges _ _ g.0.0 g.0.1.0 g.1
+    _ _ _ x.result x.ensures x.auto.locations x.auto.edges _ _ c.in-Full.number c.in-Full.place c.in-Full.is
     z.0 z.1

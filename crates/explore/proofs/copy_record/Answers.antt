@@ -4,7 +4,6 @@ use mathlib.Core.Path.{ap, ◌∙◌}
 use mathlib.Core.List.{◌++◌, append-nil}
 use native.Mathlib.Omega.{arith}
 use lib.ListN.{drop_of_length-le, length, take}
-use borrow.Author.Rules.{rules}
 use Rattle.explore.proofs.copy_record.Goals as goal
 
 pub returns : goal.returns

@@ -1,11 +1,10 @@
 -- `explore_all` meets its contract: what is left to explore from location i on gives the whole.
 use Prim.Native.Nat.{◌-◌, ◌≤◌}
-use mathlib.Core.Path.{◌≡◌, refl, ◌∙◌}
+use mathlib.Core.Path.{refl, ◌∙◌}
 use native.Mathlib.Omega.{arith}
-use lib.ListN.{length}
 use borrow.Author.Rules.{rules}
 use Rattle.model.specs.Base.{most_locations}
-use Rattle.explore.proofs.Exploration.{Explores, explores_end, explores_full, explores_next, explores_start, grown_since, most_locations_lem, next_ready}
+use Rattle.explore.proofs.Exploration.{explores_end, explores_full, explores_next, explores_start, grown_since, most_locations_lem, next_ready}
 use Rattle.explore.proofs.explore_all.Goals as goal
 use Rattle.explore.proofs.explore_all.Goals.{At-loop-i}
 

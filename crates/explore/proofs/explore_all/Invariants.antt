@@ -1,11 +1,9 @@
 -- `explore_all` meets its contract: what is left to explore from location i on gives the whole.
-use Prim.Native.Nat.{◌-◌, ◌≤◌}
-use mathlib.Core.Path.{◌≡◌, refl, ◌∙◌}
-use native.Mathlib.Omega.{arith}
+use Prim.Native.Nat.{◌-◌}
+use mathlib.Core.Path.{◌≡◌}
 use lib.ListN.{length}
-use borrow.Author.Rules.{rules}
 use Rattle.model.specs.Base.{most_locations}
-use Rattle.explore.proofs.Exploration.{Explores, explores_end, explores_full, explores_next, explores_start, grown_since, most_locations_lem, next_ready}
+use Rattle.explore.proofs.Exploration.{Explores}
 use Rattle.explore.proofs.explore_all.Given as goal
 
 abbrev pub invariant-loop-i : goal.invariant-loop-i

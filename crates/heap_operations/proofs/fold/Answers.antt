@@ -1,7 +1,6 @@
 -- `fold` meets its contract: a refusal, and the fold of an image that passes the checks.
 use mathlib.Core.Path.{◌∙◌}
 use native.Mathlib.Omega.{arith}
-use borrow.Author.Rules.{rules}
 use Rattle.heap_operations.proofs.FoldLaws.{count_visited, few_visited, fold_passed, fold_ready, fold_refused}
 use Rattle.heap_operations.proofs.fold.Goals as goal
 

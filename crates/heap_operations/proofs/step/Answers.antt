@@ -1,6 +1,5 @@
 -- `step` meets its contract: a refusal leaves all, and without one the step is taken.
 use mathlib.Core.Path.{sym, ◌∙◌}
-use borrow.Author.Rules.{rules}
 use Rattle.plain_step.proofs.StepLaws.{step_unchecked}
 use Rattle.heap_operations.proofs.step.Goals as goal
 

@@ -1,5 +1,4 @@
 -- `unfold` meets its contract: a refusal leaves all, and without one the shape is unfolded.
-use borrow.Author.Rules.{rules}
 use Rattle.heap_operations.proofs.UnfoldLaws.{unfold_ready, unfold_done, unfold_refused}
 use Rattle.heap_operations.proofs.unfold.Goals as goal
 

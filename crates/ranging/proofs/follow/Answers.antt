@@ -5,20 +5,17 @@ use mathlib.Core.Bool.{true}
 use mathlib.Core.Path.{◌≡◌, ◌∙◌, ap, refl, subst, sym}
 use native.Mathlib.Omega.{arith}
 use lib.ListN.{get_or, length}
-use borrow.Author.Rules.{rules}
-use borrow.Author.Tests.{not-false, not-true}
 use Rattle.model.specs.Layout.{keeps_layout}
-use Rattle.model.specs.Ranges.{Box, start_box}
+use Rattle.model.specs.Ranges.{start_box}
 use Rattle.model.specs.Records.{filled, record_at}
 use Rattle.model.specs.Runs.{nodes_at}
 use Rattle.model.specs.Structs.{tables_in}
 use Rattle.model.specs.Translate.{Tables}
-use Rattle.model.specs.declared.Counts.{Counts}
 use Rattle.model.proofs.records.Bytes.{record_part_lem}
 use Rattle.model.proofs.records.LayoutFacts.{layout_nodes, layout_room}
 use Rattle.range_edge.specs.OneEdge.{EdgeReady, OneFollowed}
 use Rattle.model.proofs.runs.Ranged.{asked_layout, asked_length, asked_start}
-use Rattle.ranging.specs.Follow.{FollowReady, zeros}
+use Rattle.ranging.specs.Follow.{FollowReady}
 use Rattle.ranging.proofs.Going.{Going, begin_going, goes_on, in_bytes, is_followed, is_stopped, ready, stops}
 use Rattle.ranging.proofs.Starting.{lows_read, read_filled}
 use Rattle.ranging.proofs.follow.Goals as goal

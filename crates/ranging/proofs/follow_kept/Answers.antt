@@ -1,10 +1,8 @@
 -- `follow_kept` meets its contract: no start goes on at some edge, or all edges are followed.
 use mathlib.Core.Path.{◌∙◌, refl}
-use borrow.Author.Rules.{rules}
-use Rattle.model.specs.Ranges.{Box, start_box}
+use Rattle.model.specs.Ranges.{start_box}
 use Rattle.model.specs.Runs.{nodes_at}
 use Rattle.model.specs.Structs.{tables_in}
-use Rattle.model.specs.Translate.{Tables}
 use Rattle.ranging.proofs.Outcomes.{is_done_lem, is_ended}
 use Rattle.ranging.proofs.follow_kept.Goals as goal
 

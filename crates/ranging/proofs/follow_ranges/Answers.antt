@@ -5,8 +5,6 @@ use mathlib.Core.Path.{◌≡◌, ◌∙◌, ap, refl, sym}
 use mathlib.Core.Bool.{true}
 use native.Mathlib.Omega.{arith}
 use lib.ListN.{length}
-use borrow.Author.Rules.{rules}
-use borrow.Author.Tests.{not-false, not-true}
 use Rattle.model.specs.Layout.{keeps_layout}
 use Rattle.model.specs.Ranges.{askable, first_wrong, linked_part, ranged_to, refused_at}
 use Rattle.model.specs.Runs.{nodes_at}
@@ -16,7 +14,7 @@ use Rattle.model.proofs.records.LayoutFacts.{layout_nodes, layout_room}
 use Rattle.model.proofs.runs.Ranged.{asked_layout, asked_start, ranging_unasked, ranging_unlinked, ranging_wrong}
 use Rattle.ranging.proofs.Outcomes.{follow_ready, kept_is}
 use Rattle.ranging.proofs.follow_ranges.Goals as goal
-use Rattle.ranging.proofs.follow_ranges.Goals.{After-is_askable, After-go_along-led, After-first_wrong-wrong, Else-not-is_askable, Else-led-path, Else-wrong-k}
+use Rattle.ranging.proofs.follow_ranges.Goals.{After-go_along-led, After-first_wrong-wrong, Else-not-is_askable, Else-led-path, Else-wrong-k}
 
 -- ---- what can be asked
 

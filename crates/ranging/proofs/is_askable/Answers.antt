@@ -3,8 +3,6 @@ use mathlib.Core.Path.{◌∙◌, ap, sym}
 use mathlib.Core.Bool.{◌&&◌}
 use lib.Dec.{leb, ltb}
 use lib.ListN.{length}
-use borrow.Author.Rules.{rules}
-use borrow.Author.Tests.{not-false, not-true}
 use Rattle.ranging.proofs.is_askable.Goals as goal
 
 pub returns-then-not-tables_keep : goal.returns-then-not-tables_keep

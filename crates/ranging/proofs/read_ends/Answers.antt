@@ -1,9 +1,9 @@
 -- `read_ends` meets its contract: the ends of the first i ranges are put.
-use Prim.Native.Nat.{ℕ, ◌+◌, ◌-◌, ◌<◌, ◌≤◌}
+use Prim.Native.Nat.{◌+◌, ◌-◌, ◌<◌}
 use mathlib.Core.Path.{◌≡◌, ◌∙◌, ap, refl, sym}
-use mathlib.Core.List.{List, ◌++◌, map}
+use mathlib.Core.List.{◌++◌, map}
 use native.Mathlib.Omega.{arith}
-use lib.ListN.{drop, get_or, length, length-set, take}
+use lib.ListN.{drop, get_or, length-set, take}
 use lib.Seq.{take_all}
 use borrow.Author.Rules.{rules}
 use Rattle.model.specs.Base.{numbers}

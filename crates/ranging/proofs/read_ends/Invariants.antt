@@ -1,14 +1,9 @@
 -- `read_ends` meets its contract: the ends of the first i ranges are put.
-use Prim.Native.Nat.{ℕ, ◌+◌, ◌-◌, ◌<◌, ◌≤◌}
-use mathlib.Core.Path.{◌≡◌, ◌∙◌, ap, refl, sym}
+use Prim.Native.Nat.{ℕ, ◌+◌, ◌-◌, ◌≤◌}
+use mathlib.Core.Path.{◌≡◌}
 use mathlib.Core.List.{List, ◌++◌, map}
-use native.Mathlib.Omega.{arith}
-use lib.ListN.{drop, get_or, length, length-set, take}
-use lib.Seq.{take_all}
-use borrow.Author.Rules.{rules}
+use lib.ListN.{drop, get_or, length, take}
 use Rattle.model.specs.Base.{numbers}
-use Rattle.model.proofs.lists.Numbers.{at_number, length_numbers}
-use Rattle.model.proofs.lists.Slices.{map_fill}
 use Rattle.ranging.proofs.read_ends.Given as goal
 
 -- the end given for counter i
