@@ -140,8 +140,14 @@ class Names:
             # a variable of that name, which the port took for a word of the check's
             if f == 'auto' and len(out) == 1 and 'kept' in self.vars.get(out[0], []):
                 f = 'kept'
+            if f == 'kept' and len(out) == 1 and out[0] in self.params:
+                f = 'auto'
+            if f == 'inv' and out[0] in self.vars:
+                f = 'invariant'
             if f == 'last' and len(out) == 1 and out[0] in self.params:
                 f = 'new'
+            if out[0] == 'args':
+                f = norm(f)
             if out[:1] == ['type_inv'] and f == 'given' and len(out) == 2:
                 continue
             # what a call left in a lent argument, by its name
@@ -280,7 +286,7 @@ def turn(crate, fn, path, entry):
                 else:
                     fields[a] = 'l.' + now[i - len(vs)]
             rhs = rest[mm.end():]
-            rhs = re.sub(r"(?<![\w.'-])[\w'₀₁₂₃₄₅₆₇₈₉]+(?![\w'₀₁₂₃₄₅₆₇₈₉-])", lambda q: fields.get(q.group(0), q.group(0)), rhs)
+            rhs = re.sub(r"(?<![\w.'-])[\w'₀₁₂₃₄₅₆₇₈₉]+(?![\w'₀₁₂₃₄₅₆₇₈₉-])(?! = )", lambda q: fields.get(q.group(0), q.group(0)), rhs)
             cs = [l for l in lines if l.startswith('--')]
             invs.append('\n'.join(cs + [f'abbrev pub {word} : goal.{word}', f'{word} l ={rhs}']))
             made_up[name] = word
@@ -388,6 +394,10 @@ def turn(crate, fn, path, entry):
         cs = [l for l in body.split('\n') if l.startswith('--')]
         b = '\n'.join(l for l in body.split('\n') if not l.startswith('--'))
         first = re.match(r'.*?:\s+tie\.Need-\S+[^\n]*(?:\n(?!' + re.escape(name) + r'[ ]|unfolding )[^\n]*)*\n', b)
+        if not first:
+            said.append(f'{path}: {name} by hand')
+            out.append(names.body(body))
+            continue
         clauses = b[first.end():]
         clauses = re.sub(r'^' + re.escape(name) + r'(?=\s)', to, clauses, flags=re.M)
         clauses = shared(names.body(clauses), to)

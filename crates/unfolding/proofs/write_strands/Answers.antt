@@ -3,10 +3,8 @@ use Prim.Native.Nat.{◌+◌, ◌-◌, ◌<◌, ◌≤◌}
 use mathlib.Core.Path.{◌≡◌, sym, ap, ◌∙◌}
 use mathlib.Core.List.{◌++◌, append-nil}
 use native.Mathlib.Omega.{arith}
-use lib.ListN.{drop, get_or, length, take}
-use borrow.Author.Rules.{rules}
-use Rattle.model.specs.Base.{sum}
-use Rattle.unfolding.specs.Bytes.{placed_byte, strand_bytes, strands_bytes}
+use lib.ListN.{get_or, length, take}
+use Rattle.unfolding.specs.Bytes.{placed_byte, strand_bytes}
 use Rattle.model.proofs.lists.Loops.{sum_end, sum_step}
 use Rattle.unfolding.proofs.Steps.{node_room, strands_end, strands_push}
 use Rattle.unfolding.proofs.write_strands.Goals as goal
@@ -19,7 +17,7 @@ write_strand-requires c =
     let l = c.loop-n in
     let a = c in
     let r = node_room a.args.counters.now l.n l.at (length a.args.cells.now) (omega arith)
-    a.requires.successors_len.1 l.invariant.2 a.requires.counters_in_bounds.0 in
+    a.requires.filled.1 l.invariant.2 a.requires.room.0 in
     (r.0, omega arith, omega arith)
 
 pub overflow_add-at : goal.overflow_add-at
@@ -53,5 +51,8 @@ returns c =
     let a = c.args in
     let t = a.counters.now in
     let g : length t ≤ l.n = omega arith in
-    let e = strands_end a.firsts.now a.successors.now t l.at l.n (omega arith) in record { count = omega (arith, sum_end t l.n g); bytes = sym (append-nil (take l.at l.cells))
-          ∙ ap (λ r. take l.at l.cells ++ r) (sym e) ∙ l.invariant.3 }
+    let e = strands_end a.firsts.now a.successors.now t l.at l.n (omega arith) in record {
+      count = omega (arith, sum_end t l.n g);
+      bytes = sym (append-nil (take l.at l.cells))
+          ∙ ap (λ r. take l.at l.cells ++ r) (sym e) ∙ l.invariant.3;
+    }
