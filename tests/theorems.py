@@ -175,10 +175,13 @@ def untrue(modules):
         run = subprocess.run(['rt', 'all', 'check'], cwd=scratch, stdout=subprocess.PIPE, stderr=subprocess.STDOUT)
     # what is said of each crate, under a line '== NAME', and at the end how each did
     *said, summary = re.split(r'^== ', run.stdout.decode(), flags=re.M)
-    bad = {name: re.findall(r'^\./proofs/Compared\.antt:\S* error: `c(\d+)`', text, re.M) for name, _, text in (s.partition('\n') for s in said)}
+    errors = {name: re.findall(r'^\S+:\d+:\d+: error: (.*)', text, re.M) for name, _, text in (s.partition('\n') for s in said)}
+    bad = {name: [m[1] for text in texts if (m := re.match(r'`c(\d+)`: ', text))] for name, texts in errors.items()}
     proved = {name for name in bad if '\n%s: ok\n' % name in summary}
     names = {'model', *map('compared%d'.__mod__, range(len(modules)))}
-    if names - proved != {name for name in bad if bad[name]} or bool(run.returncode) != any(bad.values()):
+    # where there is another error, the theorems that need what it is about are not looked at
+    other = any(len(bad[name]) < len(errors[name]) for name in bad)
+    if other or names - proved != {name for name in bad if bad[name]} or bool(run.returncode) != any(bad.values()):
         print(run.stdout.decode()[-3000:])
         return None
     return sorted({int(number) for numbers in bad.values() for number in numbers})
