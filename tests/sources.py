@@ -23,8 +23,8 @@ COMMENT = {"antt": r"--(?= |$).*", "rt": r"//.*", "rs": r"//.*", "c": r"/\*[\s\S
 
 def files():
     for folder, inner, names in os.walk(ROOT):
-        made = os.path.dirname(folder) == str(ROOT / "crates") and {"out"} or set()
-        inner[:] = [name for name in inner if name not in {"target", ".git", "__pycache__"} | made]
+        in_crate = os.path.dirname(folder) == str(ROOT / "crates")
+        inner[:] = [name for name in inner if name not in ("target", ".git", "__pycache__") and not (in_crate and name == "out")]
         yield from (os.path.relpath(os.path.join(folder, name), ROOT) for name in inner + names)
 
 
