@@ -2,11 +2,11 @@
 // output.
 #![tactic(auto)]
 
-ghost use Rattle.std.specs.Prelude.{◌≡◌, ◌≤◌, length, take};
+ghost use Rattle.std.specs.Prelude.{◌≡◌, ◌≤◌, IfOk, length, take};
 ghost use Rattle.io.specs.Counts.{IsPrefixLen};
 ghost use Rattle.translate.specs.Printed.{printed};
 
-use libc::{STDIN_FILENO, STDOUT_FILENO};
+use std::io::{Read, Result};
 
 // A table for 1,024 locations.
 fn location_table() -> [u8; 32768]
@@ -34,10 +34,25 @@ fn write_answer(input: &[u8], n: usize, text: &mut [u8]) -> usize
     text::write_outcome(outcome, &locations, &edges, text)
 }
 
-fn main() {
+// Reads until the buffer is full or the input ends, however few bytes each read gives; answers how many.
+fn read_full<R: Read>(from: &mut R, buffer: &mut [u8]) -> Result<usize>
+    ensures { IfOk result (λ n. IsPrefixLen n buffer.new) }
+{
+    let mut done = 0;
+    while done < buffer.len() {
+        let n = from.read(&mut buffer[done..])?;
+        if n == 0 {
+            break;
+        }
+        done += n;
+    }
+    Ok(done)
+}
+
+fn main(rt: HostRuntime) -> Result<()> {
     let mut input = io::buffer();
     let mut text = text_room();
-    let n = io::read_full(STDIN_FILENO, &mut input);
+    let n = read_full(&mut rt.stdin(), &mut input)?;
     let end = write_answer(&input, n, &mut text);
-    io::write_all(STDOUT_FILENO, &text[..end]);
+    rt.stdout().write_all(&text[..end])
 }
