@@ -280,7 +280,7 @@ def turn(crate, fn, path, entry):
                 else:
                     fields[a] = 'l.' + now[i - len(vs)]
             rhs = rest[mm.end():]
-            rhs = re.sub(r"(?<![\w.'-])[\w'₀₁₂₃₄₅₆₇₈₉]+(?![\w'₀₁₂₃₄₅₆₇₈₉-])", lambda q: fields.get(q.group(0), q.group(0)), rhs)
+            rhs = re.sub(r"(?<![\w.'-])[\w'₀₁₂₃₄₅₆₇₈₉]+(?![\w'₀₁₂₃₄₅₆₇₈₉-])(?! = )", lambda q: fields.get(q.group(0), q.group(0)), rhs)
             cs = [l for l in lines if l.startswith('--')]
             invs.append('\n'.join(cs + [f'abbrev pub {word} : goal.{word}', f'{word} l ={rhs}']))
             made_up[name] = word

@@ -1,6 +1,6 @@
 -- 01, "Shelf cases": the cases marked P, P11 as 02 has it, and cases R of relinks and D of drops, made for 02, as one
 -- table of inputs and outputs. Assumes nothing.
-use Rattle.std.specs.Prelude.{ℕ, zero, suc, ◌+◌, ◌*◌, ◌/◌, ◌%◌, ◌^◌, Bool, true, false, ◌&&◌, List, [], ◌∷◌, ◌++◌, map, eqb}
+use Rattle.std.specs.Prelude.{ℕ, zero, suc, ◌*◌, ◌/◌, ◌%◌, ◌^◌, Bool, true, false, ◌&&◌, List, [], ◌∷◌, ◌++◌, map, eqb}
 use Rattle.model.specs.Base.{same_list, numbers, joined}
 use Rattle.model.specs.Records.{Verdict, is_accepted, is_refused, record_at}
 use Rattle.model.specs.Translate.{Tables, translate}

@@ -1,6 +1,6 @@
 -- 01, "Records", heap images: folding, unfolding and the plain step on bytes, each with its whole outcome. Assumes
 -- nothing.
-use Rattle.std.specs.Prelude.{ℕ, zero, suc, ◌-◌, ◌+◌, Bool, false, ◌&&◌, cond, not, List, [], ◌∷◌, ◌++◌, map, eqb, leb, length, take, drop, replicate}
+use Rattle.std.specs.Prelude.{ℕ, zero, suc, ◌-◌, ◌+◌, Bool, ◌&&◌, cond, not, List, [], ◌∷◌, ◌++◌, map, eqb, leb, length, take, drop, replicate}
 use Rattle.model.specs.Base.{all, sum, most_cells, most_nodes, most_statements, pointer_count, record_size}
 use Rattle.model.specs.Heap.{Val, cell, null, undef, Slot, unused, holds, Heap, closed, kept}
 use Rattle.model.specs.Shape.{shape, counters}

@@ -4,11 +4,10 @@
 use Rattle.std.specs.Prelude.{◌%◌, ◌/◌, ◌<◌, ◌≤◌, suc, zero, ℕ, ◌≡◌, ◌↔◌, ◌⊎◌, Bool, ◌&&◌, ◌||◌, cond, false, not, true, List, [], ◌++◌, ◌∷◌, map, eqb, get_or, length, replicate, take}
 use Rattle.model.specs.Base.{any, count, joined, numbers, place_of, most_nodes, most_shapes, most_statements, pointer_count, record_size}
 use Rattle.model.specs.Edges.{Edge, Loc, at, edges_of, failed, same_loc}
-use Rattle.model.specs.Heap.{Heap, Slot, Val, cell, holds, null, order, undef, unused}
+use Rattle.model.specs.Heap.{Heap, Slot, Val, cell, holds, null, undef, unused}
 use Rattle.model.specs.Machine.{Op, Stmt, choose, clear, copy, free, is_null, leak, let_go, load, new, same, set_null, relink, skip, stop, store}
 use Rattle.model.specs.Records.{Refusal, Row, checks_record, failed_node, first_failed, is_accepted, is_h, is_s, loc_record, refusal, refusal_at, uses_first, uses_second}
 use Rattle.model.specs.Part.{meant, part_bytes, record_part}
-use Rattle.model.specs.Runs.{added}
 use Rattle.model.specs.Translate.{Link, Listing, Routine, Tables, add_edges, between, chunks, explore, full, grown, link_record, listed, routine_of}
 use Rattle.model.specs.Notions.{Distinct, In, Canon}
 

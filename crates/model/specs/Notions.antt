@@ -4,7 +4,7 @@ use Rattle.std.specs.Prelude.{◌+◌, ◌-◌, ◌<◌, ◌≤◌, ℕ, ◌≡�
 use Rattle.model.specs.Image.{StepAnswer, no_step, to_fault, to_next, to_stop}
 use Rattle.model.specs.Base.{mem, sum, numbers, all}
 use Rattle.model.specs.Edges.{Edge, Guard, Loc, Test, Update, View, at, failed, is_more, is_one, no_node, one_node, two_nodes}
-use Rattle.model.specs.Heap.{Heap, IsHeap, Slot, Val, cell, closed, holds, next, null, order, ptr, undef, unused}
+use Rattle.model.specs.Heap.{Heap, IsHeap, Slot, Val, cell, holds, next, null, order, ptr, undef, unused}
 use Rattle.model.specs.Machine.{Action, Effect, Fault, Op, at_null, at_undef, choose, clear, done, fault, free, load, makes, put_slot, relink, stop, store}
 use Rattle.model.specs.Records.{Row, Verdict, is_accepted, is_refused, refusal_at}
 use Rattle.model.specs.Shape.{Seg, cells, core, segments, size}

@@ -6,7 +6,7 @@ use Rattle.model.specs.Base.{all, most_nodes}
 use Rattle.model.specs.Image.{counters_of}
 use Rattle.model.specs.Layout.{keeps_layout}
 use Rattle.model.specs.Records.{filled}
-use Rattle.model.specs.Runs.{Advance, Config, move_of, nodes_at}
+use Rattle.model.specs.Runs.{Config, move_of, nodes_at}
 use Rattle.model.specs.Translate.{Tables}
 use Rattle.model.specs.declared.Configuration.{Configuration}
 use Rattle.model.specs.declared.Moved.{Moved}

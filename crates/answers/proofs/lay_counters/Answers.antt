@@ -1,9 +1,8 @@
 -- `lay_counters` meets its contract: after i turns the first i elements are laid.
-use Prim.Native.Nat.{◌≤◌, ◌-◌, min}
+use Prim.Native.Nat.{◌-◌, min}
 use mathlib.Core.Path.{◌≡◌, ap, ◌∙◌}
 use native.Mathlib.Omega.{arith}
 use lib.ListN.{length, get_or, set, length-set}
-use borrow.Author.Rules.{rules}
 use Rattle.model.proofs.lists.Slices.{copy_turn}
 use Rattle.answers.proofs.Laying.{laid, laid_over}
 use Rattle.answers.proofs.lay_counters.Goals as goal

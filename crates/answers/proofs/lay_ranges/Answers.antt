@@ -1,5 +1,4 @@
 -- `lay_ranges` meets its contract: nothing to tell leaves the list.
-use borrow.Author.Rules.{rules}
 use borrow.Author.Tests.{eq-eqb, ne_eqb}
 use Rattle.answers.proofs.lay_ranges.Goals as goal
 

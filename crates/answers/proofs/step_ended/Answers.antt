@@ -1,6 +1,4 @@
 -- `step_ended` meets its contract: only a refusal is one.
-use borrow.Author.Rules.{rules}
-use mathlib.Core.Path.{◌≡◌}
 use Rattle.model.specs.declared.Stepped.TheVariants as stepped
 use Rattle.answers.proofs.step_ended.Goals as goal
 

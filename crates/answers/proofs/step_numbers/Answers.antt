@@ -1,6 +1,4 @@
 -- `step_numbers` meets its contract: the numbers of each case.
-use borrow.Author.Rules.{rules}
-use mathlib.Core.Path.{◌≡◌}
 use Rattle.model.specs.declared.Stepped.TheVariants as stepped
 use Rattle.answers.proofs.step_numbers.Goals as goal
 

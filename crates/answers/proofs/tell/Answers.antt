@@ -1,7 +1,6 @@
 -- `tell` meets its contract: one number after the other.
 use mathlib.Core.Path.{ap, ◌∙◌}
 use lib.ListN.{set}
-use borrow.Author.Rules.{rules}
 use Rattle.answers.proofs.tell.Goals as goal
 
 pub returns : goal.returns

@@ -1,7 +1,6 @@
 -- `tell_one` meets its contract: past the end nothing is set.
 use mathlib.Core.Path.{sym}
 use lib.Seq.{set_out}
-use borrow.Author.Rules.{rules}
 use Rattle.answers.proofs.tell_one.Goals as goal
 
 pub returns-else-i-answer : goal.returns-else-i-answer

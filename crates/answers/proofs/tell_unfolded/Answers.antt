@@ -1,6 +1,5 @@
 -- `tell_unfolded` meets its contract: zeros for none, and what a refusal says.
 use mathlib.Core.Path.{◌≡◌, ap, sym}
-use borrow.Author.Rules.{rules}
 use Rattle.model.specs.Answers.{refusal_of, unfolded_verdict}
 use Rattle.model.specs.declared.Unfolded.{Unfolded}
 use Rattle.model.specs.declared.Unfolded.TheVariants as unfolded

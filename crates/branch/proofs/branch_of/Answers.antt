@@ -1,7 +1,6 @@
 -- `branch_of` meets its contract: each arm is the branch of its op.
 use Prim.Native.Nat.{◌<◌}
 use mathlib.Core.Path.{◌≡◌, sym}
-use native.Mathlib.Omega.{arith}
 use lib.ListN.{length}
 use Rattle.branch.proofs.Bytes.{ptr_byte}
 use Rattle.branch.proofs.Ops.{straight}

@@ -1,10 +1,7 @@
 -- `canonical::first_below` meets its contract: the place found is the first of those left. Assumes nothing.
-use Prim.Native.Nat.{◌-◌, ◌<◌, ◌≤◌}
-use native.Mathlib.Omega.{arith}
-use borrow.Author.Rules.{rules}
-use borrow.Author.Tests.{le-ltb, lt-ltb}
+use Prim.Native.Nat.{◌-◌, ◌≤◌}
 use Rattle.model.specs.Base.{numbers, place_of}
-use Rattle.model.proofs.lists.Finding.{Found, found_here, found_later, found_none, found_start}
+use Rattle.model.proofs.lists.Finding.{Found}
 use Rattle.canonical.proofs.Finding.{below}
 use Rattle.canonical.proofs.first_below.Given as goal
 

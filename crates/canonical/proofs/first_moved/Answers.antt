@@ -1,12 +1,11 @@
 -- `canonical::first_moved` meets its contract: the place found is the first of those left. Assumes nothing.
-use Prim.Native.Nat.{◌-◌, ◌<◌, ◌≤◌}
+use Prim.Native.Nat.{◌-◌, ◌<◌}
 use native.Mathlib.Omega.{arith}
 use mathlib.Core.Path.{ap}
 use mathlib.Core.Bool.{not}
 use borrow.Author.Rules.{rules}
 use borrow.Author.Tests.{eq-eqb, ne_eqb}
-use Rattle.model.specs.Base.{numbers, place_of}
-use Rattle.model.proofs.lists.Finding.{Found, found_here, found_later, found_none, found_start}
+use Rattle.model.proofs.lists.Finding.{found_here, found_later, found_none, found_start}
 use Rattle.canonical.proofs.Finding.{moved}
 use Rattle.canonical.proofs.first_moved.Goals as goal
 

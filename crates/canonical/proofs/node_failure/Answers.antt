@@ -3,7 +3,6 @@
 use Prim.Native.Nat.{◌≤◌}
 use native.Mathlib.Omega.{arith}
 use lib.ListN.{length, get_or-replicate}
-use borrow.Author.Rules.{rules}
 use Rattle.canonical.proofs.NodeLaws.{tells_inner, tells_lost, tells_moved, tells_none}
 use Rattle.canonical.proofs.node_failure.Goals as goal
 

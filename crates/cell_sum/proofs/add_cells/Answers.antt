@@ -1,6 +1,6 @@
 -- `cell_sum::add_cells` meets its contract: after i cells each entry has grown by what those of its node add, and is at
 -- most 4096 for each.
-use Prim.Native.Nat.{◌+◌, ◌-◌, ◌<◌, ◌≤◌}
+use Prim.Native.Nat.{◌+◌, ◌-◌, ◌<◌}
 use mathlib.Core.Path.{◌≡◌, refl, ap, ◌∙◌}
 use native.Mathlib.Omega.{arith}
 use lib.ListN.{get_or, length, length-set, set}
@@ -8,7 +8,7 @@ use lib.Seq.{take_all}
 use borrow.Author.Rules.{rules}
 use Rattle.model.proofs.lists.Lists.{mem_at}
 use Rattle.cell_sum.specs.Codes.{plus_in, sum_at}
-use Rattle.cell_sum.proofs.Sums.{Added, added_more, added_none}
+use Rattle.cell_sum.proofs.Sums.{added_more, added_none}
 use Rattle.cell_sum.proofs.add_cells.Goals as goal
 use Rattle.cell_sum.proofs.add_cells.Goals.{After-node_of-n}
 

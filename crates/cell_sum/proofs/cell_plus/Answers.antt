@@ -1,7 +1,6 @@
 -- `cell_sum::cell_plus` meets its contract: each answer is the case of the weight that the tests say.
 use mathlib.Core.Path.{refl}
 use native.Mathlib.Omega.{arith}
-use borrow.Author.Rules.{rules}
 use borrow.Author.Tests.{eq-eqb, ne_eqb}
 use Rattle.cell_sum.proofs.cell_plus.Goals as goal
 

@@ -1,12 +1,11 @@
 -- `cell_sum::clear_updates` meets its contract: the first i entries are 4096.
-use Prim.Native.Nat.{◌-◌, ◌≤◌}
+use Prim.Native.Nat.{◌-◌}
 use mathlib.Core.List.{◌++◌, append-nil}
 use mathlib.Core.Path.{◌≡◌, refl, ap, ◌∙◌}
 use native.Mathlib.Omega.{arith}
 use lib.ListN.{drop, length, length-set, replicate, set}
 use lib.Seq.{drop-length}
 use borrow.Author.Fill.{fill_more}
-use borrow.Author.Rules.{rules}
 use Rattle.cell_sum.proofs.clear_updates.Goals as goal
 
 pub loop-i-preserved : goal.loop-i-preserved

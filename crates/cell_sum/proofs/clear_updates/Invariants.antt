@@ -1,12 +1,8 @@
 -- `cell_sum::clear_updates` meets its contract: the first i entries are 4096.
 use Prim.Native.Nat.{◌-◌, ◌≤◌}
-use mathlib.Core.List.{◌++◌, append-nil}
-use mathlib.Core.Path.{◌≡◌, refl, ap, ◌∙◌}
-use native.Mathlib.Omega.{arith}
-use lib.ListN.{drop, length, length-set, replicate, set}
-use lib.Seq.{drop-length}
-use borrow.Author.Fill.{fill_more}
-use borrow.Author.Rules.{rules}
+use mathlib.Core.List.{◌++◌}
+use mathlib.Core.Path.{◌≡◌}
+use lib.ListN.{drop, length, replicate}
 use Rattle.cell_sum.proofs.clear_updates.Given as goal
 
 abbrev pub invariant-loop-i : goal.invariant-loop-i

@@ -3,7 +3,6 @@ use Prim.Native.Nat.{◌+◌}
 use mathlib.Core.Path.{◌≡◌, ap, ◌∙◌}
 use native.Mathlib.Omega.{arith}
 use lib.ListN.{get_or, length}
-use borrow.Author.Rules.{rules}
 use Rattle.cell_sum.specs.Codes.{plus_in, sum_at}
 use Rattle.cell_sum.proofs.Sums.{base_most, ready_same}
 use Rattle.cell_sum.proofs.sum_cells.Goals as goal

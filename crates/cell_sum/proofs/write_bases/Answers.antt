@@ -2,7 +2,6 @@
 use mathlib.Core.Path.{◌≡◌, ap, ap₂, ◌∙◌}
 use native.Mathlib.Omega.{arith}
 use lib.ListN.{get_or, get_or-replicate, length, replicate, set}
-use borrow.Author.Rules.{rules}
 use Rattle.cell_sum.proofs.Sums.{bases}
 use Rattle.cell_sum.proofs.write_bases.Goals as goal
 

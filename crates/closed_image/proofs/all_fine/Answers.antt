@@ -1,7 +1,7 @@
 -- `closed_image::all_fine` meets its contract. The whole test gives what was fine so far and what is left of the test
 -- gives. Assumes nothing.
 use Prim.Native.Nat.{ℕ, ◌-◌, ◌+◌, ◌<◌}
-use mathlib.Core.Path.{◌≡◌, refl, sym, ap, ◌∙◌}
+use mathlib.Core.Path.{refl, sym, ap, ◌∙◌}
 use mathlib.Core.Bool.{Bool, false, ◌&&◌}
 use lib.ListN.{drop, get_or, length}
 use borrow.Author.Rules.{rules}

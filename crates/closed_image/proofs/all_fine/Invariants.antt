@@ -1,12 +1,10 @@
 -- `closed_image::all_fine` meets its contract. The whole test gives what was fine so far and what is left of the test
 -- gives. Assumes nothing.
-use Prim.Native.Nat.{ℕ, ◌-◌, ◌+◌, ◌<◌}
-use mathlib.Core.Path.{◌≡◌, refl, sym, ap, ◌∙◌}
-use mathlib.Core.Bool.{Bool, false, ◌&&◌}
+use Prim.Native.Nat.{◌-◌}
+use mathlib.Core.Path.{◌≡◌}
+use mathlib.Core.Bool.{false, ◌&&◌}
 use lib.ListN.{drop, get_or, length}
-use borrow.Author.Rules.{rules}
 use Rattle.model.specs.Base.{all}
-use Rattle.closed_image.proofs.Fine.{pass_end, pass_more}
 use Rattle.closed_image.proofs.all_fine.Given as goal
 
 abbrev pub invariant-loop-i : goal.invariant-loop-i

@@ -1,6 +1,5 @@
 -- `closed_image::cells_named` meets its contract: the three bytes that stand for no cell are fine. Assumes nothing.
 use mathlib.Core.Path.{refl}
-use borrow.Author.Rules.{rules}
 use Rattle.closed_image.proofs.Fine.{cells_fine}
 use Rattle.closed_image.proofs.cells_named.Goals as goal
 

@@ -2,7 +2,6 @@
 use mathlib.Core.Path.{ap, sym, ◌∙◌}
 use mathlib.Core.Bool.{◌&&◌}
 use mathlib.Core.List.{map}
-use borrow.Author.Rules.{rules}
 use Rattle.model.specs.Base.{all}
 use Rattle.model.specs.Heap.{slot_named}
 use Rattle.model.specs.Image.{cell_slot}

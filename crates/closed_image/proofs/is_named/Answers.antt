@@ -1,6 +1,5 @@
 -- `closed_image::is_named` meets its contract, test by test. Assumes nothing.
 use mathlib.Core.Path.{sym}
-use borrow.Author.Rules.{rules}
 use borrow.Author.Tests.{eq-eqb, ne_eqb}
 use Rattle.closed_image.proofs.ByteLaws.{named_in, named_past}
 use Rattle.closed_image.proofs.is_named.Goals as goal

@@ -1,16 +1,12 @@
 -- `closed_image::pointers_named` meets its contract. What is left of the test is what the whole test gives. Assumes
 -- nothing.
-use Prim.Native.Nat.{◌-◌, ◌<◌}
-use mathlib.Core.Path.{◌≡◌, sym, ◌∙◌}
+use Prim.Native.Nat.{◌-◌}
+use mathlib.Core.Path.{◌≡◌}
 use mathlib.Core.List.{map}
 use lib.ListN.{length, drop}
-use borrow.Author.Rules.{rules}
-use borrow.Author.Tests.{not-false, not-true}
 use Rattle.model.specs.Base.{all}
 use Rattle.model.specs.Heap.{named}
 use Rattle.model.specs.Records.{val_of}
-use Rattle.model.proofs.lists.Loops.{test_end, test_fail, test_pass}
-use Rattle.model.proofs.lists.Slices.{map_end, map_step}
 use Rattle.visit.specs.Steps.{slot_at}
 use Rattle.closed_image.proofs.pointers_named.Given as goal
 

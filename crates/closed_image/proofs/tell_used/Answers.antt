@@ -1,9 +1,8 @@
 -- `closed_image::tell_used` meets its contract: the first i cells are told. Assumes nothing.
-use Prim.Native.Nat.{◌-◌, ◌<◌, ◌≤◌}
-use mathlib.Core.Path.{◌≡◌, sym}
-use mathlib.Core.List.{◌++◌, map}
+use Prim.Native.Nat.{◌-◌, ◌<◌}
+use mathlib.Core.Path.{sym}
 use native.Mathlib.Omega.{arith}
-use lib.ListN.{drop, get_or, length, length-set, take}
+use lib.ListN.{get_or, length, length-set}
 use borrow.Author.Rules.{rules}
 use Rattle.model.proofs.lists.Slices.{map_fill}
 use Rattle.closed_image.proofs.ByteLaws.{used_byte}

@@ -1,13 +1,9 @@
 -- `closed_image::tell_used` meets its contract: the first i cells are told. Assumes nothing.
-use Prim.Native.Nat.{◌-◌, ◌<◌, ◌≤◌}
-use mathlib.Core.Path.{◌≡◌, sym}
+use Prim.Native.Nat.{◌-◌, ◌≤◌}
+use mathlib.Core.Path.{◌≡◌}
 use mathlib.Core.List.{◌++◌, map}
-use native.Mathlib.Omega.{arith}
-use lib.ListN.{drop, get_or, length, length-set, take}
-use borrow.Author.Rules.{rules}
-use Rattle.model.proofs.lists.Slices.{map_fill}
-use Rattle.closed_image.proofs.ByteLaws.{used_byte}
-use Rattle.closed_image.proofs.Fine.{told_all, used_cell}
+use lib.ListN.{drop, length, take}
+use Rattle.closed_image.proofs.Fine.{used_cell}
 use Rattle.closed_image.proofs.tell_used.Given as goal
 
 abbrev pub invariant-loop-i : goal.invariant-loop-i

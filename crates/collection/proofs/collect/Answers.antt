@@ -1,9 +1,8 @@
 -- `collect` meets its contract. The invariant: the cells that are done, and what the rest becomes, are the whole.
 use Prim.Native.Nat.{◌-◌, ◌+◌, ◌<◌, ℕ}
-use mathlib.Core.Path.{◌≡◌, ◌∙◌, ap, sym}
+use mathlib.Core.Path.{◌∙◌, ap, sym}
 use lib.ListN.{length, length-set, set}
 use borrow.Author.Rules.{rules}
-use Rattle.collection.specs.Left.{left_bytes}
 use Rattle.collection.proofs.Loop.{done_to, done_all, done_more}
 use Rattle.collection.proofs.collect.Goals as goal
 

@@ -1,10 +1,9 @@
 -- `collect` meets its contract. The invariant: the cells that are done, and what the rest becomes, are the whole.
-use Prim.Native.Nat.{◌-◌, ◌+◌, ◌<◌, ℕ}
-use mathlib.Core.Path.{◌≡◌, ◌∙◌, ap, sym}
-use lib.ListN.{length, length-set, set}
-use borrow.Author.Rules.{rules}
+use Prim.Native.Nat.{◌-◌}
+use mathlib.Core.Path.{◌≡◌}
+use lib.ListN.{length}
 use Rattle.collection.specs.Left.{left_bytes}
-use Rattle.collection.proofs.Loop.{done_to, done_all, done_more}
+use Rattle.collection.proofs.Loop.{done_to}
 use Rattle.collection.proofs.collect.Given as goal
 
 abbrev pub invariant-loop-i : goal.invariant-loop-i

@@ -1,8 +1,6 @@
 -- `counters_fit` meets its contract: how many there are, those of the nodes, and their sum.
-use mathlib.Core.Path.{◌≡◌}
 use mathlib.Core.Bool.{◌&&◌}
 use lib.Dec.{leb}
-use borrow.Author.Rules.{rules}
 use borrow.Author.Tests.{eq-eqb, ne_eqb}
 use Rattle.counters.proofs.counters_fit.Goals as goal
 

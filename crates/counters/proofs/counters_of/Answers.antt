@@ -5,7 +5,6 @@ use native.Mathlib.Omega.{arith}
 use lib.Dec.{eqb}
 use lib.ListN.{drop}
 use lib.Seq.{length-take-le}
-use borrow.Author.Rules.{rules}
 use Rattle.model.specs.Base.{sum}
 use Rattle.model.proofs.lists.Slices.{part_from}
 use Rattle.counters.proofs.Zeros.{zero_sum}

@@ -1,11 +1,8 @@
 -- `total` meets its contract: the sum so far and the counters from i on make the whole sum.
 use Prim.Native.Nat.{◌+◌, ◌*◌, ◌-◌, ◌≤◌}
 use mathlib.Core.Path.{◌≡◌}
-use native.Mathlib.Omega.{arith}
 use lib.ListN.{drop, length}
-use borrow.Author.Rules.{rules}
 use Rattle.model.specs.Base.{sum}
-use Rattle.model.proofs.lists.Loops.{sum_end, sum_step}
 use Rattle.counters.proofs.total.Given as goal
 
 abbrev pub invariant-loop-i : goal.invariant-loop-i

@@ -1,10 +1,9 @@
 -- `edge_keeps` meets its contract: the ends are looked at first, so that their records can be read.
-use Prim.Native.Nat.{◌+◌, ◌*◌, ◌≤◌, ◌<◌}
+use Prim.Native.Nat.{◌<◌}
 use mathlib.Core.Path.{◌≡◌, ◌∙◌, ap, ap₂, sym}
 use mathlib.Core.Bool.{true, false, ◌||◌}
 use native.Mathlib.Omega.{arith}
 use lib.Dec.{leb}
-use borrow.Author.Rules.{rules}
 use borrow.Author.Tests.{leb-false}
 use Rattle.model.specs.Layout.{edge_keeps}
 use Rattle.model.specs.Records.{byte, record_at, word}
@@ -67,6 +66,6 @@ returns c =
     let to = d.two-to in
     let ks = c.nodes_at.ensures ∙ ap (λ i. byte (record_at l i) 3) from.ensures in
     let kt = c.nodes_at-2.ensures ∙ ap (λ i. byte (record_at l i) 3) to.ensures in
-    c.Fields-keep.ensures a.count
+    c.fields_keep.ensures a.count
     (ends_on a.count 0 0 r (sym (tested (goal.at.returns c).After-two-to) ∙ d.if-count-from.false))
     ∙ ap₂ (λ x y. edge_keeps a.count x y r) ks kt

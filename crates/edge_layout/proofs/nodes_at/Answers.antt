@@ -1,7 +1,6 @@
 -- `nodes_at` meets its contract: byte 3 of the record.
 use mathlib.Core.Path.{sym}
 use native.Mathlib.Omega.{arith}
-use borrow.Author.Rules.{rules}
 use Rattle.model.proofs.records.Bytes.{record_byte}
 use Rattle.edge_layout.proofs.nodes_at.Goals as goal
 

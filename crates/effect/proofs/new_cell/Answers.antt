@@ -1,6 +1,5 @@
 -- `new_cell` meets its contract.
 use Rattle.effect.proofs.Bytes.{new_ran}
-use borrow.Author.Rules.{rules}
 use Rattle.effect.proofs.new_cell.Goals as goal
 
 pub returns : goal.returns

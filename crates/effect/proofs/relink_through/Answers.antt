@@ -1,6 +1,5 @@
 -- `relink_through` meets its contract: a fault of reading leaves the image; else the byte that is read is stored.
 use Rattle.effect.proofs.Bytes.{access_named, relink_cell, relink_fault}
-use borrow.Author.Rules.{rules}
 use Rattle.effect.proofs.relink_through.Goals as goal
 
 pub returns-then-fault-ne0 : goal.returns-then-fault-ne0

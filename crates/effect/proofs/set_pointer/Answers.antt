@@ -1,6 +1,5 @@
 -- `set_pointer` meets its contract: one byte is one value.
 use Rattle.effect.proofs.Bytes.{set_ran}
-use borrow.Author.Rules.{rules}
 use Rattle.effect.proofs.set_pointer.Goals as goal
 
 pub returns : goal.returns

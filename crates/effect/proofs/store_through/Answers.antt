@@ -1,6 +1,5 @@
 -- `store_through` meets its contract: a fault leaves the image; else the cell is in use, and takes the value's byte.
 use Rattle.effect.proofs.Bytes.{access_named, store_fault, store_cell}
-use borrow.Author.Rules.{rules}
 use Rattle.effect.proofs.store_through.Goals as goal
 
 pub returns-then-fault-ne0 : goal.returns-then-fault-ne0

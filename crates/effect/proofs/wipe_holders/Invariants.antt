@@ -1,12 +1,9 @@
 -- `wipe_holders` meets its contract. The invariant: the first i bytes are wiped, the others are as they were.
-use Prim.Native.Nat.{◌≤◌, ◌<◌, ◌-◌, ℕ}
-use mathlib.Core.Path.{◌≡◌, ◌∙◌, ap, ap₂}
-use mathlib.Core.List.{List}
-use native.Mathlib.Omega.{arith}
-use lib.ListN.{length, length-set, get_or, set}
+use Prim.Native.Nat.{◌≤◌, ◌-◌}
+use mathlib.Core.Path.{◌≡◌}
+use lib.ListN.{length}
 use Rattle.effect.specs.Effect.{wipe_byte}
-use Rattle.effect.proofs.ListLaws.{part_map, part_at, part_step, part_all}
-use borrow.Author.Rules.{rules}
+use Rattle.effect.proofs.ListLaws.{part_map}
 use Rattle.effect.proofs.wipe_holders.Given as goal
 
 abbrev pub invariant-loop-i : goal.invariant-loop-i

@@ -1,5 +1,5 @@
 -- `folding::code_successors` meets its contract: the number so far is that of the values from i on.
-use Prim.Native.Nat.{suc, ◌+◌, ◌-◌, ◌*◌, ◌≤◌, ◌<◌}
+use Prim.Native.Nat.{suc, ◌-◌, ◌<◌}
 use mathlib.Core.Path.{◌≡◌, ap, ◌∙◌}
 use mathlib.Core.List.{map}
 use native.Mathlib.Omega.{arith}
@@ -7,7 +7,7 @@ use lib.ListN.{drop, get_or, length}
 use borrow.Author.Rules.{rules}
 use Rattle.word.specs.Words.{number_of}
 use Rattle.folding.specs.Fold.{fold_byte}
-use Rattle.folding.proofs.Coded.{CodedFrom, coded_most, coded_next, coded_none, coded_small}
+use Rattle.folding.proofs.Coded.{coded_most, coded_next, coded_none, coded_small}
 use Rattle.folding.proofs.code_successors.Goals as goal
 use Rattle.folding.proofs.code_successors.Goals.{In-loop-i}
 

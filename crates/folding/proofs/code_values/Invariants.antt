@@ -1,13 +1,8 @@
 -- `folding::code_values` meets its contract: the number so far is that of the values from i on.
-use Prim.Native.Nat.{suc, ◌+◌, ◌-◌, ◌*◌, ◌≤◌, ◌<◌}
-use mathlib.Core.Path.{◌≡◌, ap, ◌∙◌}
-use mathlib.Core.List.{map}
-use native.Mathlib.Omega.{arith}
-use lib.ListN.{drop, get_or, length}
-use borrow.Author.Rules.{rules}
-use Rattle.word.specs.Words.{number_of}
+use Prim.Native.Nat.{◌-◌, ◌≤◌}
+use lib.ListN.{length}
 use Rattle.folding.specs.Fold.{fold_byte}
-use Rattle.folding.proofs.Coded.{CodedFrom, coded_most, coded_next, coded_none, coded_small}
+use Rattle.folding.proofs.Coded.{CodedFrom}
 use Rattle.folding.proofs.code_values.Given as goal
 
 abbrev pub invariant-loop-i : goal.invariant-loop-i

@@ -1,7 +1,6 @@
 -- `segment::fold_shape` meets its contract: the pointers go over the front, and the successors over what follows.
 use mathlib.Core.Path.{◌∙◌}
 use lib.ListN.{length, length-map}
-use borrow.Author.Rules.{rules}
 use Rattle.folding.proofs.ListLaws.{over_front}
 use mathlib.Core.List.{map}
 use Rattle.folding.specs.Fold.{fold_byte}

@@ -1,9 +1,8 @@
 -- `segment::fold_successors` meets its contract: the first i bytes are what the first i cells hold, folded.
-use Prim.Native.Nat.{ℕ, ◌-◌, ◌<◌, ◌≤◌}
+use Prim.Native.Nat.{ℕ, ◌-◌, ◌<◌}
 use mathlib.Core.Path.{◌≡◌, ◌∙◌}
-use mathlib.Core.List.{◌++◌, map}
 use native.Mathlib.Omega.{arith}
-use lib.ListN.{length, get_or, take, drop}
+use lib.ListN.{length, get_or}
 use lib.Seq.{take-length}
 use borrow.Author.Rules.{rules}
 use Rattle.model.proofs.lists.Slices.{map_fill}

@@ -1,6 +1,5 @@
 -- `digit` meets its contract: each answer is the case that the test says.
 use mathlib.Core.Path.{refl}
-use borrow.Author.Rules.{rules}
 use borrow.Author.Tests.{le-ltb, lt-ltb}
 use Rattle.hex_lines.specs.Lines.{digit_of}
 use Rattle.hex_lines.proofs.digit.Goals as goal

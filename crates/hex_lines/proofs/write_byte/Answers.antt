@@ -6,7 +6,6 @@ use native.Mathlib.Numerals.{add-one}
 use native.Mathlib.Omega.{arith}
 use lib.ListN.{set, take, drop, length-set}
 use lib.Seq.{sets-eq}
-use borrow.Author.Rules.{rules}
 use Rattle.hex_lines.specs.Lines.{byte_of, digit_of}
 use Rattle.hex_lines.proofs.write_byte.Goals as goal
 

@@ -1,11 +1,10 @@
 -- `write_line` meets its contract: the first i bytes are written.
-use Prim.Native.Nat.{◌+◌, ◌*◌, ◌-◌, ◌≤◌}
+use Prim.Native.Nat.{◌+◌, ◌*◌}
 use mathlib.Core.Path.{◌≡◌, refl, sym, ap, ap₂, ◌∙◌}
 use mathlib.Core.List.{[], ◌∷◌, ◌++◌, map}
 use native.Mathlib.Omega.{arith}
-use lib.ListN.{length, get_or, take, drop}
+use lib.ListN.{get_or, take, drop}
 use lib.Seq.{set_split}
-use borrow.Author.Rules.{rules}
 use Rattle.model.specs.Base.{joined}
 use Rattle.model.proofs.lists.Slices.{joined_next, put_next}
 use Rattle.hex_lines.specs.Lines.{byte_of}

@@ -1,5 +1,5 @@
 -- `write_lines` meets its contract: the first i records are written.
-use Prim.Native.Nat.{◌+◌, ◌*◌, ◌-◌, ◌≤◌}
+use Prim.Native.Nat.{◌+◌, ◌*◌, ◌-◌}
 use mathlib.Core.Path.{◌≡◌, refl, sym, ap, ◌∙◌}
 use mathlib.Core.List.{◌++◌, append_assoc, append-nil}
 use native.Mathlib.Omega.{arith}

@@ -1,14 +1,9 @@
 -- `write_lines` meets its contract: the first i records are written.
 use Prim.Native.Nat.{◌+◌, ◌*◌, ◌-◌, ◌≤◌}
-use mathlib.Core.Path.{◌≡◌, refl, sym, ap, ◌∙◌}
-use mathlib.Core.List.{◌++◌, append_assoc, append-nil}
-use native.Mathlib.Omega.{arith}
-use lib.ListN.{length, take, drop}
-use borrow.Author.Rules.{rules}
-use borrow.Rule.Slice.PartMut.{put_mid}
-use Rattle.model.proofs.lists.Slices.{part_from}
-use Rattle.hex_lines.specs.Lines.{line_of, lines_of}
-use Rattle.hex_lines.proofs.Lines.{lines_next, part_written}
+use mathlib.Core.Path.{◌≡◌}
+use mathlib.Core.List.{◌++◌}
+use lib.ListN.{length, take}
+use Rattle.hex_lines.specs.Lines.{lines_of}
 use Rattle.hex_lines.proofs.write_lines.Given as goal
 
 abbrev pub invariant-loop-i : goal.invariant-loop-i

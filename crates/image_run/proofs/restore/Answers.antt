@@ -1,7 +1,6 @@
 -- `restore` meets its contract: at a fault both lists are copied whole, and without one nothing is.
 use mathlib.Core.Path.{refl, ◌∙◌}
 use native.Mathlib.Omega.{arith}
-use borrow.Author.Rules.{rules}
 use borrow.Author.Tests.{eq-eqb, ne_eqb}
 use Rattle.record.proofs.Copied.{copied_whole}
 use Rattle.image_run.proofs.restore.Goals as goal

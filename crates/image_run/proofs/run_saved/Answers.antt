@@ -1,7 +1,6 @@
 -- `run_saved` meets its contract: what was kept aside is put back at a fault.
 use mathlib.Core.Path.{ap, sym, ◌∙◌}
 use lib.ListN.{length}
-use borrow.Author.Rules.{rules}
 use Rattle.image_run.proofs.RunLaws.{put_back}
 use Rattle.image_run.proofs.run_saved.Goals as goal
 
@@ -9,7 +8,6 @@ pub restore-requires : goal.restore-requires
 restore-requires c =
     let r = c in
     let e = r.requires.ps_value in
-    let k = r.run_on-fault.auto.1.1 in
     (c.run_on-fault.auto.pointers ∙ ap length (sym e.0), c.run_on-fault.auto.cells ∙ ap length (sym e.1))
 
 pub returns : goal.returns

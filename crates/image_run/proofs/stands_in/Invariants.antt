@@ -1,13 +1,9 @@
 -- `stands_in` meets its contract: the bytes so far and the bytes from i on decide.
-use Prim.Native.Nat.{◌+◌, ◌-◌}
-use mathlib.Core.Path.{◌≡◌, ◌∙◌, ap, refl, sym}
+use Prim.Native.Nat.{◌-◌}
+use mathlib.Core.Path.{◌≡◌}
 use mathlib.Core.Bool.{◌||◌}
-use lib.Dec.{eqb}
-use lib.ListN.{drop, drop_of_length-le, get_or, length}
-use borrow.Author.Rules.{rules}
+use lib.ListN.{drop, length}
 use Rattle.model.specs.Base.{mem}
-use Rattle.model.proofs.lists.Slices.{drop_step}
-use Rattle.image_run.proofs.TakenLaws.{or_group, or_none}
 use Rattle.image_run.proofs.stands_in.Given as goal
 
 abbrev pub invariant-loop-i : goal.invariant-loop-i

@@ -2,7 +2,6 @@
 use mathlib.Core.Path.{sym, ◌∙◌}
 use mathlib.Core.List.{map}
 use native.Mathlib.Omega.{arith}
-use borrow.Author.Rules.{rules}
 use Rattle.model.specs.Records.{val_of}
 use Rattle.image_run.proofs.TakenLaws.{byte_stands, none_stands}
 use Rattle.image_run.proofs.surely_kept.Goals as goal

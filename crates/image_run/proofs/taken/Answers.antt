@@ -1,6 +1,5 @@
 -- `taken` meets its contract: the op's number says which value is taken away.
 use mathlib.Core.Path.{sym, ◌∙◌}
-use borrow.Author.Rules.{rules}
 use Rattle.image_run.proofs.TakenLaws.{taken_held, taken_next, taken_none}
 use Rattle.image_run.proofs.taken.Goals as goal
 

@@ -1,13 +1,9 @@
 -- `index::enter_all` meets its contract: the first j records are entered.
-use Prim.Native.Nat.{ℕ, ◌-◌, ◌*◌, ◌≤◌}
-use mathlib.Core.Path.{◌≡◌, sym, ap, subst, ◌∙◌}
-use mathlib.Core.List.{List, map}
+use Prim.Native.Nat.{ℕ, ◌-◌}
+use mathlib.Core.Path.{sym, ap, subst, ◌∙◌}
 use native.Mathlib.Omega.{arith}
-use lib.ListN.{length, length-replicate, take}
-use borrow.Author.Rules.{rules}
-use Rattle.model.specs.Notions.{In}
-use Rattle.model.specs.Translate.{table_of}
-use Rattle.index.specs.Index.{Indexed, hash_of}
+use lib.ListN.{length, length-replicate}
+use Rattle.index.specs.Index.{Indexed}
 use Rattle.index.proofs.Entered.{entered_all, entered_next, none_indexed}
 use Rattle.index.proofs.enter_all.Goals as goal
 

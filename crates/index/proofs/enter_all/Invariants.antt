@@ -1,14 +1,11 @@
 -- `index::enter_all` meets its contract: the first j records are entered.
-use Prim.Native.Nat.{ℕ, ◌-◌, ◌*◌, ◌≤◌}
-use mathlib.Core.Path.{◌≡◌, sym, ap, subst, ◌∙◌}
+use Prim.Native.Nat.{ℕ, ◌-◌, ◌≤◌}
+use mathlib.Core.Path.{◌≡◌}
 use mathlib.Core.List.{List, map}
-use native.Mathlib.Omega.{arith}
-use lib.ListN.{length, length-replicate, take}
-use borrow.Author.Rules.{rules}
+use lib.ListN.{length, take}
 use Rattle.model.specs.Notions.{In}
 use Rattle.model.specs.Translate.{table_of}
 use Rattle.index.specs.Index.{Indexed, hash_of}
-use Rattle.index.proofs.Entered.{entered_all, entered_next, none_indexed}
 use Rattle.index.proofs.enter_all.Given as goal
 
 abbrev pub invariant-loop-j : goal.invariant-loop-j

@@ -1,6 +1,5 @@
 -- `index::entry` meets its contract.
 use native.Mathlib.Omega.{arith}
-use borrow.Author.Rules.{rules}
 use Rattle.index.proofs.entry.Goals as goal
 
 pub overflow_cast-result : goal.overflow_cast-result

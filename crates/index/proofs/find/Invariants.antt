@@ -1,10 +1,6 @@
 -- `index::find` meets its contract: the chain of the hash is followed from its head.
-use Prim.Native.Nat.{suc, ◌-◌, ◌<◌}
-use mathlib.Core.Path.{◌≡◌, sym, subst, ◌∙◌}
-use native.Mathlib.Omega.{arith}
-use borrow.Author.Rules.{rules}
-use Rattle.search.proofs.Found.{found_end, found_here}
-use Rattle.index.proofs.Chains.{Follows, chain_less, chain_within, follow_chain, follow_head, low, place_within}
+use Prim.Native.Nat.{◌-◌}
+use Rattle.index.proofs.Chains.{Follows}
 use Rattle.index.proofs.find.Given as goal
 
 abbrev pub invariant-loop-i : goal.invariant-loop-i

@@ -1,8 +1,6 @@
 -- `layout_ok` meets its contract: the head, then the shape.
-use mathlib.Core.Path.{◌≡◌, ap, sym, ◌∙◌}
+use mathlib.Core.Path.{ap, sym, ◌∙◌}
 use mathlib.Core.Bool.{◌&&◌}
-use borrow.Author.Rules.{rules}
-use borrow.Author.Tests.{not-true, not-false}
 use Rattle.model.specs.Records.{shape_fields}
 use Rattle.layout.proofs.layout_ok.Goals as goal
 

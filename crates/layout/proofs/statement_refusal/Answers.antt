@@ -1,7 +1,6 @@
 -- `statement_refusal` meets its contract: the tests in the order of the definition.
 use mathlib.Core.Path.{sym, ◌∙◌}
-use borrow.Author.Rules.{rules}
-use borrow.Author.Tests.{le-ltb, lt-ltb, not-true, not-false}
+use borrow.Author.Tests.{le-ltb, lt-ltb}
 use Rattle.layout.proofs.Tests.{refusal_5, refusal_6, refusal_7, refusal_none}
 use Rattle.layout.proofs.statement_refusal.Goals as goal
 

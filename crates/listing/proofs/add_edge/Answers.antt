@@ -1,9 +1,8 @@
 -- `add_edge` meets its contract: the number that was found, the two tests, and the records that were written.
-use Prim.Native.Nat.{◌≤◌, ◌<◌}
-use mathlib.Core.Path.{◌≡◌, ap, ◌∙◌}
+use Prim.Native.Nat.{◌<◌}
+use mathlib.Core.Path.{◌∙◌}
 use native.Mathlib.Omega.{arith}
 use lib.ListN.{length, length-map}
-use borrow.Author.Rules.{rules}
 use Rattle.model.specs.Base.{most_edges, most_locations}
 use Rattle.model.specs.Records.{loc_record}
 use Rattle.model.specs.Translate.{places}

@@ -1,7 +1,6 @@
 -- `in_places` meets its contract.
 use mathlib.Core.Path.{ap}
 use lib.Dec.{leb}
-use borrow.Author.Rules.{rules}
 use Rattle.location_table.proofs.in_places.Goals as goal
 
 pub returns : goal.returns

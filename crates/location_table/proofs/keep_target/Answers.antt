@@ -1,6 +1,5 @@
 -- `keep_target` meets its contract: a known target is left alone, a new one written behind the others.
 use mathlib.Core.Path.{refl}
-use borrow.Author.Rules.{rules}
 use borrow.Author.Tests.{le-ltb, lt-ltb}
 use Rattle.location_table.proofs.keep_target.Goals as goal
 

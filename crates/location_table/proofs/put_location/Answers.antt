@@ -1,6 +1,5 @@
 -- `put_location` meets its contract: the part that was lent is back in its place, with the record.
 use Prim.Native.Nat.{◌*◌}
-use borrow.Author.Rules.{rules}
 use Rattle.model.proofs.lists.Slices.{put_back}
 use Rattle.record.proofs.Copied.{location_whole}
 use Rattle.location_table.proofs.put_location.Goals as goal

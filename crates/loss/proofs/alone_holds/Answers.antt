@@ -1,5 +1,4 @@
 -- `loss::alone_holds` meets its contract: the pointer's byte is a node, and stands once.
-use borrow.Author.Rules.{rules}
 use borrow.Author.Tests.{le-ltb}
 use Rattle.model.proofs.lists.Logic.{clash}
 use Rattle.loss.proofs.alone_holds.Goals as goal

@@ -3,7 +3,6 @@
 use mathlib.Core.Path.{ap}
 use mathlib.Core.Bool.{not}
 use native.Mathlib.Omega.{arith}
-use borrow.Author.Rules.{rules}
 use borrow.Author.Tests.{eq-eqb, ltb-true}
 use Rattle.model.proofs.lists.Logic.{clash}
 use Rattle.loss.proofs.overwrites.Goals as goal

@@ -1,6 +1,5 @@
 -- `loss::splits_at` meets its contract.
 use Prim.Native.Nat.{◌+◌}
-use borrow.Author.Rules.{rules}
 use borrow.Author.Tests.{eqb-true}
 use lib.Dec.{eqb}
 use Rattle.model.proofs.lists.Logic.{and_l, and_r}

@@ -1,15 +1,9 @@
 -- `loss::stands_once` meets its contract: a place passed with the byte makes the count at least 1, two of them at
 -- least 2.
 use Prim.Native.Nat.{ℕ, ◌+◌, ◌-◌, ◌≤◌, ◌<◌}
-use mathlib.Core.Path.{◌≡◌, refl, sym, ap, subst, ◌∙◌}
-use mathlib.Core.Logic.{⊎_elim}
+use mathlib.Core.Path.{◌≡◌}
 use mathlib.Core.List.{List}
-use native.Mathlib.Omega.{arith}
-use lib.Dec.{ltb}
-use borrow.Author.Rules.{rules}
-use borrow.Author.Tests.{eqb-false, eqb-true, ltb-false, ltb-true}
 use Rattle.model.specs.Records.{byte}
-use Rattle.model.proofs.lists.Logic.{bool_case, eq-case}
 use Rattle.loss.proofs.stands_once.Given as goal
 
 -- what the count c says of the places from 4 to i that hold the byte v

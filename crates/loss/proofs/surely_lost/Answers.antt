@@ -1,6 +1,5 @@
 -- `loss::surely_lost` meets its contract: a split whose tail is cut off, or a node whose only pointer is overwritten.
 use mathlib.Core.Path.{refl, sym, ◌∙◌}
-use borrow.Author.Rules.{rules}
 use Rattle.model.proofs.lists.Logic.{clash}
 use Rattle.way.proofs.Ready.{location_wide, nodes_few}
 use Rattle.loss.proofs.Leaking.{alone_leaks, cut_leaks}

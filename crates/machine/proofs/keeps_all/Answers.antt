@@ -1,5 +1,4 @@
 -- `machine::keeps_all` meets its contract, test by test. Assumes nothing.
-use borrow.Author.Rules.{rules}
 use borrow.Author.Tests.{eq-eqb, ne_eqb}
 use Rattle.machine.proofs.keeps_all.Goals as goal
 

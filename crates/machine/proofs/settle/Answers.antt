@@ -1,6 +1,5 @@
 -- `machine::settle` meets its contract: lost cells are collected at op 13, else they are fault 3.
 use mathlib.Core.Path.{sym}
-use borrow.Author.Rules.{rules}
 use borrow.Author.Tests.{eq-eqb, ne_eqb}
 use Rattle.machine.proofs.settle.Goals as goal
 

@@ -11,8 +11,8 @@ use lib.Dec.{eqb, leb}
 use lib.ListN.{get_or-eq_default, get_or, length, length-map}
 use borrow.Author.Tests.{ne_eqb}
 use Rattle.model.specs.Base.{numbers}
-use Rattle.model.specs.Edges.{Edge, Guard, Loc, Way, at, edge_by, edges_at, edges_of, failed, picks_of, split, step_by, stmt_at, ways, whole, one_at, more_at, View, ways_of, view, one_node, two_nodes, no_node}
-use Rattle.model.specs.Heap.{Heap, in_use, kept, unused}
+use Rattle.model.specs.Edges.{Edge, Guard, Loc, Way, at, edge_by, edges_at, edges_of, failed, picks_of, split, step_by, stmt_at, whole, one_at, more_at, View, ways_of, view, one_node, two_nodes, no_node}
+use Rattle.model.specs.Heap.{Heap, in_use, unused}
 use Rattle.model.specs.Image.{spread, unfold_heap}
 use Rattle.model.specs.Machine.{Action, Effect, Entry, Stmt, accepts, answer_of, branch, carry_out, done, entry, fault, step, target, Kind, action, kind, perform, collects, settle}
 use Rattle.model.specs.Runs.{State, Status, Advance, made, past, running}

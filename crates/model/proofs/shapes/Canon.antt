@@ -9,7 +9,7 @@ use lib.Dec.{eqb}
 use lib.ListN.{length, length-map}
 use borrow.Author.Tests.{eqb-false, eqb-true}
 use Rattle.model.specs.Base.{mem, numbers}
-use Rattle.model.specs.Heap.{Heap, Slot, Val, cell, closed, holds, kept, next, null, order, undef, unused}
+use Rattle.model.specs.Heap.{Heap, Slot, Val, cell, holds, next, null, order, undef, unused}
 use Rattle.model.specs.Shape.{Seg, cells, core, cut, cut_from, last, node, node_slot, node_val, segments, shape}
 use Rattle.model.proofs.shapes.Bound.{nodes_core}
 use Rattle.model.proofs.expansion.Cores.{first_inj}

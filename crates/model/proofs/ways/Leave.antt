@@ -12,7 +12,7 @@ use Rattle.model.specs.Base.{sum}
 use Rattle.model.specs.Edges.{Edge, Loc, Update, Way, Weight, at, edge_by, failed, step_by, update_of}
 use Rattle.model.specs.Heap.{Heap, next}
 use Rattle.model.specs.Machine.{Answer, Effect, Entry, Fault, Stmt, accepts, answer_of, branch, done, fault, faulted, refused, carry_out, step, stopped, went, is_stop, kind, action}
-use Rattle.model.specs.Runs.{State, Status, Advance, made, past, running, taken}
+use Rattle.model.specs.Runs.{State, Status, Advance, made, past, running}
 use Rattle.model.specs.Shape.{Seg, cells, counters, fold_by, last, node_slot, segments, shape, size}
 use Rattle.model.proofs.expansion.Folds.{Alls, counters_grow, fold_same, large_closed}
 use Rattle.model.specs.Notions.{Kept, SmallEdge, SmallGuards, SmallUpdates, sg_after, total, worth, ClosedHeap}

@@ -1,15 +1,15 @@
 -- How many edges a location has, in which order and with which guards: none at a stop, two at a choose, two where an op
 -- goes through a node, else one but for a relink of two nodes.
 use Prim.Native.Nat.{◌≤◌, ℕ}
-use mathlib.Core.Path.{◌∙◌, ◌≡◌, ap, refl, subst, sym}
-use mathlib.Core.Bool.{cond, false, true}
+use mathlib.Core.Path.{◌∙◌, ◌≡◌, ap, refl}
+use mathlib.Core.Bool.{false, true}
 use mathlib.Core.List.{List, [], ◌∷◌, ◌++◌, map}
 use native.Mathlib.Omega.{arith}
 use lib.ListN.{get_or-eq_default, length}
 use borrow.Author.Tests.{le-leb}
 use Rattle.model.specs.Base.{joined}
-use Rattle.model.specs.Edges.{Edge, View, Way, at, edge_by, edges_at, more_at, no_node, one_at, one_node, picks_of, split, step_by, view, view_pair, view_val, ways_of, whole}
-use Rattle.model.specs.Heap.{Heap, Slot, Val, cell, next, null, ptr, undef, unused}
+use Rattle.model.specs.Edges.{Edge, Way, at, edge_by, edges_at, more_at, no_node, one_at, picks_of, split, step_by, view, view_pair, view_val, ways_of, whole}
+use Rattle.model.specs.Heap.{Heap, Slot, Val, cell, null, ptr, undef, unused}
 use Rattle.model.specs.Machine.{Action, Effect, Kind, Op, Stmt, accepts_cell, accepts, action, action_of, acts, answer_of, branch, carry_out, choose, clear, copy, done, entry, fault, free, is_null, is_stop, kind, let_go, load, new, picks, relink, same, set_null, skip, step, stop, store, target, went}
 use Rattle.model.specs.Notions.{Canon, Other, Through, clears, frees, loads, stores}
 use Rattle.model.proofs.expansion.Facts.{kept_test}

@@ -12,7 +12,6 @@ use Rattle.model.specs.Edges.{Guard, Way, Weight, adds_counter, counter, is_one_
 use Rattle.model.specs.Heap.{Heap, next, unused}
 use Rattle.model.specs.Machine.{Action, makes}
 use Rattle.model.specs.Shape.{Seg, counters, last, node_slot, segments, shape, size}
-use Rattle.model.proofs.shapes.Canon.{single}
 use Rattle.model.proofs.expansion.Effects.{exp_split}
 use Rattle.model.specs.Notions.{Kept, Expansion, Room, seg_at, sg_after, upd, ClosedHeap, Used, Views, seg, Alone}
 use Rattle.model.proofs.lists.Logic.{bool_case, clash, eq-case, eqb_same}

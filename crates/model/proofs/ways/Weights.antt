@@ -11,7 +11,6 @@ use borrow.Author.Tests.{eq-eqb, ne_eqb}
 use Rattle.model.specs.Base.{any, count, mem, numbers, sum}
 use Rattle.model.specs.Edges.{Weight, adds_counter, counter, is_one_cell, is_less, one, less, update_of}
 use Rattle.model.specs.Shape.{Seg, cells}
-use Rattle.model.proofs.shapes.Canon.{single}
 use Rattle.model.proofs.lists.Lists.{any_find, any_in, in_mem, mem_in}
 use Rattle.model.specs.Notions.{NoDup, flagged}
 use Rattle.model.proofs.lists.Logic.{bool_case, clash, eqb_same, mem_here, mem_there, not-true}

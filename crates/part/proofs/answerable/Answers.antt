@@ -1,7 +1,6 @@
 -- `answerable` meets its contract.
 use mathlib.Core.Bool.{◌&&◌}
 use lib.Dec.{leb, ltb}
-use borrow.Author.Rules.{rules}
 use Rattle.part.proofs.answerable.Goals as goal
 
 pub returns : goal.returns

@@ -4,8 +4,6 @@ use mathlib.Core.Path.{◌≡◌, ◌∙◌, sym}
 use mathlib.Core.Bool.{true}
 use native.Mathlib.Omega.{arith}
 use lib.ListN.{length}
-use borrow.Author.Rules.{rules}
-use borrow.Author.Tests.{not-false, not-true}
 use Rattle.model.specs.Part.{answerable, meant}
 use Rattle.model.specs.Structs.{tables_in}
 use Rattle.part.proofs.Handed.{handed, inside, none_handed}

@@ -1,13 +1,12 @@
 -- `range_checks::first_wrong` meets its contract: the place found is the first counter with a range that is none.
-use Prim.Native.Nat.{ℕ, ◌-◌, ◌<◌, ◌≤◌}
+use Prim.Native.Nat.{◌-◌, ◌<◌}
 use native.Mathlib.Omega.{arith}
 use mathlib.Core.Path.{◌≡◌, ◌∙◌, ap, ap₂, sym}
-use mathlib.Core.Bool.{Bool, ◌&&◌, not}
-use mathlib.Core.List.{List}
+use mathlib.Core.Bool.{◌&&◌, not}
 use lib.Dec.{leb}
 use borrow.Author.Rules.{rules}
-use Rattle.model.specs.Ranges.{first_wrong, in_limits, range_keeps}
-use Rattle.model.proofs.lists.Finding.{Found, found_here, found_later, found_none, found_start}
+use Rattle.model.specs.Ranges.{in_limits, range_keeps}
+use Rattle.model.proofs.lists.Finding.{found_here, found_later, found_none, found_start}
 use Rattle.range_checks.proofs.first_wrong.Invariants.{wrong}
 use Rattle.range_checks.proofs.first_wrong.Goals as goal
 use Rattle.range_checks.proofs.first_wrong.Goals.{After-range_keeps}
@@ -27,7 +26,7 @@ returns-then-not-range_keeps c =
     let l = c in
     let a = l.args in
     let h : l.loop-i.i < a.k = search rules in
-    found_here (wrong a.ranges.now) l.loop-i.invariant.1 h (sym (ap not (told (goal.at.returns-then-not-range_keeps c).After-range_keeps)) ∙ c.if-not-range_keeps.true)
+    found_here (wrong a.ranges.now) l.loop-i.invariant.1 h (sym (ap not (told (goal.at.returns-then-not-range_keeps c).After-range_keeps)) ∙ ap not c.if-not-range_keeps.true)
 
 pub loop-i-preserved : goal.loop-i-preserved
 loop-i-preserved c =
@@ -35,7 +34,7 @@ loop-i-preserved c =
     let a = l.args in
     let h : l.loop-i.i < a.k = search rules in (
       omega arith,
-      found_later (wrong a.ranges.now) l.loop-i.invariant.1 h (sym (ap not (told (goal.at.loop-i-preserved c).After-range_keeps)) ∙ c.if-not-range_keeps.false),
+      found_later (wrong a.ranges.now) l.loop-i.invariant.1 h (sym (ap not (told (goal.at.loop-i-preserved c).After-range_keeps)) ∙ ap not c.if-not-range_keeps.false),
     )
 
 pub returns : goal.returns

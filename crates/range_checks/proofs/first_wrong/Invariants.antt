@@ -1,13 +1,9 @@
 -- `range_checks::first_wrong` meets its contract: the place found is the first counter with a range that is none.
-use Prim.Native.Nat.{ℕ, ◌-◌, ◌<◌, ◌≤◌}
-use native.Mathlib.Omega.{arith}
-use mathlib.Core.Path.{◌≡◌, ◌∙◌, ap, ap₂, sym}
-use mathlib.Core.Bool.{Bool, ◌&&◌, not}
+use Prim.Native.Nat.{ℕ, ◌-◌, ◌≤◌}
+use mathlib.Core.Bool.{Bool, not}
 use mathlib.Core.List.{List}
-use lib.Dec.{leb}
-use borrow.Author.Rules.{rules}
-use Rattle.model.specs.Ranges.{first_wrong, in_limits, range_keeps}
-use Rattle.model.proofs.lists.Finding.{Found, found_here, found_later, found_none, found_start}
+use Rattle.model.specs.Ranges.{first_wrong, range_keeps}
+use Rattle.model.proofs.lists.Finding.{Found}
 use Rattle.range_checks.proofs.first_wrong.Given as goal
 
 abbrev pub wrong : List ℕ → ℕ → Bool

@@ -4,9 +4,8 @@ use mathlib.Core.Path.{◌≡◌, ◌∙◌, subst, sym}
 use mathlib.Core.List.{List, []}
 use native.Mathlib.Omega.{arith}
 use lib.Dec.{eqb, ltb}
-use lib.ListN.{get_or, length}
-use borrow.Author.Rules.{rules}
-use borrow.Author.Tests.{ltb-true, not-false, not-true}
+use lib.ListN.{get_or}
+use borrow.Author.Tests.{ltb-true}
 use Rattle.model.specs.Ranges.{linked}
 use Rattle.model.specs.Records.{record_at, word}
 use Rattle.model.specs.Structs.{tables_in}
@@ -14,16 +13,16 @@ use Rattle.model.specs.Translate.{Tables}
 use Rattle.model.proofs.lists.Logic.{and_l}
 use Rattle.range_checks.proofs.Links.{Led, all_linked, begin_led, ends_at, leads_on, stops}
 use Rattle.range_checks.proofs.go_along.Goals as goal
-use Rattle.range_checks.proofs.go_along.Goals.{After-is_linked, Start}
+use Rattle.range_checks.proofs.go_along.Goals.{After-is_linked}
 
 -- tables with these edges
-abbrev tables : Start → List ℕ → ℕ → Tables
-tables c ls m = tables_in ls c.args.edges.now (record { locations = m; edges = c.args.count })
+abbrev tables : List ℕ → ℕ → List ℕ → ℕ → Tables
+tables es k ls m = tables_in ls es (record { locations = m; edges = k })
 
 pub loop-i-init : goal.loop-i-init
 loop-i-init c = λ ls m.
     let s = c in
-    begin_led (tables (goal.at.loop-i-init c).Start ls m) s.args.start s.args.path.now
+    begin_led (tables c.args.edges.now c.args.count ls m) s.args.start s.args.path.now
 
 pub overflow_cast-n : goal.overflow_cast-n
 overflow_cast-n c = omega (arith, c.type_inv.path c.loop-i.i)
@@ -32,7 +31,7 @@ overflow_cast-n c = omega (arith, c.type_inv.path c.loop-i.i)
 told : (c : After-is_linked) (ls : List ℕ) (m : ℕ)
     → let l = c in
     let s = l in
-    c.is_linked.result ≡ linked (tables s ls m) l.loop-i.location (get_or s.args.path.now l.loop-i.i 0)
+    c.is_linked.result ≡ linked (tables s.args.edges.now s.args.count ls m) l.loop-i.location (get_or s.args.path.now l.loop-i.i 0)
 told c ls m = c.is_linked.ensures
 
 pub returns-then-not-is_linked : goal.returns-then-not-is_linked
@@ -58,7 +57,7 @@ loop-i-preserved c = λ ls m.
     let d = c in
     let l = d in
     let s = l in
-    subst (Led (tables (goal.at.loop-i-preserved c).Start ls m) s.args.start s.args.path.now (l.loop-i.i + 1)) (sym c.led_to-location.ensures)
+    subst (Led (tables c.args.edges.now c.args.count ls m) s.args.start s.args.path.now (l.loop-i.i + 1)) (sym c.led_to-location.ensures)
     (leads_on (l.loop-i.invariant ls m) d.loop-i-test.true
     (sym (told (goal.at.loop-i-preserved c).After-is_linked ls m) ∙ d.if-not-is_linked.false))
 

@@ -1,6 +1,5 @@
 -- `range_checks::led_to` meets its contract: the word is read in the edge's record.
 use mathlib.Core.Path.{◌∙◌, ap}
-use borrow.Author.Rules.{rules}
 use Rattle.model.specs.Records.{word}
 use Rattle.model.proofs.records.Bytes.{record_part_lem}
 use Rattle.range_checks.proofs.led_to.Goals as goal

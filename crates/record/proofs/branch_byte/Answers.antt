@@ -1,6 +1,5 @@
 -- `branch_byte` meets its contract: nothing passes one byte.
 use mathlib.Core.Path.{refl}
-use borrow.Author.Rules.{rules}
 use Rattle.record.proofs.branch_byte.Goals as goal
 
 pub returns : goal.returns

@@ -1,6 +1,5 @@
 -- `put_edge` meets its contract: the part that was lent is back in its place.
 use Prim.Native.Nat.{◌*◌}
-use borrow.Author.Rules.{rules}
 use Rattle.model.proofs.lists.Slices.{put_back}
 use Rattle.record.specs.Written.{edge_bytes}
 use Rattle.record.proofs.put_edge.Goals as goal

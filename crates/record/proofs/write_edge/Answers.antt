@@ -5,7 +5,6 @@ use mathlib.Core.List.{List}
 use native.Mathlib.Omega.{arith}
 use lib.ListN.{drop, length-set}
 use lib.Seq.{sets}
-use borrow.Author.Rules.{rules}
 use Rattle.record.proofs.Bytes.{edge_is, head_with, with_updates}
 use Rattle.record.proofs.write_edge.Goals as goal
 

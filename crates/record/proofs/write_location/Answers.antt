@@ -3,7 +3,6 @@ use mathlib.Core.Path.{ap, ◌∙◌}
 use mathlib.Core.List.{List}
 use native.Mathlib.Omega.{arith}
 use lib.ListN.{drop, length-set, set}
-use borrow.Author.Rules.{rules}
 use Rattle.record.proofs.Copied.{copied_front, location_stored}
 use Rattle.record.proofs.write_location.Goals as goal
 

@@ -1,10 +1,9 @@
 -- `write_updates` meets its contract: the first j updates are written.
-use Prim.Native.Nat.{ℕ, ◌+◌, ◌-◌, ◌*◌, ◌/◌, ◌%◌, ◌≤◌}
+use Prim.Native.Nat.{ℕ, ◌+◌, ◌-◌, ◌*◌, ◌/◌, ◌%◌}
 use mathlib.Core.Path.{◌≡◌, refl, sym, ap, ◌∙◌}
 use mathlib.Core.List.{List}
 use native.Mathlib.Omega.{arith}
-use lib.ListN.{length, get_or, set, take-append-drop, length-set}
-use borrow.Author.Rules.{rules}
+use lib.ListN.{get_or, set, take-append-drop, length-set}
 use Rattle.record.proofs.Bytes.{with_updates, updates_turn}
 use Rattle.record.proofs.write_updates.Goals as goal
 

@@ -1,11 +1,8 @@
 -- `write_updates` meets its contract: the first j updates are written.
-use Prim.Native.Nat.{ℕ, ◌+◌, ◌-◌, ◌*◌, ◌/◌, ◌%◌, ◌≤◌}
-use mathlib.Core.Path.{◌≡◌, refl, sym, ap, ◌∙◌}
-use mathlib.Core.List.{List}
-use native.Mathlib.Omega.{arith}
-use lib.ListN.{length, get_or, set, take-append-drop, length-set}
-use borrow.Author.Rules.{rules}
-use Rattle.record.proofs.Bytes.{with_updates, updates_turn}
+use Prim.Native.Nat.{◌-◌, ◌≤◌}
+use mathlib.Core.Path.{◌≡◌}
+use lib.ListN.{length}
+use Rattle.record.proofs.Bytes.{with_updates}
 use Rattle.record.proofs.write_updates.Given as goal
 
 abbrev pub invariant-loop-j : goal.invariant-loop-j

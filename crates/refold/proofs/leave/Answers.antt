@@ -4,7 +4,6 @@ use Prim.Native.Nat.{◌+◌, ◌≤◌}
 use mathlib.Core.Path.{◌≡◌, refl, subst, sym, ◌∙◌}
 use native.Mathlib.Omega.{arith}
 use lib.ListN.{length, take}
-use borrow.Author.Rules.{rules}
 use borrow.Rule.Slice.PartMut.{mid_of}
 use Rattle.folding.specs.Fold.{folded_bytes}
 use Rattle.folding.proofs.ImageLaws.{count_lasts, cut_ready, few_nodes, fold_ready, shape_is_lem}

@@ -4,7 +4,6 @@ use mathlib.Core.Path.{refl, ap, ◌∙◌}
 use mathlib.Core.List.{List, ◌++◌, append-nil}
 use native.Mathlib.Omega.{arith}
 use lib.ListN.{drop, drop_of_length-le, length, take}
-use borrow.Author.Rules.{rules}
 use Rattle.word.specs.Words.{bytes_of}
 use Rattle.refold.proofs.Worded.{put_next}
 use Rattle.refold.proofs.put_words.Goals as goal

@@ -5,7 +5,6 @@ use native.Mathlib.Omega.{arith}
 use mathlib.Core.List.{map}
 use lib.ListN.{drop, get_or, length, length-drop, length-map, take}
 use lib.Seq.{length-take-le}
-use borrow.Author.Rules.{rules}
 use Rattle.word.specs.Words.{number_of}
 use Rattle.folding.specs.Fold.{fold_byte}
 use Rattle.refold.specs.Worded.{shape_words}

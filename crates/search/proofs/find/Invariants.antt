@@ -1,10 +1,8 @@
 -- `search::find` meets its contract: what is found is what is found among the records before i.
-use Prim.Native.Nat.{◌-◌, ◌≤◌, ◌<◌}
-use mathlib.Core.Path.{◌≡◌, refl, sym, ◌∙◌}
-use native.Mathlib.Omega.{arith}
-use borrow.Author.Rules.{rules}
+use Prim.Native.Nat.{◌-◌, ◌≤◌}
+use mathlib.Core.Path.{◌≡◌}
 use Rattle.search.specs.Search.{found_at}
-use Rattle.search.proofs.Found.{found_end, found_here, found_next, found_below}
+use Rattle.search.proofs.Found.{found_below}
 use Rattle.search.proofs.find.Given as goal
 
 abbrev pub invariant-loop-i : goal.invariant-loop-i

@@ -1,7 +1,6 @@
 -- `search::same_at` meets its contract: the record is compared in four parts of eight bytes.
 use mathlib.Core.Path.{sym, ap₂, ◌∙◌}
 use mathlib.Core.Bool.{◌&&◌}
-use borrow.Author.Rules.{rules}
 use Rattle.search.proofs.Keys.{parts_same}
 use Rattle.search.proofs.same_at.Goals as goal
 

@@ -1,6 +1,5 @@
 -- `search::same_by_key` meets its contract: records with different keys are different.
 use mathlib.Core.Path.{sym, ◌∙◌}
-use borrow.Author.Rules.{rules}
 use Rattle.search.proofs.Keys.{key_differ}
 use Rattle.search.proofs.same_by_key.Goals as goal
 

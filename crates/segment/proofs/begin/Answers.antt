@@ -1,6 +1,5 @@
 -- `segment::begin` meets its contract.
 use mathlib.Core.Path.{refl}
-use borrow.Author.Rules.{rules}
 use Rattle.segment.proofs.begin.Goals as goal
 
 pub returns : goal.returns

@@ -1,12 +1,12 @@
 -- `segment::cut` meets its contract: after i cells the tables are those of the cut of the first i.
-use Prim.Native.Nat.{◌-◌, ◌≤◌}
+use Prim.Native.Nat.{◌-◌}
 use mathlib.Core.Path.{◌≡◌}
 use native.Mathlib.Omega.{arith}
-use lib.ListN.{drop, length, take}
+use lib.ListN.{length}
 use lib.Seq.{take-length}
 use borrow.Author.Rules.{rules}
-use Rattle.segment.specs.Cut.{IsCut, segs, cut_tables, CutTables}
-use Rattle.segment.proofs.CutStep.{Alike, ready_at, size_past, turn_at}
+use Rattle.segment.specs.Cut.{cut_tables, CutTables}
+use Rattle.segment.proofs.CutStep.{ready_at, size_past, turn_at}
 use Rattle.segment.proofs.cut.Goals as goal
 use Rattle.segment.proofs.cut.Goals.{At-loop-i}
 

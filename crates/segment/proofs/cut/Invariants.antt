@@ -1,12 +1,9 @@
 -- `segment::cut` meets its contract: after i cells the tables are those of the cut of the first i.
 use Prim.Native.Nat.{◌-◌, ◌≤◌}
 use mathlib.Core.Path.{◌≡◌}
-use native.Mathlib.Omega.{arith}
 use lib.ListN.{drop, length, take}
-use lib.Seq.{take-length}
-use borrow.Author.Rules.{rules}
-use Rattle.segment.specs.Cut.{IsCut, segs, cut_tables, CutTables}
-use Rattle.segment.proofs.CutStep.{Alike, ready_at, size_past, turn_at}
+use Rattle.segment.specs.Cut.{IsCut, segs, cut_tables}
+use Rattle.segment.proofs.CutStep.{Alike}
 use Rattle.segment.proofs.cut.Given as goal
 
 abbrev pub invariant-loop-i : goal.invariant-loop-i

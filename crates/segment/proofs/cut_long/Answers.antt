@@ -1,12 +1,11 @@
 -- `segment::cut_long` meets its contract: with the cells before place i cut, the tables have their k segments.
 use Prim.Native.Nat.{◌-◌, ◌<◌, ◌≤◌}
-use mathlib.Core.Path.{◌≡◌, ◌∙◌, refl}
+use mathlib.Core.Path.{◌∙◌, refl}
 use native.Mathlib.Omega.{arith}
-use lib.ListN.{drop, length, length-set}
+use lib.ListN.{length, length-set}
 use borrow.Author.Rules.{rules}
 use Rattle.segment.specs.Cut.{CutTables, cut_tables}
-use Rattle.segment.proofs.CutStep.{Alike}
-use Rattle.segment.proofs.RunLaws.{CutTo, cut_begins, cut_ends, past_next, run_low, run_room, run_turn, run_within}
+use Rattle.segment.proofs.RunLaws.{cut_begins, cut_ends, past_next, run_low, run_room, run_turn, run_within}
 use Rattle.segment.proofs.cut_long.Goals as goal
 use Rattle.segment.proofs.cut_long.Goals.{After-run_end-end, At-loop-i}
 

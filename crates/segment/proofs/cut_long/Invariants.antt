@@ -1,12 +1,10 @@
 -- `segment::cut_long` meets its contract: with the cells before place i cut, the tables have their k segments.
-use Prim.Native.Nat.{◌-◌, ◌<◌, ◌≤◌}
-use mathlib.Core.Path.{◌≡◌, ◌∙◌, refl}
-use native.Mathlib.Omega.{arith}
-use lib.ListN.{drop, length, length-set}
-use borrow.Author.Rules.{rules}
-use Rattle.segment.specs.Cut.{CutTables, cut_tables}
+use Prim.Native.Nat.{◌-◌, ◌≤◌}
+use mathlib.Core.Path.{◌≡◌}
+use lib.ListN.{drop, length}
+use Rattle.segment.specs.Cut.{cut_tables}
 use Rattle.segment.proofs.CutStep.{Alike}
-use Rattle.segment.proofs.RunLaws.{CutTo, cut_begins, cut_ends, past_next, run_low, run_room, run_turn, run_within}
+use Rattle.segment.proofs.RunLaws.{CutTo}
 use Rattle.segment.proofs.cut_long.Given as goal
 
 abbrev pub invariant-loop-i : goal.invariant-loop-i

@@ -1,6 +1,5 @@
 -- `segment::last_node` meets its contract.
 use mathlib.Core.Path.{refl}
-use borrow.Author.Rules.{rules}
 use Rattle.segment.proofs.last_node.Goals as goal
 
 pub returns : goal.returns

@@ -1,8 +1,8 @@
 -- `segment::name_cells` meets its contract: with the cells from i on named, the table is the one with all named.
 use Prim.Native.Nat.{◌-◌}
-use mathlib.Core.Path.{◌≡◌, ◌∙◌, ap, sym}
+use mathlib.Core.Path.{◌∙◌, ap, sym}
 use native.Mathlib.Omega.{arith}
-use lib.ListN.{drop, drop_of_length-le, length, length-set}
+use lib.ListN.{drop_of_length-le, length-set}
 use borrow.Author.Rules.{rules}
 use Rattle.model.proofs.lists.Slices.{drop_step}
 use Rattle.segment.specs.Cut.{named}

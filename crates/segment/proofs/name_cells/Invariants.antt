@@ -1,10 +1,7 @@
 -- `segment::name_cells` meets its contract: with the cells from i on named, the table is the one with all named.
 use Prim.Native.Nat.{◌-◌}
-use mathlib.Core.Path.{◌≡◌, ◌∙◌, ap, sym}
-use native.Mathlib.Omega.{arith}
-use lib.ListN.{drop, drop_of_length-le, length, length-set}
-use borrow.Author.Rules.{rules}
-use Rattle.model.proofs.lists.Slices.{drop_step}
+use mathlib.Core.Path.{◌≡◌}
+use lib.ListN.{drop, length}
 use Rattle.segment.specs.Cut.{named}
 use Rattle.segment.proofs.name_cells.Given as goal
 

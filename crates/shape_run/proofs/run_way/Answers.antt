@@ -1,6 +1,5 @@
 -- `shape_run::run_way` meets its contract: the shape is opened, the branch is read off the opened image, and the image
 -- is run.
-use borrow.Author.Rules.{rules}
 use native.Mathlib.Omega.{arith}
 use Rattle.way.proofs.Ready.{open_ready, location_wide, nodes_few}
 use mathlib.Core.Path.{sym, ◌∙◌}
@@ -65,7 +64,7 @@ returns c =
     let b = c.branch_of-branch in
     let r = c.run-ran in
     way_ran p.ready o.new.pointers o.new.cells o.result e.pointers e.count
-    (omega (arith, o.kept.1.1.1.1.0, p.room)) e.heap
+    (omega (arith, o.auto.cells, p.room)) e.heap
     r.new.pointers r.new.cells r.new.order r.new.seen b.result
     r.result
     b.ensures r.ensures r.auto.cells

@@ -1,6 +1,5 @@
 -- `statement::decode` meets its contract, field by field.
 use mathlib.Core.Path.{refl}
-use borrow.Author.Rules.{rules}
 use Rattle.statement.proofs.decode.Goals as goal
 
 pub returns : goal.returns

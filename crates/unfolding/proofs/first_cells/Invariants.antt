@@ -1,12 +1,8 @@
 -- `first_cells` meets its contract: the entries below n are right, and the running sum is the first cell of node n.
-use Prim.Native.Nat.{ℕ, ◌+◌, ◌-◌, ◌<◌, ◌≤◌}
-use mathlib.Core.Path.{◌≡◌, refl}
-use native.Mathlib.Omega.{arith}
-use lib.ListN.{get_or, length, length-set}
-use borrow.Author.Rules.{rules}
+use Prim.Native.Nat.{ℕ, ◌-◌, ◌<◌, ◌≤◌}
+use mathlib.Core.Path.{◌≡◌}
+use lib.ListN.{get_or, length}
 use Rattle.model.specs.Image.{first_cell}
-use Rattle.model.proofs.lists.Loops.{set_below}
-use Rattle.unfolding.proofs.Steps.{first_most, first_next}
 use Rattle.unfolding.proofs.first_cells.Given as goal
 
 abbrev pub invariant-loop-n : goal.invariant-loop-n

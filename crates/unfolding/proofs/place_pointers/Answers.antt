@@ -4,7 +4,6 @@ use mathlib.Core.Path.{◌≡◌, sym, ap, ◌∙◌}
 use mathlib.Core.List.{◌∷◌, ◌++◌, map}
 use native.Mathlib.Omega.{arith}
 use lib.ListN.{drop, get_or, length, length-set, take}
-use borrow.Author.Rules.{rules}
 use Rattle.model.proofs.lists.Slices.{map_end, map_step}
 use Rattle.unfolding.specs.Bytes.{placed_byte}
 use Rattle.model.proofs.lists.Loops.{push, pushed}

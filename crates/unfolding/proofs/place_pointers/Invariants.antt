@@ -1,13 +1,9 @@
 -- `place_pointers` meets its contract: the first i pointers are done, and the values from i on follow them.
-use Prim.Native.Nat.{◌+◌, ◌-◌, ◌<◌, ◌≤◌}
-use mathlib.Core.Path.{◌≡◌, sym, ap, ◌∙◌}
-use mathlib.Core.List.{◌∷◌, ◌++◌, map}
-use native.Mathlib.Omega.{arith}
-use lib.ListN.{drop, get_or, length, length-set, take}
-use borrow.Author.Rules.{rules}
-use Rattle.model.proofs.lists.Slices.{map_end, map_step}
+use Prim.Native.Nat.{◌+◌, ◌-◌, ◌≤◌}
+use mathlib.Core.Path.{◌≡◌}
+use mathlib.Core.List.{◌++◌, map}
+use lib.ListN.{drop, length, take}
 use Rattle.unfolding.specs.Bytes.{placed_byte}
-use Rattle.model.proofs.lists.Loops.{push, pushed}
 use Rattle.unfolding.proofs.place_pointers.Given as goal
 
 abbrev pub invariant-loop-i : goal.invariant-loop-i

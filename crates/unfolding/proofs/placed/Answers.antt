@@ -1,5 +1,4 @@
 -- `placed` meets its contract: each answer is the case of the test.
-use borrow.Author.Rules.{rules}
 use borrow.Author.Tests.{le-ltb, lt-ltb}
 use Rattle.unfolding.proofs.placed.Goals as goal
 

@@ -2,7 +2,6 @@
 use mathlib.Core.Path.{◌≡◌, sym, ◌∙◌}
 use native.Mathlib.Omega.{arith}
 use lib.ListN.{length}
-use borrow.Author.Rules.{rules}
 use Rattle.unfolding.proofs.Images.{ready_cells, ready_counters, ready_few, ready_nodes, ready_pointers, ready_positive, ready_successors, ready_total, ready_twelve}
 use Rattle.unfolding.proofs.unfold_shape.Goals as goal
 

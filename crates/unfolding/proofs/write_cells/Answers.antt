@@ -1,7 +1,6 @@
 -- `write_cells` meets its contract: the strands written, and the rest marked.
 use native.Mathlib.Omega.{arith}
 use lib.ListN.{length}
-use borrow.Author.Rules.{rules}
 use Rattle.unfolding.specs.Bytes.{strands_bytes}
 use Rattle.unfolding.proofs.Steps.{image_done}
 use Rattle.unfolding.proofs.write_cells.Goals as goal

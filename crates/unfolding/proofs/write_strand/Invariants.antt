@@ -1,13 +1,9 @@
 -- `write_strand` meets its contract: the cells below i are done, and the rest of the strand follows them.
-use Prim.Native.Nat.{◌+◌, ◌-◌, ◌<◌, ◌≤◌}
-use mathlib.Core.Path.{◌≡◌, refl, sym, ap, ap₂, ◌∙◌}
-use mathlib.Core.List.{[], ◌++◌, append-nil}
-use native.Mathlib.Omega.{arith}
-use lib.ListN.{length, length-set, set, take}
-use borrow.Author.Rules.{rules}
+use Prim.Native.Nat.{◌+◌, ◌-◌, ◌≤◌}
+use mathlib.Core.Path.{◌≡◌}
+use mathlib.Core.List.{◌++◌}
+use lib.ListN.{length, take}
 use Rattle.unfolding.specs.Bytes.{strand_bytes}
-use Rattle.model.proofs.lists.Loops.{push}
-use Rattle.unfolding.proofs.Steps.{strand_last, strand_step}
 use Rattle.unfolding.proofs.write_strand.Given as goal
 
 abbrev pub invariant-loop-i : goal.invariant-loop-i

@@ -3,10 +3,8 @@ use Prim.Native.Nat.{◌+◌, ◌-◌, ◌<◌, ◌≤◌}
 use mathlib.Core.Path.{◌≡◌, sym, ap, ◌∙◌}
 use mathlib.Core.List.{◌++◌, append-nil}
 use native.Mathlib.Omega.{arith}
-use lib.ListN.{drop, get_or, length, take}
-use borrow.Author.Rules.{rules}
-use Rattle.model.specs.Base.{sum}
-use Rattle.unfolding.specs.Bytes.{placed_byte, strand_bytes, strands_bytes}
+use lib.ListN.{get_or, length, take}
+use Rattle.unfolding.specs.Bytes.{placed_byte, strand_bytes}
 use Rattle.model.proofs.lists.Loops.{sum_end, sum_step}
 use Rattle.unfolding.proofs.Steps.{node_room, strands_end, strands_push}
 use Rattle.unfolding.proofs.write_strands.Goals as goal

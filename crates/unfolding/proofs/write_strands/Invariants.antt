@@ -1,14 +1,10 @@
 -- `write_strands` meets its contract: the strands of the nodes below n are written, and the others follow them.
-use Prim.Native.Nat.{◌+◌, ◌-◌, ◌<◌, ◌≤◌}
-use mathlib.Core.Path.{◌≡◌, sym, ap, ◌∙◌}
-use mathlib.Core.List.{◌++◌, append-nil}
-use native.Mathlib.Omega.{arith}
-use lib.ListN.{drop, get_or, length, take}
-use borrow.Author.Rules.{rules}
+use Prim.Native.Nat.{◌+◌, ◌-◌, ◌≤◌}
+use mathlib.Core.Path.{◌≡◌}
+use mathlib.Core.List.{◌++◌}
+use lib.ListN.{drop, length, take}
 use Rattle.model.specs.Base.{sum}
-use Rattle.unfolding.specs.Bytes.{placed_byte, strand_bytes, strands_bytes}
-use Rattle.model.proofs.lists.Loops.{sum_end, sum_step}
-use Rattle.unfolding.proofs.Steps.{node_room, strands_end, strands_push}
+use Rattle.unfolding.specs.Bytes.{strands_bytes}
 use Rattle.unfolding.proofs.write_strands.Given as goal
 
 abbrev pub invariant-loop-n : goal.invariant-loop-n

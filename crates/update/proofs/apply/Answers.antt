@@ -2,7 +2,6 @@
 use Prim.Native.Nat.{◌%◌}
 use mathlib.Core.Path.{◌≡◌, ap, ◌∙◌}
 use native.Mathlib.Omega.{arith}
-use borrow.Author.Rules.{rules}
 use Rattle.model.specs.Runs.{added}
 use Rattle.update.proofs.Bits.{masked}
 use Rattle.update.proofs.apply.Goals as goal

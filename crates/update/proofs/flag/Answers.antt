@@ -4,7 +4,6 @@ use mathlib.Core.Path.{◌≡◌, ◌∙◌}
 use native.Mathlib.Nat.{one-mul}
 use native.Mathlib.Omega.{arith}
 use lib.Pow.{pow_mono, shl_exact}
-use borrow.Author.Rules.{rules}
 use Rattle.update.proofs.flag.Goals as goal
 
 -- a power of two that fits

@@ -5,7 +5,6 @@ use native.Mathlib.Omega.{arith}
 use lib.Count.{count_trailing_zeros}
 use lib.ListN.{get_or}
 use lib.Pow.{pow_pos}
-use borrow.Author.Rules.{rules}
 use Rattle.model.specs.Runs.{added}
 use Rattle.model.proofs.records.Bytes.{added_none}
 use Rattle.update.proofs.Bits.{added_most, lowest_added, lowest_bit, lowest_small, lowest_within}

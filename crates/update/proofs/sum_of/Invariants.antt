@@ -1,14 +1,7 @@
 -- `sum_of` meets its contract: the sum so far and the counters that are left make the whole.
-use Prim.Native.Nat.{◌+◌, ◌*◌, ◌%◌, ◌^◌, ◌≤◌, ◌<◌}
-use mathlib.Core.Path.{◌≡◌, ap, ◌∙◌}
-use native.Mathlib.Omega.{arith}
-use lib.Count.{count_trailing_zeros}
-use lib.ListN.{get_or}
-use lib.Pow.{pow_pos}
-use borrow.Author.Rules.{rules}
+use Prim.Native.Nat.{◌+◌, ◌*◌, ◌≤◌, ◌<◌}
+use mathlib.Core.Path.{◌≡◌}
 use Rattle.model.specs.Runs.{added}
-use Rattle.model.proofs.records.Bytes.{added_none}
-use Rattle.update.proofs.Bits.{added_most, lowest_added, lowest_bit, lowest_small, lowest_within}
 use Rattle.update.proofs.sum_of.Given as goal
 
 abbrev pub invariant-loop-left : goal.invariant-loop-left

@@ -1,13 +1,12 @@
 -- `falls` meets its contract: a guard that asks for 2 is enough; else the counters that are added
 -- are counted.
-use Prim.Native.Nat.{◌+◌, ◌/◌, ◌≤◌}
+use Prim.Native.Nat.{◌+◌, ◌/◌}
 use mathlib.Core.Path.{◌≡◌, ◌∙◌, ap}
 use mathlib.Core.Bool.{true, false, ◌||◌}
 use native.Mathlib.Omega.{arith}
 use lib.Bits.{bit_and}
 use lib.Count.{ones-le}
 use lib.Dec.{ltb}
-use borrow.Author.Rules.{rules}
 use Rattle.model.specs.Structs.{code_in}
 use Rattle.update.proofs.Bits.{masked}
 use Rattle.update_layout.specs.Kept.{asks, exclude}

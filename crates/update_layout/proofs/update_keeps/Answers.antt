@@ -2,7 +2,6 @@
 use mathlib.Core.Path.{◌≡◌, ◌∙◌, ap, sym}
 use mathlib.Core.Bool.{Bool, true, ◌&&◌, not}
 use lib.Dec.{ltb}
-use borrow.Author.Rules.{rules}
 use borrow.Author.Tests.{ltb-true}
 use Rattle.model.specs.Layout.{constant_keeps, could_fall, counters_there}
 use Rattle.model.proofs.lists.Logic.{and_both, and_l, and_r}

@@ -1,18 +1,12 @@
 -- `updates_keep` meets its contract: the updates from j on decide, and none of those before it adds what they add.
-use Prim.Native.Nat.{◌+◌, ◌-◌, ◌*◌, ◌%◌, ◌≤◌}
-use mathlib.Core.Path.{◌≡◌, ◌∙◌, ap, ap₂, sym}
-use mathlib.Core.Bool.{true, false, ◌&&◌}
-use native.Mathlib.Omega.{arith}
-use lib.Bits.{bit_and, bit_or}
-use lib.Dec.{eqb}
-use borrow.Author.Rules.{rules}
-use borrow.Author.Tests.{not-false, not-true}
+use Prim.Native.Nat.{◌-◌, ◌≤◌}
+use mathlib.Core.Path.{◌≡◌}
+use mathlib.Core.Bool.{◌&&◌}
 use Rattle.model.specs.Base.{all}
 use Rattle.model.specs.Layout.{added_once}
-use Rattle.model.specs.Records.{word}
 use Rattle.model.specs.Runs.{updates_of}
 use Rattle.update_layout.specs.Kept.{codes_in, update_keeps}
-use Rattle.update_layout.proofs.Disjoint.{kept_end, kept_fail, kept_pass, kept_start, kept_from, updates_from}
+use Rattle.update_layout.proofs.Disjoint.{kept_from, updates_from}
 use Rattle.update_layout.proofs.updates_keep.Given as goal
 
 abbrev pub invariant-loop-j : goal.invariant-loop-j

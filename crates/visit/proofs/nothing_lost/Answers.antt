@@ -1,7 +1,7 @@
 -- `visit::nothing_lost` meets its contract. The whole search gives what was kept so far and what is left of the search
 -- gives. Assumes nothing.
-use Prim.Native.Nat.{◌-◌, ◌+◌, ◌<◌}
-use mathlib.Core.Path.{◌≡◌, refl, sym, ap, ◌∙◌}
+use Prim.Native.Nat.{◌+◌, ◌<◌}
+use mathlib.Core.Path.{refl, sym, ap, ◌∙◌}
 use mathlib.Core.Bool.{◌&&◌}
 use lib.ListN.{length}
 use borrow.Author.Rules.{rules}

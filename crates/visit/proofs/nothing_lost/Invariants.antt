@@ -1,11 +1,10 @@
 -- `visit::nothing_lost` meets its contract. The whole search gives what was kept so far and what is left of the search
 -- gives. Assumes nothing.
-use Prim.Native.Nat.{◌-◌, ◌+◌, ◌<◌}
-use mathlib.Core.Path.{◌≡◌, refl, sym, ap, ◌∙◌}
+use Prim.Native.Nat.{◌-◌}
+use mathlib.Core.Path.{◌≡◌}
 use mathlib.Core.Bool.{◌&&◌}
 use lib.ListN.{length}
-use borrow.Author.Rules.{rules}
-use Rattle.visit.proofs.Losing.{kept_from, kept_end, kept_more}
+use Rattle.visit.proofs.Losing.{kept_from}
 use Rattle.visit.proofs.nothing_lost.Given as goal
 
 abbrev pub invariant-loop-i : goal.invariant-loop-i

@@ -1,21 +1,13 @@
 -- `visit::visit` meets its contract. The invariant: the cells so far are a visit, the tour of the pointers left is the
 -- whole tour, and the marks count all holders but the pointers left. Assumes nothing.
 use Prim.Native.Nat.{ℕ, ◌+◌, ◌-◌, ◌<◌}
-use native.Mathlib.Nat.{add-zero}
-use native.Mathlib.Omega.{arith}
-use mathlib.Core.Path.{◌≡◌, ◌∙◌}
-use mathlib.Core.Logic.{inl}
+use mathlib.Core.Path.{◌≡◌}
 use mathlib.Core.List.{List, [], map}
 use lib.ListN.{length, get_or, take, drop}
-use borrow.Author.Rules.{rules}
-use Rattle.model.specs.Image.{heap_of}
 use Rattle.model.specs.Records.{val_of}
-use Rattle.model.proofs.expansion.Facts.{test_closed}
 use Rattle.model.specs.Notions.{Tours}
-use Rattle.visit.proofs.ByteLaws.{pointer_closed}
 use Rattle.visit.specs.Steps.{Alike, Visiting, held_by, slot_at}
-use Rattle.visit.proofs.Counting.{pointing, pointing_end, pointing_step}
-use Rattle.visit.proofs.Walking.{tour_end, tour_step, visited_of, visiting_none}
+use Rattle.visit.proofs.Counting.{pointing}
 use Rattle.visit.proofs.visit.Given as goal
 
 abbrev pub invariant-loop-i : goal.invariant-loop-i

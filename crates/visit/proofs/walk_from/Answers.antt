@@ -1,17 +1,11 @@
 -- `visit::walk_from` meets its contract. The invariant: the cells so far are a visit, a walk from here is a walk from
 -- the start, and the marks count all holders but the one under way. A new cell finds a place, since no cell is twice
 -- in the order; so the places left fall. Assumes nothing.
-use Prim.Native.Nat.{ℕ, ◌+◌, ◌-◌, ◌<◌, ◌≤◌}
+use Prim.Native.Nat.{◌<◌}
 use native.Mathlib.Omega.{arith}
 use mathlib.Core.Path.{◌≡◌}
-use mathlib.Core.Bool.{cond}
-use mathlib.Core.List.{List}
-use lib.Dec.{eqb}
 use lib.ListN.{length, get_or, take, length-set}
 use borrow.Author.Rules.{rules}
-use Rattle.model.specs.Records.{val_of}
-use Rattle.model.specs.Notions.{Closed, Walks}
-use Rattle.visit.specs.Steps.{Alike, Visiting, held_by, slot_at}
 use Rattle.visit.proofs.Counting.{count_again, count_new, count_past}
 use Rattle.visit.proofs.Walking.{next_closed, place_left, put_behind, visiting_again, visiting_more, walk_go, walk_past, walk_stop}
 use Rattle.visit.proofs.walk_from.Goals as goal

@@ -2,18 +2,14 @@
 -- the start, and the marks count all holders but the one under way. A new cell finds a place, since no cell is twice
 -- in the order; so the places left fall. Assumes nothing.
 use Prim.Native.Nat.{ℕ, ◌+◌, ◌-◌, ◌<◌, ◌≤◌}
-use native.Mathlib.Omega.{arith}
 use mathlib.Core.Path.{◌≡◌}
 use mathlib.Core.Bool.{cond}
 use mathlib.Core.List.{List}
 use lib.Dec.{eqb}
-use lib.ListN.{length, get_or, take, length-set}
-use borrow.Author.Rules.{rules}
+use lib.ListN.{length, get_or, take}
 use Rattle.model.specs.Records.{val_of}
 use Rattle.model.specs.Notions.{Closed, Walks}
 use Rattle.visit.specs.Steps.{Alike, Visiting, held_by, slot_at}
-use Rattle.visit.proofs.Counting.{count_again, count_new, count_past}
-use Rattle.visit.proofs.Walking.{next_closed, place_left, put_behind, visiting_again, visiting_more, walk_go, walk_past, walk_stop}
 use Rattle.visit.proofs.walk_from.Given as goal
 
 abbrev pub invariant-loop-v : goal.invariant-loop-v

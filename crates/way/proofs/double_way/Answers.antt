@@ -1,6 +1,5 @@
 -- `way::double_way` meets its contract: whole, then the second split, then the first.
 use native.Mathlib.Omega.{arith}
-use borrow.Author.Rules.{rules}
 use Rattle.way.proofs.Numbered.{first_way, pair_way, second_way}
 use Rattle.way.proofs.double_way.Goals as goal
 

@@ -4,7 +4,6 @@ use mathlib.Core.List.{◌++◌}
 use native.Mathlib.Omega.{arith}
 use lib.ListN.{drop, length, take}
 use lib.Seq.{take-length}
-use borrow.Author.Rules.{rules}
 use Rattle.model.specs.Image.{heap_of}
 use Rattle.model.specs.Records.{byte}
 use Rattle.way.specs.Way.{opened_bytes}

@@ -4,7 +4,6 @@ use mathlib.Core.Path.{ap, ◌∙◌}
 use mathlib.Core.List.{◌++◌}
 use native.Mathlib.Omega.{arith}
 use lib.ListN.{drop, take}
-use borrow.Author.Rules.{rules}
 use Rattle.model.proofs.lists.Slices.{put_back}
 use Rattle.word.specs.Words.{bytes_of}
 use Rattle.word.proofs.Codes.{eight_back}

@@ -1,7 +1,6 @@
 -- `word::copy_record` meets its contract: after each eight bytes so many are copied.
 use mathlib.Core.Path.{ap, ◌∙◌}
 use native.Mathlib.Omega.{arith}
-use borrow.Author.Rules.{rules}
 use Rattle.word.proofs.Codes.{copied_more, pasted}
 use Rattle.word.proofs.copy_record.Goals as goal
 

@@ -1,5 +1,4 @@
 -- `word::put_at` meets its contract: the part that was lent is back in its place.
-use borrow.Author.Rules.{rules}
 use Rattle.model.proofs.lists.Slices.{put_back}
 use Rattle.word.specs.Words.{bytes_of}
 use Rattle.word.proofs.put_at.Goals as goal

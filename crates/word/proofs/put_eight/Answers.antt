@@ -2,7 +2,6 @@
 use native.Mathlib.Omega.{arith}
 use lib.ListN.{length-set}
 use lib.Seq.{length-sets, sets-eq}
-use borrow.Author.Rules.{rules}
 use Rattle.word.specs.Words.{bytes_of}
 use Rattle.word.proofs.put_eight.Goals as goal
 

@@ -1,8 +1,8 @@
 -- `all_values` meets its contract: the bytes so far and the bytes from i on decide.
 use Prim.Native.Nat.{◌+◌, ◌-◌}
-use mathlib.Core.Path.{◌≡◌, ◌∙◌, ap, refl, sym}
+use mathlib.Core.Path.{◌∙◌, ap, refl, sym}
 use mathlib.Core.Bool.{◌&&◌}
-use lib.ListN.{drop, drop_of_length-le, get_or, length}
+use lib.ListN.{drop, drop_of_length-le, get_or}
 use borrow.Author.Rules.{rules}
 use Rattle.model.specs.Base.{all}
 use Rattle.model.specs.Records.{value_byte}

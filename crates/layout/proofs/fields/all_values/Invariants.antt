@@ -1,14 +1,10 @@
 -- `all_values` meets its contract: the bytes so far and the bytes from i on decide.
-use Prim.Native.Nat.{◌+◌, ◌-◌}
-use mathlib.Core.Path.{◌≡◌, ◌∙◌, ap, refl, sym}
+use Prim.Native.Nat.{◌-◌}
+use mathlib.Core.Path.{◌≡◌}
 use mathlib.Core.Bool.{◌&&◌}
-use lib.ListN.{drop, drop_of_length-le, get_or, length}
-use borrow.Author.Rules.{rules}
+use lib.ListN.{drop, length}
 use Rattle.model.specs.Base.{all}
 use Rattle.model.specs.Records.{value_byte}
-use Rattle.model.proofs.lists.Logic.{and_true}
-use Rattle.model.proofs.lists.Slices.{drop_step}
-use Rattle.layout.proofs.Tests.{regroup}
 use Rattle.layout.proofs.fields.all_values.Given as goal
 
 abbrev pub invariant-loop-i : goal.invariant-loop-i

@@ -1,13 +1,11 @@
 -- `all_zero` meets its contract: the bits gathered so far and the bytes from i on decide.
-use Prim.Native.Nat.{ℕ, ◌+◌, ◌-◌, ◌≤◌}
+use Prim.Native.Nat.{ℕ, ◌+◌, ◌-◌}
 use mathlib.Core.Path.{◌≡◌, ◌∙◌, ap, refl, sym}
 use mathlib.Core.Bool.{◌&&◌}
 use native.Mathlib.Omega.{arith}
 use lib.Bits.{and_le_l, and_le_r, bit_or, or_add_and}
-use lib.Dec.{eqb}
-use lib.ListN.{drop, drop_of_length-le, get_or, length}
+use lib.ListN.{drop, drop_of_length-le, get_or}
 use borrow.Author.Tests.{eq-eqb, eqb-true}
-use borrow.Author.Rules.{rules}
 use Rattle.model.specs.Base.{all}
 use Rattle.model.specs.Records.{is_zero}
 use Rattle.model.proofs.lists.Logic.{and_both, and_l, and_r, and_true, bool_ext}

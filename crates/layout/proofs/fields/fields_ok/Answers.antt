@@ -1,5 +1,4 @@
 -- `fields_ok` meets its contract: the part from byte 6 on holds the bytes after the fields.
-use borrow.Author.Rules.{rules}
 use Rattle.model.proofs.lists.Slices.{part_from}
 use Rattle.layout.proofs.fields.fields_ok.Goals as goal
 

@@ -1,5 +1,4 @@
 -- `targets_ok` meets its contract.
-use borrow.Author.Rules.{rules}
 use Rattle.layout.proofs.fields.targets_ok.Goals as goal
 
 pub returns : goal.returns
