@@ -5,7 +5,6 @@ use mathlib.Core.Bool.{true, false}
 use lib.ListN.{take}
 use lib.Seq.{append_snoc}
 use borrow.Author.Rules.{rules}
-use borrow.Author.Tests.{not-false, not-true}
 use Rattle.model.specs.Records.{tells_node}
 use Rattle.text.specs.Text.{decimal_of}
 use Rattle.text.proofs.put_node.Goals as goal

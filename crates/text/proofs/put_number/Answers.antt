@@ -3,7 +3,6 @@ use mathlib.Core.Path.{ap, ◌∙◌}
 use mathlib.Core.List.{◌++◌}
 use native.Mathlib.Omega.{arith}
 use lib.ListN.{take}
-use borrow.Author.Rules.{rules}
 use Rattle.text.proofs.Decimal.{decimal_is, decimal_short}
 use Rattle.text.proofs.put_number.Goals as goal
 

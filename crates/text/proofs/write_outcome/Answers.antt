@@ -1,5 +1,5 @@
 -- `write_outcome` meets its contract: the text of each case.
-use mathlib.Core.Path.{◌≡◌, ◌∙◌}
+use mathlib.Core.Path.{◌∙◌}
 use borrow.Author.Rules.{rules}
 use Rattle.text.proofs.Outcome.{listed_text, refused_text}
 use Rattle.text.proofs.write_outcome.Goals as goal
