@@ -140,8 +140,12 @@ class Names:
             # a variable of that name, which the port took for a word of the check's
             if f == 'auto' and len(out) == 1 and 'kept' in self.vars.get(out[0], []):
                 f = 'kept'
+            if f == 'kept' and len(out) == 1 and out[0] in self.params:
+                f = 'auto'
             if f == 'last' and len(out) == 1 and out[0] in self.params:
                 f = 'new'
+            if out[0] == 'args':
+                f = norm(f)
             if out[:1] == ['type_inv'] and f == 'given' and len(out) == 2:
                 continue
             # what a call left in a lent argument, by its name
