@@ -142,6 +142,8 @@ class Names:
                 f = 'kept'
             if f == 'kept' and len(out) == 1 and out[0] in self.params:
                 f = 'auto'
+            if f == 'inv' and out[0] in self.vars:
+                f = 'invariant'
             if f == 'last' and len(out) == 1 and out[0] in self.params:
                 f = 'new'
             if out[0] == 'args':
@@ -392,6 +394,10 @@ def turn(crate, fn, path, entry):
         cs = [l for l in body.split('\n') if l.startswith('--')]
         b = '\n'.join(l for l in body.split('\n') if not l.startswith('--'))
         first = re.match(r'.*?:\s+tie\.Need-\S+[^\n]*(?:\n(?!' + re.escape(name) + r'[ ]|unfolding )[^\n]*)*\n', b)
+        if not first:
+            said.append(f'{path}: {name} by hand')
+            out.append(names.body(body))
+            continue
         clauses = b[first.end():]
         clauses = re.sub(r'^' + re.escape(name) + r'(?=\s)', to, clauses, flags=re.M)
         clauses = shared(names.body(clauses), to)

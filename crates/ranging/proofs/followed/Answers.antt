@@ -9,8 +9,7 @@ use borrow.Author.Rules.{rules}
 use borrow.Rule.Slice.PartMut.{mid_of, put_mid}
 use Rattle.answers.specs.Numbers.{over}
 use Rattle.ranging.specs.Follow.{ranged, zeros}
-use Rattle.ranging.proofs.followed.Statement.{statement}
-use Rattle.ranging.proofs.followed.Tie as tie
+use Rattle.ranging.proofs.followed.Goals as goal
 
 -- twelve counters over twelve places
 over_twelve : (xs : List ℕ) → length xs ≡ 12 → over xs zeros ≡ xs
@@ -19,10 +18,8 @@ over_twelve xs m = ap₂ ◌++◌ (take_all 12 xs (omega arith)) (ap (λ n. drop
 module _ (lows first : List ℕ) (m : length lows ≡ 12) (e : first ≡ over lows zeros) where
   first_is_lem : first ≡ lows
   first_is_lem = e ∙ over_twelve lows m
-
   room : 24 ≤ length (first ++ zeros)
   room = omega (arith, length-append first zeros, ap length first_is_lem)
-
   both_laid : (highs second : List ℕ) → length highs ≡ 12 → second ≡ over highs (mid_of 12 12 (first ++ zeros))
       → put_mid 12 12 (first ++ zeros) second ≡ lows ++ highs
   both_laid highs second n f =
@@ -31,35 +28,20 @@ module _ (lows first : List ℕ) (m : length lows ≡ 12) (e : first ≡ over lo
       let s : second ≡ highs = f ∙ rw z (over_twelve highs n) in
       rw (z, take_at first zeros 12 l) (ap₂ ◌++◌ first_is_lem (append-nil second ∙ s))
 
-part-ranges-end : tie.Need-slice-bounds-ranges-end
-part-ranges-end c =
-    let y = c.before.before in
-    let a = y.before.before.before.args in
-    let m : length a.t2 ≡ 12 = search rules in
-    room a.t2 y.lay-counters.new.1.0 m y.lay-counters.ensures
+pub slice_bounds-ranges-end-2 : goal.slice_bounds-ranges-end-2
+slice_bounds-ranges-end-2 c =
+    let y = c in
+    let a = y.args in
+    let m : length a.lows ≡ 12 = search rules in
+    room a.lows y.lay_counters.new.to m y.lay_counters.ensures
 
-returns : tie.Need-returns
+pub returns : goal.returns
 returns c =
-    let z = c.before in
-    let y = z.before.before.before.before in
-    let a = y.before.before.before.args in
-    let m : length a.t2 ≡ 12 = search rules in
-    let n : length a.t3 ≡ 12 = search rules in
+    let z = c in
+    let y = z in
+    let a = y.args in
+    let m : length a.lows ≡ 12 = search rules in
+    let n : length a.highs ≡ 12 = search rules in
     ap (ranged 0 0 1 a.location)
-    (both_laid a.t2 y.lay-counters.new.1.0 m y.lay-counters.ensures a.t3
-    z.lay-counters2.new.1.0 n z.lay-counters2.ensures)
-
-pub followed-spec : {M : Type 1} → statement M
-followed-spec =
-    tie.close
-    (tie.spec
-    (λ c. search rules)
-    (λ c. search rules)
-    (λ c. search rules)
-    (λ c κs. search rules)
-    (λ c. search rules)
-    (λ c. search rules)
-    (λ c. search rules)
-    part-ranges-end
-    (λ c κs. search rules)
-    returns)
+    (both_laid a.lows y.lay_counters.new.to m y.lay_counters.ensures a.highs
+    z.lay_counters-2.new.to n z.lay_counters-2.ensures)
