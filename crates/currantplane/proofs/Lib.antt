@@ -1,3 +1,2 @@
 pub mod Told
 pub mod OneAnswer
-pub mod Lent
