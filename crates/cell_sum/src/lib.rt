@@ -84,8 +84,8 @@ fn write_bases(node: &[u8], weights: Weights, updates: &mut [u16])
 
 // Adds to the code of each node what its cells add.
 fn add_cells(cells: &[u8], node: &[u8], weights: Weights, updates: &mut [u16])
-    requires cells_len_bound { (length cells.now ≤ 13) × CellsReady cells.now node.now weights (length updates.old) }
-    requires by_index { (j : ℕ) → j < length updates.old → get_or updates.old j 0 ≤ 4096 }
+    requires ready { (length cells.now ≤ 13) × CellsReady cells.now node.now weights (length updates.old) }
+    requires small { (j : ℕ) → j < length updates.old → get_or updates.old j 0 ≤ 4096 }
     ensures { (j : ℕ) → j < length updates.old → get_or updates.new j 0
         ≡ get_or updates.old j 0 + sum_at node.now (plus_in weights) j cells.now }
 {

@@ -67,7 +67,7 @@ pub extern "C" fn currantplane_record<'a>(
     answer: &mut [usize],
 ) -> u8
     ensures { IsRecord
-        (record_part (tables_in locations.entry.now edges.now
+        (record_part (tables_in locations.now edges.now
         (record { locations = location_count; edges = edge_count })) table number)
         answer.old result answer.new }
 {
@@ -177,9 +177,9 @@ pub extern "C" fn currantplane_move(
     edge_count: usize,
     number: usize,
 ) -> u8
-    ensures { (result ≡ (moved (tables_in locations.entry.now edges.now
+    ensures { (result ≡ (moved (tables_in locations.now edges.now
         (record { locations = location_count; edges = edge_count })) configuration.old number).refusal)
-        × (configuration.new ≡ (moved (tables_in locations.entry.now edges.now
+        × (configuration.new ≡ (moved (tables_in locations.now edges.now
         (record { locations = location_count; edges = edge_count })) configuration.old number
         ).configuration) }
 {
@@ -206,13 +206,13 @@ pub extern "C" fn currantplane_walk(
     path: &[u32],
     made: &mut usize,
 ) -> u8
-    ensures { (result ≡ (walked (tables_in locations.entry.now edges.now
+    ensures { (result ≡ (walked (tables_in locations.now edges.now
         (record { locations = location_count; edges = edge_count })) configuration.old
         path.now).refusal)
-        × ((made.new ≡ (walked (tables_in locations.entry.now edges.now
+        × ((made.new ≡ (walked (tables_in locations.now edges.now
         (record { locations = location_count; edges = edge_count })) configuration.old
         path.now).made)
-        × (configuration.new ≡ (walked (tables_in locations.entry.now edges.now
+        × (configuration.new ≡ (walked (tables_in locations.now edges.now
         (record { locations = location_count; edges = edge_count })) configuration.old
         path.now).configuration)) }
 {
@@ -244,7 +244,7 @@ pub extern "C" fn currantplane_ranges(
     ranges: &mut [u32],
     answer: &mut [usize],
 ) -> u8
-    ensures { IsRanged (ranged_to (ranging (tables_in locations.entry.now edges.now
+    ensures { IsRanged (ranged_to (ranging (tables_in locations.now edges.now
         (record { locations = location_count; edges = edge_count })) start ranges.old
         path.now)) result ranges.old ranges.new
         answer.old answer.new }

@@ -1,21 +1,21 @@
 -- The fields of an edge's record, each with the clause of the layout that it is judged by.
-use Prim.Native.Nat.{ℕ, ◌+◌, ◌*◌, ◌≤◌, ◌<◌}
+use Prim.Native.Nat.{ℕ, ◌+◌, ◌*◌}
 use mathlib.Core.Path.{◌≡◌, refl, sym, ap, subst, ◌∙◌}
 use mathlib.Core.Bool.{Bool, true, false, ◌&&◌, ◌||◌, not}
 use mathlib.Core.List.{List, [], ◌∷◌}
 use mathlib.Core.Logic.{inl, inr}
 use native.Mathlib.Omega.{arith}
 use lib.Dec.{eqb, leb, ltb}
-use lib.ListN.{drop, get_or}
-use borrow.Author.Tests.{eq-eqb, eqb-false, eqb-true, leb-true, lt-ltb, ltb-false, ltb-true, leb-false, not-false as unnot}
+use lib.ListN.{drop}
+use borrow.Author.Tests.{eq-eqb, leb-true, lt-ltb, leb-false, not-false as unnot}
 use Rattle.model.specs.Base.{all}
 use Rattle.model.specs.Layout.{added_once, bytes_keep, constant_keeps, could_fall, counters_there, edge_keeps, ends_keep, guard_keeps, guard_there, nodes_keep}
 use Rattle.model.specs.Notions.{In}
-use Rattle.model.specs.Records.{GuardCode, byte, is_zero, record_at, word}
+use Rattle.model.specs.Records.{GuardCode, byte, is_zero, word}
 use Rattle.model.specs.Runs.{guards_of, updates_of}
 use Rattle.model.proofs.lists.Lists.{all_in, all_of}
 use Rattle.model.proofs.lists.Logic.{and_both, and_l, and_r, and_five, bool_ext, clash, not-false, not-true, or_cases, or_false_l, or_false_r}
-use Rattle.model.proofs.records.LayoutFacts.{EdgeKept, edge_kept}
+use Rattle.model.proofs.records.LayoutFacts.{edge_kept}
 use Rattle.update_layout.specs.Kept.{guard_ok, update_keeps}
 
 module _ (n ks kt : ℕ) (r : List ℕ) where

@@ -1,12 +1,11 @@
 -- Exploring the locations of a listing held in the tables: what it asks and what it leaves. Assumes nothing.
 use Rattle.std.specs.Prelude.{ℕ, ◌≤◌, ◌<◌, ◌*◌, true, ◌≡◌, List, length}
 use Rattle.model.specs.Base.{most_edges, most_locations, most_statements, record_size}
-use Rattle.model.specs.Edges.{Edge, Loc, at, edges_of, failed, stmt_at}
+use Rattle.model.specs.Edges.{edges_of, stmt_at}
 use Rattle.model.specs.Machine.{Stmt}
 use Rattle.model.specs.Records.{is_s, record_at, refusal, refusal_s, stmt_of}
-use Rattle.model.specs.Translate.{Explored, Listing, add_edges, explore, full, listed, places}
-use Rattle.model.specs.Notions.{In}
-use Rattle.model.specs.Listings.{GoodLoc, loc_at}
+use Rattle.model.specs.Translate.{Explored, Listing, explore, full, listed, places}
+use Rattle.model.specs.Listings.{loc_at}
 use Rattle.model.specs.declared.Counts.{Counts}
 use Rattle.listing.specs.Grow.{Holds}
 use Rattle.listing.specs.declared.Grown.{Grown}

@@ -116,8 +116,8 @@ pub fn run_saved(
     ps: &[u8],
     cs: &[u8],
 ) -> u8
-    requires step_ready { StepReady d x pointers.old cells.old }
-    requires ps_value { (ps.now ≡ pointers.old) × (cs.now ≡ cells.old) }
+    requires ready { StepReady d x pointers.old cells.old }
+    requires saved { (ps.now ≡ pointers.old) × (cs.now ≡ cells.old) }
     ensures { Finished d x pointers.old cells.old
         result pointers.new cells.new }
 {

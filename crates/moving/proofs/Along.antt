@@ -1,9 +1,8 @@
 -- One move in tables and a configuration that keep the layout, of twelve counters as they are kept.
 use Prim.Native.Nat.{ℕ, zero, suc, ◌+◌, ◌*◌, ◌/◌, ◌%◌, ◌≤◌, ◌<◌}
 use mathlib.Core.Path.{◌≡◌, refl, sym, ap, ap₂, subst, ◌∙◌}
-use mathlib.Core.Bool.{Bool, true, false, ◌&&◌, ◌||◌, and-false, cond, not}
+use mathlib.Core.Bool.{Bool, true, false, ◌&&◌, ◌||◌, cond, not}
 use mathlib.Core.List.{List, [], ◌∷◌, map}
-use mathlib.Core.Logic.{inl, inr}
 use mathlib.Core.Option.{none, some}
 use native.Mathlib.Omega.{arith}
 use lib.Dec.{eqb, leb, ltb}
@@ -14,14 +13,13 @@ use Rattle.model.specs.Base.{all}
 use Rattle.model.specs.Image.{counters_of}
 use Rattle.model.specs.Layout.{guard_there, guard_keeps, keeps_layout}
 use Rattle.model.specs.Notions.{In}
-use Rattle.model.specs.Records.{GuardCode, byte, filled, is_zero, record_at, word}
-use Rattle.model.specs.Runs.{Advance, Config, added, applied, enabled, guard_holds, guards_hold, guards_of, move_of, nodes_at, taken, updates_of}
+use Rattle.model.specs.Records.{GuardCode, filled, is_zero, record_at, word}
+use Rattle.model.specs.Runs.{Config, added, applied, enabled, guard_holds, guards_hold, guards_of, move_of, nodes_at, taken, updates_of}
 use Rattle.model.specs.Translate.{Tables}
-use Rattle.model.specs.Walking.{configuration_keeps, configuration_of, in_automaton, in_counters, keeps, moved, stays_with}
+use Rattle.model.specs.Walking.{configuration_keeps, in_automaton, in_counters, keeps, moved, stays_with}
 use Rattle.model.specs.declared.Configuration.{Configuration}
-use Rattle.model.specs.declared.Moved.{Moved}
-use Rattle.model.proofs.lists.Lists.{all_in, all_of, map_same}
-use Rattle.model.proofs.lists.Logic.{and_both, and_l, and_r, and_true, bool_case}
+use Rattle.model.proofs.lists.Lists.{all_in, map_same}
+use Rattle.model.proofs.lists.Logic.{and_l, and_r, and_true, bool_case}
 use Rattle.model.proofs.records.LayoutFacts.{EdgeKept, layout_kept, layout_nodes, layout_room}
 use Rattle.model.proofs.runs.OneMove.{moved_done, moved_none, moved_over}
 use Rattle.moving.specs.Advanced.{Ready, advanced, standing}

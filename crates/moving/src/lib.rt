@@ -1,7 +1,7 @@
 // One move along an edge, in tables and a configuration that keep the layout.
 #![tactic(auto)]
 
-ghost use Rattle.std.specs.Prelude.{◌≡◌, true, ◌&&◌, map, ◌++◌, ℕ, ◌+◌, ◌*◌, ◌^◌, ◌<◌, ◌≤◌, eqb, ltb, drop, get_or, length, set};
+ghost use Rattle.std.specs.Prelude.{◌≡◌, true, ◌&&◌, map, ◌++◌, ◌+◌, ◌*◌, ◌^◌, ◌<◌, ◌≤◌, eqb, ltb, drop, get_or, length, set};
 ghost use Rattle.model.specs.Base.{most_nodes, record_size};
 ghost use Rattle.model.specs.Notions.{In};
 ghost use Rattle.model.specs.Records.{GuardCode, byte, record_at, word};

@@ -39,9 +39,9 @@ fn part_of<'a>(
     end: usize,
 ) -> &'a [u8]
     requires { (begin ≤ end) × (end ≤ length (meant mark locations.now edges.now)) }
-    ensures result_value { result.now
+    ensures part { result.now
         ≡ take (end - begin) (drop begin (meant mark locations.now edges.now)) }
-    ensures ref_ptr_value { result.ref_ptr ≡ onward (meant mark locations.entry.ref_ptr edges.entry.ref_ptr) begin }
+    ensures stands { result.ref_ptr ≡ onward (meant mark locations.entry.ref_ptr edges.entry.ref_ptr) begin }
 {
     if mark == 0 {
         return &locations[begin..end];

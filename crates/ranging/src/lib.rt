@@ -137,7 +137,7 @@ pub fn follow_ranges(
     ranges: &[u32],
     path: &[u32],
 ) -> Ranged
-    ensures { result ≡ ranged_to (ranging (tables_in locations.entry.now edges.now
+    ensures { result ≡ ranged_to (ranging (tables_in locations.now edges.now
         (record { locations = location_count; edges = edge_count })) start ranges.now
         path.now) }
 {

@@ -1,12 +1,11 @@
 -- The four words of a record have the bytes of a shape: six pointers, at most twelve successors, and zeros.
-use Prim.Native.Nat.{ℕ, suc, min, ◌+◌, ◌-◌, ◌*◌, ◌/◌, ◌%◌, ◌≤◌, ◌<◌}
+use Prim.Native.Nat.{ℕ, min, ◌+◌, ◌-◌, ◌*◌, ◌/◌, ◌%◌, ◌≤◌, ◌<◌}
 use mathlib.Core.Path.{◌≡◌, refl, sym, ap, ap₂, subst, ◌∙◌}
-use mathlib.Core.Bool.{Bool, true, false}
 use mathlib.Core.Logic.{inl, inr}
 use mathlib.Core.List.{List, [], ◌∷◌, ◌++◌, append_assoc, append-nil, map, map-append}
 use native.Mathlib.Omega.{arith}
 use lib.Dec.{ltb}
-use lib.ListN.{drop, get_or, length, length-append, length-drop, length-map, length-take, replicate, replicate-append-replicate, take, take-append-drop}
+use lib.ListN.{drop, get_or, length, length-append, length-drop, length-map, replicate, replicate-append-replicate, take, take-append-drop}
 use lib.Seq.{drop_at, drop-drop, get_or-drop, get_or-take, length-take-le, take_all, take_at}
 use borrow.Author.Tests.{ltb-false, ltb-true}
 use Rattle.model.specs.Notions.{In}

@@ -73,8 +73,8 @@ fn write_strand(cells: &mut [u8], at: usize, count: usize, value: u8)
 
 // Writes the strand of each node from cell 0 on, and answers the number of cells.
 fn write_strands(firsts: &[u8], successors: &[u8], counters: &[u32], cells: &mut [u8]) -> usize
-    requires successors_len { (length successors.now ≡ length counters.now) × (all (leb 1) counters.now ≡ true) }
-    requires counters_in_bounds { (sum (λ v. v) counters.now ≤ length cells.old) × (length cells.old ≤ most_cells) }
+    requires filled { (length successors.now ≡ length counters.now) × (all (leb 1) counters.now ≡ true) }
+    requires room { (sum (λ v. v) counters.now ≤ length cells.old) × (length cells.old ≤ most_cells) }
     ensures count { result ≡ sum (λ v. v) counters.now }
     ensures bytes { take result cells.new
         ≡ strands_bytes firsts.now 0 successors.now counters.now }
@@ -93,8 +93,8 @@ fn write_strands(firsts: &[u8], successors: &[u8], counters: &[u32], cells: &mut
 
 // Writes every cell: the strands from cell 0 on, the rest not in use.
 fn write_cells(firsts: &[u8], successors: &[u8], counters: &[u32], cells: &mut [u8])
-    requires successors_len { (length successors.now ≡ length counters.now) × (all (leb 1) counters.now ≡ true) }
-    requires counters_in_bounds { (sum (λ v. v) counters.now ≤ length cells.old) × (length cells.old ≤ most_cells) }
+    requires filled { (length successors.now ≡ length counters.now) × (all (leb 1) counters.now ≡ true) }
+    requires room { (sum (λ v. v) counters.now ≤ length cells.old) × (length cells.old ≤ most_cells) }
     ensures { cells.new ≡ image_bytes (length cells.old)
         (strands_bytes firsts.now 0 successors.now counters.now) }
 {

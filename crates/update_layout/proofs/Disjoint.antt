@@ -1,21 +1,21 @@
 -- Updates of which none adds a counter that an earlier one added: the counters seen so far are the bits of a number.
 use Prim.Native.Nat.{ℕ, zero, suc, ◌+◌, ◌*◌, ◌-◌, ◌/◌, ◌%◌, ◌^◌, ◌≤◌, ◌<◌, min, max}
-use mathlib.Core.Path.{◌≡◌, refl, sym, ap, ap₂, ◌∙◌}
+use mathlib.Core.Path.{◌≡◌, refl, sym, ap, ◌∙◌}
 use mathlib.Core.Bool.{Bool, true, false, ◌&&◌, cond}
 use mathlib.Core.List.{List, [], ◌∷◌, map}
 use native.Mathlib.Nat.{pow-suc, zero-div}
 use native.Mathlib.Numerals.{add-one}
 use native.Mathlib.Omega.{arith}
-use lib.Bits.{bit_and, bit_or, and_le_r, and_shr, and_step, or_lt, or_shr, or_step}
+use lib.Bits.{bit_and, bit_or, and_le_r, and_shr, and_step, or_shr, or_step}
 use lib.Dec.{eqb, leb}
 use lib.Pow.{field, mod-mod-pow}
-use borrow.Author.Tests.{eq-eqb, eqb-true, le-leb, leb-true, ne_eqb}
+use borrow.Author.Tests.{eq-eqb, eqb-true, le-leb, leb-true}
 use Rattle.model.specs.Base.{all, count, numbers}
 use Rattle.model.specs.Layout.{added_once, adds_old}
 use Rattle.model.specs.Records.{word}
 use Rattle.model.specs.Runs.{updates_of}
 use Rattle.model.proofs.lists.Lists.{all_in, all_of}
-use Rattle.model.proofs.lists.Logic.{and_both, and_l, and_r, bool_case, bool_ext}
+use Rattle.model.proofs.lists.Logic.{and_both, and_l, and_r, bool_ext}
 use Rattle.model.proofs.lists.Numbers.{in_numbers, numbers_in}
 use Rattle.update_layout.proofs.Sums.{bit_next}
 

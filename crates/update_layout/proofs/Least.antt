@@ -10,16 +10,14 @@ use lib.Bits.{bit_and}
 use lib.Count.{ones, ones_step}
 use lib.Dec.{eqb, leb, ltb}
 use lib.Pow.{pow_pos}
-use lib.ListN.{get_or, length, length-map, replicate, length-replicate, get_or-replicate}
-use borrow.Author.Tests.{eq-eqb, eqb-false, eqb-true, leb-false, leb-true, not-false as unnot, ltb-true, lt-ltb, le-leb, ne_eqb, le-ltb}
-use Rattle.model.specs.Base.{any, numbers}
+use lib.ListN.{get_or, replicate, length-replicate, get_or-replicate}
+use borrow.Author.Tests.{eq-eqb, eqb-false, eqb-true, leb-false, leb-true, not-false as unnot, ltb-true, lt-ltb, ne_eqb, le-ltb}
 use Rattle.model.specs.Layout.{adds_old, asks_more, constant_keeps, could_fall, counters_there, least_counters}
 use Rattle.model.specs.Notions.{In}
 use Rattle.model.specs.Records.{GuardCode, is_zero}
 use Rattle.model.specs.Runs.{added, applied, guards_hold}
-use Rattle.model.proofs.lists.Lists.{any_find, any_in, get_or_map}
+use Rattle.model.proofs.lists.Lists.{any_find, any_in}
 use Rattle.model.proofs.lists.Logic.{and_both, and_l, and_r, and_true, bool_case, bool_ext, clash, eqb_same, eqb_sym, not-false, not-true, or_cases, or_false_l, or_false_r}
-use Rattle.model.proofs.lists.Numbers.{at_number, length_numbers}
 use Rattle.model.proofs.records.Falls.{least_at, least_length}
 use Rattle.update.specs.Counted.{added_count}
 use Rattle.update.proofs.Bits.{added_counted, counted_added, masked}

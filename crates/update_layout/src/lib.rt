@@ -5,7 +5,7 @@
 ghost use Rattle.std.specs.Prelude.{◌≡◌, true, ◌&&◌, ◌%◌, ◌≤◌, eqb, length};
 ghost use Rattle.std.specs.Int.Bits.{bit_and, bit_or};
 ghost use Rattle.model.specs.Base.{all, most_nodes, record_size};
-ghost use Rattle.model.specs.Layout.{added_once, adds_old, constant_keeps, could_fall, counters_there};
+ghost use Rattle.model.specs.Layout.{added_once, constant_keeps, could_fall, counters_there};
 ghost use Rattle.model.specs.Runs.{updates_of};
 ghost use Rattle.model.specs.Structs.{code_in};
 ghost use Rattle.update_layout.specs.Kept.{GuardsKept, asks, codes_in, exclude, guard_ok, update_keeps};

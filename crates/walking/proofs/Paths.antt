@@ -1,8 +1,8 @@
 -- A walk in tables and a configuration that keep the layout, move by move.
-use Prim.Native.Nat.{ℕ, suc, zero, ◌+◌, ◌≤◌, ◌<◌}
+use Prim.Native.Nat.{ℕ, ◌+◌, ◌≤◌, ◌<◌}
 use mathlib.Core.Path.{◌≡◌, refl, sym, ap, subst, ◌∙◌}
-use mathlib.Core.Bool.{true, ◌&&◌}
-use mathlib.Core.List.{List, [], ◌∷◌}
+use mathlib.Core.Bool.{true}
+use mathlib.Core.List.{List, ◌∷◌}
 use native.Mathlib.Numerals.{add-one}
 use native.Mathlib.Omega.{arith}
 use lib.ListN.{drop, drop_of_length-le, get_or, length}
@@ -10,7 +10,6 @@ use Rattle.model.specs.Translate.{Tables}
 use Rattle.model.specs.Walking.{keeps, moved, moves_along, walked_to}
 use Rattle.model.specs.declared.Configuration.{Configuration}
 use Rattle.model.specs.declared.Moved.{Moved}
-use Rattle.model.specs.declared.Walked.{Walked}
 use Rattle.model.proofs.lists.Slices.{drop_step}
 use Rattle.model.proofs.runs.Along.{along_done, along_refused, number-case}
 use Rattle.model.proofs.runs.OneMove.{move_done, move_told}

@@ -65,7 +65,7 @@ pub fn make_move(
     edge_count: usize,
     number: usize,
 ) -> Moved
-    ensures { result ≡ moved (tables_in locations.entry.now edges.now
+    ensures { result ≡ moved (tables_in locations.now edges.now
         (record { locations = location_count; edges = edge_count })) configuration number }
 {
     let counts = Counts {
@@ -137,7 +137,7 @@ pub fn make_walk(
     edge_count: usize,
     path: &[u32],
 ) -> Walked
-    ensures { result ≡ walked (tables_in locations.entry.now edges.now
+    ensures { result ≡ walked (tables_in locations.now edges.now
         (record { locations = location_count; edges = edge_count })) configuration path.now }
 {
     let counts = Counts {

@@ -1,5 +1,4 @@
 -- `step_ended` meets its contract: only a refusal is one.
-use Rattle.model.specs.declared.Stepped.TheVariants as stepped
 use Rattle.answers.proofs.step_ended.Goals as goal
 
 pub returns-in-Refused : goal.returns-in-Refused

@@ -1,5 +1,4 @@
 -- `step_numbers` meets its contract: the numbers of each case.
-use Rattle.model.specs.declared.Stepped.TheVariants as stepped
 use Rattle.answers.proofs.step_numbers.Goals as goal
 
 pub returns-in-Went : goal.returns-in-Went

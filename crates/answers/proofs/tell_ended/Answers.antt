@@ -12,7 +12,6 @@ told_as : {e x : Ended} → e ≡ x
 told_as q = record {
   number = ap (λ y. (refusal_of (verdict_of y)).number) (sym q);
   place = ap (λ y. (refusal_of (verdict_of y)).place) (sym q);
-
 }
 
 pub returns-in-Accepted : goal.returns-in-Accepted

@@ -2,7 +2,6 @@
 use mathlib.Core.Path.{◌≡◌, ap, sym}
 use Rattle.model.specs.Answers.{refusal_of, unfolded_verdict}
 use Rattle.model.specs.declared.Unfolded.{Unfolded}
-use Rattle.model.specs.declared.Unfolded.TheVariants as unfolded
 use Rattle.answers.specs.Numbers.{IsTold}
 use Rattle.answers.proofs.tell_unfolded.Goals as goal
 
@@ -11,7 +10,6 @@ told_as : {u x : Unfolded} → u ≡ x
 told_as q = record {
   number = ap (λ y. (refusal_of (unfolded_verdict y)).number) (sym q);
   place = ap (λ y. (refusal_of (unfolded_verdict y)).place) (sym q);
-
 }
 
 pub returns-in-Refused : goal.returns-in-Refused

@@ -16,21 +16,21 @@ pub loop-i-init : goal.loop-i-init
 loop-i-init c =
     let s = c in
     let a = s.args in
-    (omega arith, refl, added_none a.node.now (plus_in a.weights) a.cells.now a.updates.now s.requires.by_index)
+    (omega arith, refl, added_none a.node.now (plus_in a.weights) a.cells.now a.updates.now s.requires.small)
 
 pub node_of-n-requires : goal.node_of-n-requires
 node_of-n-requires c =
     let s = c in
     let i = c.loop-i.i in
     let cells = s.args.cells.now in
-    s.requires.cells_len_bound.1.tabled (get_or cells i 0) (mem_at cells i (search rules))
+    s.requires.ready.1.tabled (get_or cells i 0) (mem_at cells i (search rules))
 
 pub cell_plus-plus-requires : goal.cell_plus-plus-requires
 cell_plus-plus-requires c =
     let s = c in
     let i = c.loop-i.i in
     let cells = s.args.cells.now in
-    let r = s.requires.cells_len_bound.1 in
+    let r = s.requires.ready.1 in
     (r.below (get_or cells i 0) (mem_at cells i (search rules)), r.few_old, r.is_node)
 
 -- the cell's node has an entry
@@ -40,7 +40,7 @@ node_below c =
     let s = c in
     let i = c.loop-i.i in
     let cells = s.args.cells.now in
-    omega (arith, c.node_of-n.ensures, s.requires.cells_len_bound.1.nodes (get_or cells i 0) (mem_at cells i (search rules)))
+    omega (arith, c.node_of-n.ensures, s.requires.ready.1.nodes (get_or cells i 0) (mem_at cells i (search rules)))
 
 pub add_code-requires : goal.add_code-requires
 add_code-requires c =
@@ -48,7 +48,7 @@ add_code-requires c =
     let l = c.loop-i in
     let n = c.node_of-n.result.0 in
     let lt : n < length s.args.updates.now = omega (arith, node_below (goal.at.add_code-requires c).After-node_of-n, l.invariant.1) in
-    (node_below (goal.at.add_code-requires c).After-node_of-n, omega (arith, (l.invariant.2 n lt).1, s.requires.cells_len_bound.0, c.cell_plus-plus.ensures.1))
+    (node_below (goal.at.add_code-requires c).After-node_of-n, omega (arith, (l.invariant.2 n lt).1, s.requires.ready.0, c.cell_plus-plus.ensures.1))
 
 pub loop-i-preserved : goal.loop-i-preserved
 loop-i-preserved c =

@@ -18,12 +18,15 @@ add_cells-requires c =
     let s = c in
     let a = s.args in
     let w = c.write_bases in
-    let same : length w.new.updates ≡ length a.updates.now = omega arith in record { cells_len_bound = (
+    let same : length w.new.updates ≡ length a.updates.now = omega arith in record {
+      ready = (
         s.requires.0,
         ready_same a.cells.now a.node.now a.weights (length a.updates.now)
             (length w.new.updates) same s.requires.1,
-      ); by_index = λ j lt. let e = w.ensures j (omega arith) in
-          omega (arith, base_most a.weights.split (get_or a.node.now a.weights.nodes 0) j) }
+      );
+      small = λ j lt. let e = w.ensures j (omega arith) in
+          omega (arith, base_most a.weights.split (get_or a.node.now a.weights.nodes 0) j);
+    }
 
 pub returns : goal.returns
 returns c j lt =

@@ -1,5 +1,4 @@
 -- `currantplane_ranges` meets its contract: what the core tells, in numbers and over what is lent.
-use borrow.Author.Rules.{rules}
 use Rattle.currantplane.proofs.Told.{ranged_told}
 use Rattle.currantplane.proofs.currantplane_ranges.Goals as goal
 

@@ -1,6 +1,5 @@
 -- `currantplane_record` meets its contract: the part that is handed back, told by where it begins and its length.
 use native.Mathlib.Omega.{arith}
-use borrow.Author.Rules.{rules}
 use Rattle.model.specs.Structs.{tables_in}
 use Rattle.currantplane.proofs.Told.{record_small, record_told}
 use Rattle.currantplane.proofs.currantplane_record.Goals as goal

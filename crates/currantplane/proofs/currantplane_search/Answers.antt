@@ -1,6 +1,5 @@
 -- `currantplane::currantplane_search` meets its contract: the answer of the search in numbers.
 use mathlib.Core.Path.{ap, ◌∙◌}
-use borrow.Author.Rules.{rules}
 use Rattle.model.specs.Answers.{found_numbers}
 use Rattle.currantplane.proofs.currantplane_search.Goals as goal
 

@@ -1,5 +1,4 @@
 -- `currantplane_step` meets its contract: the step's numbers are laid over the answer, and its refusal is told.
-use borrow.Author.Rules.{rules}
 use Rattle.currantplane.proofs.Told.{stepped_as}
 use Rattle.currantplane.proofs.currantplane_step.Goals as goal
 

@@ -1,6 +1,4 @@
 -- `currantplane_translate` meets its contract: the outcome is told in numbers.
-use mathlib.Core.Path.{◌≡◌}
-use borrow.Author.Rules.{rules}
 use Rattle.model.specs.declared.Translated.TheVariants as translated
 use Rattle.currantplane.proofs.Told.{outcome_told}
 use Rattle.currantplane.proofs.currantplane_translate.Goals as goal

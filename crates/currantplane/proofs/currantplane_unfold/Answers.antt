@@ -1,6 +1,5 @@
 -- `currantplane_unfold` meets its contract: the unfolding's refusal is told, and its node.
 use mathlib.Core.Path.{refl}
-use borrow.Author.Rules.{rules}
 use Rattle.currantplane.proofs.Told.{unfolded_as}
 use Rattle.currantplane.proofs.currantplane_unfold.Goals as goal
 

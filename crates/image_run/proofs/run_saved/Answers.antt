@@ -7,11 +7,11 @@ use Rattle.image_run.proofs.run_saved.Goals as goal
 pub restore-requires : goal.restore-requires
 restore-requires c =
     let r = c in
-    let e = r.requires.ps_value in
+    let e = r.requires.saved in
     (c.run_on-fault.auto.pointers ∙ ap length (sym e.0), c.run_on-fault.auto.cells ∙ ap length (sym e.1))
 
 pub returns : goal.returns
 returns c =
     let r = c in
-    put_back r.requires.ps_value
+    put_back r.requires.saved
     r.run_on-fault.result r.run_on-fault.ensures c.restore.ensures

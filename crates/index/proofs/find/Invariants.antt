@@ -1,5 +1,4 @@
 -- `index::find` meets its contract: the chain of the hash is followed from its head.
-use Prim.Native.Nat.{◌-◌}
 use Rattle.index.proofs.Chains.{Follows}
 use Rattle.index.proofs.find.Given as goal
 

@@ -17,8 +17,11 @@ use Rattle.input.proofs.check_counts.Goals as goal
 pub returns-then-not-within : goal.returns-then-not-within
 returns-then-not-within c =
     let s = c.args.input.now in
-    let n = c.count_statements-statements.ensures in record { outcome = counts_2 (records_of s) (ap (between 1 64) (sym n) ∙ sym c.within.ensures
-          ∙ c.if-not-within.true); counts = refl }
+    let n = c.count_statements-statements.ensures in record {
+      outcome = counts_2 (records_of s) (ap (between 1 64) (sym n) ∙ sym c.within.ensures
+          ∙ c.if-not-within.true);
+      counts = refl;
+    }
 
 pub overflow_sub-shapes : goal.overflow_sub-shapes
 overflow_sub-shapes c =
@@ -35,10 +38,13 @@ returns-then-not-within-2 c =
     let s = b.args.input.now in
     let n = c.count_statements-statements.ensures in
     let m : b.args.records - c.count_statements-statements.result ≡ count is_h (records_of s) =
-    omega (arith, counts_whole s b.args.records b.requires.0 b.requires.1, n) in record { outcome = counts_3 (records_of s)
+    omega (arith, counts_whole s b.args.records b.requires.0 b.requires.1, n) in record {
+      outcome = counts_3 (records_of s)
           (ap (between 1 64) (sym n) ∙ sym c.within.ensures
           ∙ c.if-not-within.false)
-          (ap (between 1 16) (sym m) ∙ sym c.within-2.ensures ∙ c.if-not-within-2.true); counts = refl }
+          (ap (between 1 16) (sym m) ∙ sym c.within-2.ensures ∙ c.if-not-within-2.true);
+      counts = refl;
+    }
 
 pub check_records-requires : goal.check_records-requires
 check_records-requires c =
@@ -65,8 +71,11 @@ returns c =
     let n = c.count_statements-statements.ensures in
     let m : b.args.records - c.count_statements-statements.result
     ≡ count is_h (records_of s) =
-    omega (arith, counts_whole s b.args.records b.requires.0 b.requires.1, n) in record { outcome = c.check_records.ensures.outcome ∙ ap (λ k. check_records k (records_of s)) n
+    omega (arith, counts_whole s b.args.records b.requires.0 b.requires.1, n) in record {
+      outcome = c.check_records.ensures.outcome ∙ ap (λ k. check_records k (records_of s)) n
           ∙ counts_rest (records_of s)
           (ap (between 1 64) (sym n) ∙ sym c.within.ensures
           ∙ c.if-not-within.false)
-          (ap (between 1 16) (sym m) ∙ sym c.within-2.ensures ∙ c.if-not-within-2.false); counts = c.check_records.ensures.counts }
+          (ap (between 1 16) (sym m) ∙ sym c.within-2.ensures ∙ c.if-not-within-2.false);
+      counts = c.check_records.ensures.counts;
+    }

@@ -25,5 +25,8 @@ pub returns : goal.returns
 returns c =
     let a = c.args in
     let p = c.wrong_kind-place.result in
-    let f : kind_found a.records p ≡ none = rw (le-ltb p a.records c.if-place-records.false) in record { outcome = c.check_counts.ensures.outcome ∙ kinds_rest (records_of a.input.now)
-          (sym c.wrong_kind-place.ensures ∙ f); counts = c.check_counts.ensures.counts }
+    let f : kind_found a.records p ≡ none = rw (le-ltb p a.records c.if-place-records.false) in record {
+      outcome = c.check_counts.ensures.outcome ∙ kinds_rest (records_of a.input.now)
+          (sym c.wrong_kind-place.ensures ∙ f);
+      counts = c.check_counts.ensures.counts;
+    }

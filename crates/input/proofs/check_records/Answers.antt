@@ -15,9 +15,12 @@ returns-then-failure-ne0 c =
     let a = c.args in
     let s = a.input.now in
     let l = c.loop-i in
-    let f = c.record_refusal-failure in record { outcome = records_bad a.statements (records_of s) (refusal_at f.result.number l.i f.result.node.0)
+    let f = c.record_refusal-failure in record {
+      outcome = records_bad a.statements (records_of s) (refusal_at f.result.number l.i f.result.node.0)
           (l.invariant.1 ∙ records_fail s (a.statements + a.shapes) (omega arith) a.statements l.i (omega arith)
-          f.ensures c.if-failure-ne0.true); counts = number_known a.statements (earlier s l.i) (record_at s l.i) f.ensures c.if-failure-ne0.true }
+          f.ensures c.if-failure-ne0.true);
+      counts = number_known a.statements (earlier s l.i) (record_at s l.i) f.ensures c.if-failure-ne0.true;
+    }
 
 pub loop-i-preserved : goal.loop-i-preserved
 loop-i-preserved c =
@@ -33,6 +36,9 @@ pub returns : goal.returns
 returns c =
     let a = c.args in
     let s = a.input.now in
-    let l = c.loop-i in record { outcome = records_good a.statements (records_of s)
+    let l = c.loop-i in record {
+      outcome = records_good a.statements (records_of s)
           (l.invariant.1 ∙ records_pass_end s (a.statements + a.shapes) (omega arith) a.statements l.i
-          (omega arith)); counts = c.requires }
+          (omega arith));
+      counts = c.requires;
+    }

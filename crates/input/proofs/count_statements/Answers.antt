@@ -12,7 +12,7 @@ loop-i-preserved c =
     let l = c.loop-i in
     let k = count_step a.input.now a.records (omega arith) l.i (omega arith) in
     elim c.if-input-i-eq83.branch [
-      then-input-i-eq83 w ↦ (let n = w.n-is in let e = rw (eq-eqb _ _ w.if-input-i-eq83.true) at k in omega arith)
+      | then-input-i-eq83 w ↦ (let n = w.n-is in let e = rw (eq-eqb _ _ w.if-input-i-eq83.true) at k in omega arith)
       | else-input-i-eq83 w ↦ (let n = w.n-is in let e = rw (ne_eqb _ _ w.if-input-i-eq83.false) at k in omega arith)
     ]
 

@@ -19,7 +19,6 @@ hit l v i c C = record {
   one = λ j a b e. omega arith;
   two = λ j m a b d e f. eq-case m i (λ q. omega (arith, C.one j a (omega arith) e))
       (λ q. omega (arith, C.two j m a b (omega (arith, eqb-false m i q)) e f));
-
 }
 
 miss : (l : List ℕ) (v i c : ℕ) → (byte l i ≡ v → ⊥) → Counted l v i c → Counted l v (i + 1) c
@@ -42,7 +41,7 @@ loop-i-preserved c =
       search rules,
       search rules,
       elim c.if-location-i.branch [
-        then-location-i w ↦ subst C (sym w.count-is) (hit l v q.i q.count q.invariant.2)
+        | then-location-i w ↦ subst C (sym w.count-is) (hit l v q.i q.count q.invariant.2)
         | else-location-i w ↦ subst C (sym w.count-is) (miss l v q.i q.count w.if-location-i.false q.invariant.2)
       ],
     )
@@ -62,14 +61,14 @@ returns c e i a b q =
 
 pub loop-i-init : goal.loop-i-init
 loop-i-init c = (
-      search rules,
-      search rules,
-      record {
-        most = omega arith;
-        one = λ j a b e. absurd (omega arith);
-        two = λ j m a b d e f. absurd (omega arith);
-      },
-    )
+  search rules,
+  search rules,
+  record {
+    most = omega arith;
+    one = λ j a b e. absurd (omega arith);
+    two = λ j m a b d e f. absurd (omega arith);
+  },
+)
 
 pub overflow_add-count : goal.overflow_add-count
 overflow_add-count c = let s = c in

@@ -53,10 +53,10 @@ returns c =
 
 pub loop-j-init : goal.loop-j-init
 loop-j-init c = (
-      refl,
-      put_none c.args.rec.now c.args.counters.now
-          c.args.nodes c.args.next.now,
-    )
+  refl,
+  put_none c.args.rec.now c.args.counters.now
+      c.args.nodes c.args.next.now,
+)
 
 pub shape_of-next-then-not-put_counter : goal.shape_of-next-then-not-put_counter
 shape_of-next-then-not-put_counter c = c.put_counter.ensures.2

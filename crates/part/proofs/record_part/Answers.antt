@@ -27,7 +27,7 @@ returns-then-not-answerable c =
     let h = none_handed (tables_in a.locations.now a.edges.now a.counts) a.mark a.number
     (meant a.mark a.locations.ref_ptr a.edges.ref_ptr)
     (sym c.answerable.ensures ∙ c.if-not-answerable.true)
-    c.part_of.ensures.result_value c.part_of.ensures.ref_ptr_value in
+    c.part_of.ensures.part c.part_of.ensures.stands in
     record { part = h.0; stands = h.1.0; told = h.1.1 }
 
 pub overflow_mul-begin : goal.overflow_mul-begin
@@ -43,6 +43,6 @@ pub returns : goal.returns
 returns c =
     let a = c.args in
     let h = handed (tables_in a.locations.now a.edges.now a.counts) a.mark a.number
-    (meant a.mark a.locations.ref_ptr a.edges.ref_ptr) (there (goal.at.returns c).Else-not-answerable) c.part_of-2.ensures.result_value
-    c.part_of-2.ensures.ref_ptr_value in
+    (meant a.mark a.locations.ref_ptr a.edges.ref_ptr) (there (goal.at.returns c).Else-not-answerable) c.part_of-2.ensures.part
+    c.part_of-2.ensures.stands in
     record { part = h.0; stands = h.1.0; told = h.1.1 }

@@ -20,4 +20,4 @@ run_saved-requires c =
     let a = s.args in
     let six = s.requires.ready.six in
     let p = j.copy.ensures.1 ∙ copied_whole a.pointers.now (replicate 6 0) (omega arith) in
-    record { step_ready = s.requires; ps_value = (p, kept_front a.cells.now (replicate 240 0) k.copy-2.ensures.1) }
+    record { ready = s.requires; saved = (p, kept_front a.cells.now (replicate 240 0) k.copy-2.ensures.1) }

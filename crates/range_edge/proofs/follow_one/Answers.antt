@@ -26,7 +26,7 @@ cut-requires-2 c =
     let second = (code_in c.guards_of-guards.result.second) in
     let n = c.requires.guard_nodes second (subst (In second) c.guards_of-guards.ensures (inr (inl refl))) in
     let t : Twelve (box_of c.cut.new.lows c.cut.new.highs) = cut_twelve first c.cut.ensures.1
-        (record { of_lows = c.requires.twelve_lows; of_highs = c.requires.twelve_highs }) in
+    (record { of_lows = c.requires.twelve_lows; of_highs = c.requires.twelve_highs }) in
     (subst (λ k. second.node < k) (sym t.of_lows) n, subst (λ k. second.node < k) (sym t.of_highs) n)
 
 -- the node count that was read is the target's

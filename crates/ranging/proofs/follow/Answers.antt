@@ -26,10 +26,13 @@ use Rattle.ranging.proofs.follow.Goals.{After-follow_one, At-loop-i}
 module _ (t : Tables) (start : ℕ) (rs ns : List ℕ) {lows highs : List ℕ} (R : FollowReady t start rs ns lows highs) where
   layout : keeps_layout t ≡ true
   layout = asked_layout t start rs ns R.asked
+
   location : start < t.loc_count
   location = asked_start t start rs ns R.asked
+
   short : length ns ≤ 4096
   short = asked_length t start rs ns R.asked
+
   nodes_few : nodes_at t start ≤ 12
   nodes_few = layout_nodes t layout start location
 

@@ -95,7 +95,7 @@ pub follow_kept-requires : goal.follow_kept-requires
 follow_kept-requires c =
     let a = c.args in
     let R = follow_ready (tables_in c.args.locations.now c.args.edges.now (record { locations = c.args.location_count; edges = c.args.edge_count })) a.start a.ranges.now a.path.now (yes (goal.at.follow_kept-requires c).Else-not-is_askable)
-        (all_linked (goal.at.follow_kept-requires c).Else-led-path) (none_wrong (goal.at.follow_kept-requires c).Else-wrong-k) in
+    (all_linked (goal.at.follow_kept-requires c).Else-led-path) (none_wrong (goal.at.follow_kept-requires c).Else-wrong-k) in
     let g = linked_is (goal.at.follow_kept-requires c).After-go_along-led in
     (R, (c.go_along-led.ensures a.locations.now a.location_count).1 (g ∙ R.linked))
 

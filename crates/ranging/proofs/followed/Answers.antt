@@ -18,8 +18,10 @@ over_twelve xs m = ap₂ ◌++◌ (take_all 12 xs (omega arith)) (ap (λ n. drop
 module _ (lows first : List ℕ) (m : length lows ≡ 12) (e : first ≡ over lows zeros) where
   first_is_lem : first ≡ lows
   first_is_lem = e ∙ over_twelve lows m
+
   room : 24 ≤ length (first ++ zeros)
   room = omega (arith, length-append first zeros, ap length first_is_lem)
+
   both_laid : (highs second : List ℕ) → length highs ≡ 12 → second ≡ over highs (mid_of 12 12 (first ++ zeros))
       → put_mid 12 12 (first ++ zeros) second ≡ lows ++ highs
   both_laid highs second n f =

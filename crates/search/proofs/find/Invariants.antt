@@ -1,5 +1,5 @@
 -- `search::find` meets its contract: what is found is what is found among the records before i.
-use Prim.Native.Nat.{◌-◌, ◌≤◌}
+use Prim.Native.Nat.{◌≤◌}
 use mathlib.Core.Path.{◌≡◌}
 use Rattle.search.specs.Search.{found_at}
 use Rattle.search.proofs.Found.{found_below}

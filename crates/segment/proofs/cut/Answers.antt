@@ -1,5 +1,4 @@
 -- `segment::cut` meets its contract: after i cells the tables are those of the cut of the first i.
-use Prim.Native.Nat.{◌-◌}
 use mathlib.Core.Path.{◌≡◌}
 use native.Mathlib.Omega.{arith}
 use lib.ListN.{length}

@@ -1,5 +1,5 @@
 -- `segment::cut_long` meets its contract: with the cells before place i cut, the tables have their k segments.
-use Prim.Native.Nat.{◌-◌, ◌<◌, ◌≤◌}
+use Prim.Native.Nat.{◌<◌, ◌≤◌}
 use mathlib.Core.Path.{◌∙◌, refl}
 use native.Mathlib.Omega.{arith}
 use lib.ListN.{length, length-set}

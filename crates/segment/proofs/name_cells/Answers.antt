@@ -1,5 +1,4 @@
 -- `segment::name_cells` meets its contract: with the cells from i on named, the table is the one with all named.
-use Prim.Native.Nat.{◌-◌}
 use mathlib.Core.Path.{◌∙◌, ap, sym}
 use native.Mathlib.Omega.{arith}
 use lib.ListN.{drop_of_length-le, length-set}

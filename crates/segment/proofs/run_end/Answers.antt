@@ -1,5 +1,5 @@
 -- `segment::run_end` meets its contract: from place i the search ends where it ends from the first.
-use Prim.Native.Nat.{◌-◌, ◌<◌, ◌≤◌}
+use Prim.Native.Nat.{◌<◌, ◌≤◌}
 use mathlib.Core.Path.{ap}
 use native.Mathlib.Omega.{arith}
 use lib.ListN.{drop_of_length-le, get_or}

@@ -41,7 +41,7 @@ write_cells-requires c =
     let r = a.rec.now in
     let v = a.counters.now in
     let p = a.pointers.now in
-    let l = a.cells.now in record { successors_len = (ready_successors r v p l s.requires ∙ sym (ready_counters r v p l s.requires), ready_positive r v p l s.requires); counters_in_bounds = (ready_nodes r v p l s.requires, s.requires.few) }
+    let l = a.cells.now in record { filled = (ready_successors r v p l s.requires ∙ sym (ready_counters r v p l s.requires), ready_positive r v p l s.requires); room = (ready_nodes r v p l s.requires, s.requires.few) }
 
 pub returns : goal.returns
 returns c =
@@ -53,5 +53,8 @@ returns c =
     let p = a.pointers.now in
     let l = a.cells.now in
     let t = f.new.firsts in
-    let same : length t ≡ length v = omega (arith, ready_twelve r v p l s.requires) in record { pointers = c.place_pointers.ensures
-          ∙ ready_pointers r v p l s.requires t f.ensures same; cells = c.write_cells.ensures ∙ ready_cells r v p l s.requires t f.ensures same (length l) }
+    let same : length t ≡ length v = omega (arith, ready_twelve r v p l s.requires) in record {
+      pointers = c.place_pointers.ensures
+          ∙ ready_pointers r v p l s.requires t f.ensures same;
+      cells = c.write_cells.ensures ∙ ready_cells r v p l s.requires t f.ensures same (length l);
+    }

@@ -17,7 +17,7 @@ write_strand-requires c =
     let l = c.loop-n in
     let a = c in
     let r = node_room a.args.counters.now l.n l.at (length a.args.cells.now) (omega arith)
-    a.requires.successors_len.1 l.invariant.2 a.requires.counters_in_bounds.0 in
+    a.requires.filled.1 l.invariant.2 a.requires.room.0 in
     (r.0, omega arith, omega arith)
 
 pub overflow_add-at : goal.overflow_add-at
@@ -51,5 +51,8 @@ returns c =
     let a = c.args in
     let t = a.counters.now in
     let g : length t ≤ l.n = omega arith in
-    let e = strands_end a.firsts.now a.successors.now t l.at l.n (omega arith) in record { count = omega (arith, sum_end t l.n g); bytes = sym (append-nil (take l.at l.cells))
-          ∙ ap (λ r. take l.at l.cells ++ r) (sym e) ∙ l.invariant.3 }
+    let e = strands_end a.firsts.now a.successors.now t l.at l.n (omega arith) in record {
+      count = omega (arith, sum_end t l.n g);
+      bytes = sym (append-nil (take l.at l.cells))
+          ∙ ap (λ r. take l.at l.cells ++ r) (sym e) ∙ l.invariant.3;
+    }
