@@ -45,7 +45,8 @@ module _ (s : List ℕ) (n m : ℕ) (ls es ks : List ℕ) (R : ListReady s n m l
 
     module _ (ls' es' ix' : List ℕ) (o : Explored) (X : AllExplored s n ks es ix (start_counts m) ls' es' ix' o)
         (p : length ls' ≡ length ks) (q : length es' ≡ length es) where
-      explored_to : ExploredTo n (explored_in ks es (routine_in n s).stmts (start_listing (routine_in n s))) ls' es' ix' o
+      explored_to : ExploredTo n (explored_in ks es (routine_in n s).stmts (start_listing (routine_in n s))) ls' es'
+          ix' o
       explored_to =
           let g = R.starts.is_good in
           let A = R.starts.accepted in

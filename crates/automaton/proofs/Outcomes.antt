@@ -84,8 +84,10 @@ module _ (s : List ℕ) (a b : ℕ) where
 
     -- no place for a starting shape
     pub outcome_few : (ls es : List ℕ) → places most_locations a < length r.starts → ls ≡ replicate a 0
-        → es ≡ replicate b 0 → outcome_of (translated.Refused 11 (places most_locations a) no_node) ls es ≡ translate s a b
-    outcome_few ls es h d e = refused_blank a b 11 cl no_node ls es d e ∙ translate_full_lem (refusal 11 cl) (listing_few h)
+        → es ≡ replicate b 0 → outcome_of (translated.Refused 11 (places most_locations a) no_node) ls es
+        ≡ translate s a b
+    outcome_few ls es h d e = refused_blank a b 11 cl no_node ls es d e
+        ∙ translate_full_lem (refusal 11 cl) (listing_few h)
 
     -- the exploration ends, or finds no place
     module _ (n : ℕ) (ls es ix : List ℕ) (room : length r.starts ≤ places most_locations a) where

@@ -13,7 +13,8 @@ use Rattle.model.proofs.lists.Lists.{get_or_map}
 use Rattle.model.proofs.records.Bytes.{byte_back}
 use Rattle.model.proofs.shapes.Same.{val_same, same_val_refl}
 
-pub ptr_of : (ps : List ℕ) (u : ℕ) (h : Heap) → h.ptrs ≡ map val_of ps → u < length ps → ptr h u ≡ val_of (get_or ps u 0)
+pub ptr_of : (ps : List ℕ) (u : ℕ) (h : Heap) → h.ptrs ≡ map val_of ps → u < length ps → ptr h u
+    ≡ val_of (get_or ps u 0)
 ptr_of ps u h e lt = ap (λ l. get_or l u undef) e ∙ get_or_map val_of ps u 0 undef lt
 
 pub ptr_byte : (ps cs : List ℕ) (u : ℕ) → u < length ps → ptr (heap_of ps cs) u ≡ val_of (get_or ps u 0)

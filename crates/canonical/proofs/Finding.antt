@@ -49,7 +49,8 @@ moved_from : (l : List ℕ) (i : ℕ) (m : List ℕ) → l ≡ numbers 0 i ++ m
 moved_from l i [] e = refl
 moved_from l i (x ∷ m) e =
     let none : mem i (numbers 0 i) ≡ false = not-true _ (λ t. let r = numbers_mem 0 i i t in omega arith) in
-    let held : get_or l i 0 ≡ x = ap₂ (λ k j. get_or k j 0) e (sym (length_numbers 0 i)) ∙ at_behind (numbers 0 i) x m in
+    let held : get_or l i 0 ≡ x = ap₂ (λ k j. get_or k j 0) e (sym (length_numbers 0 i))
+    ∙ at_behind (numbers 0 i) x m in
     let place : place_of (eqb i) l ≡ i + place_of (eqb i) (x ∷ m) =
     ap (place_of (eqb i)) e ∙ place_behind (eqb i) (numbers 0 i) (x ∷ m) none
     ∙ ap (λ k. k + place_of (eqb i) (x ∷ m)) (length_numbers 0 i) in
@@ -58,7 +59,10 @@ moved_from l i (x ∷ m) e =
     rw (eq-eqb (get_or l i 0) i (held ∙ sym q), eq-eqb (place_of (eqb i) l) i (omega arith))
     (ap suc (moved_from l (suc i) m (e ∙ shifted q))))
     (λ q. let z : place_of (eqb i) (x ∷ m) ≡ suc (place_of (eqb i) m) = rw q in
-    rw (ne_eqb (get_or l i 0) i (λ y. eqb-false i x q (sym y ∙ held)), ne_eqb (place_of (eqb i) l) i (λ y. omega arith)))
+    rw (
+      ne_eqb (get_or l i 0) i (λ y. eqb-false i x q (sym y ∙ held)),
+      ne_eqb (place_of (eqb i) l) i (λ y. omega arith),
+    ))
   where
     shifted : i ≡ x → numbers 0 i ++ x ∷ m ≡ numbers 0 (suc i) ++ m
     shifted q =

@@ -79,7 +79,8 @@ module _ {ps cs o s : List ℕ} {r : ℕ} (x : Visited ps cs o s r) (k : closed 
   tells_lost l =
       let h = heap_of ps cs in
       let q = e ∙ lost_first x in
-      given_tells (checks_nodes h) 9 f (inl (refl, sym q, first_fails (reachable h) h q (rw (length-map cs cell_slot) l)))
+      given_tells (checks_nodes h) 9 f
+      (inl (refl, sym q, first_fails (reachable h) h q (rw (length-map cs cell_slot) l)))
 
   module _ (l : length cs ≤ f) {g : ℕ} (d : g ≡ place_of (λ c. ltb (get_or s c 0) 2) (numbers 0 (length cs))) where
     all_reachable : all (reachable (heap_of ps cs)) (nodes (heap_of ps cs)) ≡ true

@@ -35,7 +35,8 @@ added_none node f l bs h j lt = (omega arith, omega (arith, h j lt))
 module _ (node : List ℕ) (f : ℕ → ℕ) (l bs us : List ℕ) (i v : ℕ) (h : i < length l) (same : length us ≡ length bs)
     (lt : get_or node (get_or l i 0) 0 < length us) (value : v ≡ f (get_or l i 0)) (most : v ≤ 4096)
     (A : Added node f l bs us i) where
-  pub added_more : Added node f l bs (set us (get_or node (get_or l i 0) 0) (get_or us (get_or node (get_or l i 0) 0) 0 + v))
+  pub added_more : Added node f l bs
+      (set us (get_or node (get_or l i 0) 0) (get_or us (get_or node (get_or l i 0) 0) 0 + v))
       (i + 1)
   added_more j below =
       let t = get_or node (get_or l i 0) 0 in
@@ -45,7 +46,8 @@ module _ (node : List ℕ) (f : ℕ → ℕ) (l bs us : List ℕ) (i v : ℕ) (h
       (λ e.
       let s = subst (λ x. get_or (set us t (get_or us t 0 + v)) x 0 ≡ get_or us x 0 + v) e
       (get_or-set_same us t (get_or us t 0 + v) 0 lt) in
-      let p : sum_at node f j (take (i + 1) l) ≡ sum_at node f j (take i l) + f (get_or l i 0) = rw (eq-eqb t j e) at n in
+      let p : sum_at node f j (take (i + 1) l) ≡ sum_at node f j (take i l) + f (get_or l i 0) =
+      rw (eq-eqb t j e) at n in
       let a = r.0 in let b = r.1 in (omega arith, omega arith))
       (λ e.
       let s = get_or-set_other us t j (get_or us t 0 + v) 0 (λ q. eqb-false t j e (sym q)) in

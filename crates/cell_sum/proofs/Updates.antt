@@ -99,7 +99,8 @@ module _ (l node : List ℕ) (w : Weights) (ss : List Seg) (S : Segmented l node
       subst (λ i. mem k (cells (seg_at ss i)) ≡ true) (sym n ∙ t) r.2)
       (λ q. eq-eqb (get_or node k 0) j (S.tabled j k h q))
 
-  pub update_code_lem : (j : ℕ) → j < length ss → code_at node w l j ≡ update_code (update_of k (weight_in w) (seg_at ss j))
+  pub update_code_lem : (j : ℕ) → j < length ss → code_at node w l j
+      ≡ update_code (update_of k (weight_in w) (seg_at ss j))
   update_code_lem j h =
       ap₂ (λ b n. cond b 0 4096 + n) (tail_in j h w.split refl)
       (ap (sum_at node (plus_in w) j) (sym S.is_flat)
@@ -109,7 +110,8 @@ module _ (l node : List ℕ) (w : Weights) (ss : List Seg) (S : Segmented l node
       (λ c q. S.below c (subst (λ m. mem c m ≡ true) S.is_flat (mem_flat ss j c h q)))
 
   -- so the first entries are the codes of the edge's updates, one for each segment
-  pub update_codes : (us : List ℕ) → length ss ≤ length us → ((j : ℕ) → j < length ss → get_or us j 0 ≡ code_at node w l j)
+  pub update_codes : (us : List ℕ) → length ss ≤ length us
+      → ((j : ℕ) → j < length ss → get_or us j 0 ≡ code_at node w l j)
       → take (length ss) us ≡ map (λ s. update_code (update_of k (weight_in w) s)) ss
   update_codes us h e =
       let code : Seg → ℕ = λ s. update_code (update_of k (weight_in w) s) in

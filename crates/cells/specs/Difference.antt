@@ -19,7 +19,8 @@ abbrev pub AtMostOneMore : ℕ → List ℕ → List ℕ → Type 0
 AtMostOneMore d cs ds = (cs ≡ ds) ⊎ OneMore d cs ds
 
 -- The routine, fed these entries, goes along the path: "each edge number taken", and these pair off with its steps.
-pub record GoesAlong (sts : List Stmt) (t : Tables) (q : State) (c : Config) (es : List Entry) (ns : List ℕ) : Type 0 where
-  pub end : Config
-  pub follows : followed t c ns ≡ some end
-  pub pairs : Matched sts t q c (trace (step_of sts) q es) (trace (move_of t) c ns)
+pub record GoesAlong (sts : List Stmt) (t : Tables) (q : State) (c : Config) (es : List Entry) (ns : List ℕ) : Type 0
+  where
+    pub end : Config
+    pub follows : followed t c ns ≡ some end
+    pub pairs : Matched sts t q c (trace (step_of sts) q es) (trace (move_of t) c ns)

@@ -57,7 +57,8 @@ pub guards_as : {gs fs : List Guard} {g f : Guards} → gs ≡ fs → g ≡ f �
 guards_as p q c = rw (p, q) c
 
 -- the fault that a number is
-fault_of_lem : (f : ℕ) → (f ≡ 0 → ⊥) → f ≤ 3 → (x : Fault) × (fault_number x ≡ f) × ((g : Heap) → effect_of f g ≡ fault x)
+fault_of_lem : (f : ℕ) → (f ≡ 0 → ⊥) → f ≤ 3 → (x : Fault) × (fault_number x ≡ f)
+    × ((g : Heap) → effect_of f g ≡ fault x)
 fault_of_lem zero n le = absurd (n refl)
 fault_of_lem (suc zero) n le = (at_null, refl, λ g. refl)
 fault_of_lem (suc (suc zero)) n le = (at_undef, refl, λ g. refl)

@@ -91,14 +91,16 @@ module _ (n ks kt : ℕ) (r : List ℕ) where
         let ok_b = and_r (guard_ok ks a) (guard_ok ks b) ok in
         let two : (p : GuardCode → Bool) → p a ≡ true → p b ≡ true → all p (guards_of r) ≡ true =
         λ p x y. subst (λ l. all p l ≡ true) e (and_both (p a) (p b && true) x (and_both (p b) true y refl)) in
-        let keep = two guard_keeps (and_l (guard_keeps a) (guard_there ks a) ok_a) (and_l (guard_keeps b) (guard_there ks b)
+        let keep = two guard_keeps (and_l (guard_keeps a) (guard_there ks a) ok_a)
+        (and_l (guard_keeps b) (guard_there ks b)
         ok_b) in
         let there = two (guard_there ks) (and_r (guard_keeps a) (guard_there ks a) ok_a) (and_r (guard_keeps b)
         (guard_there ks b) ok_b) in
         let bytes = and_five (eqb (byte r 0) 0x45) (ltb (byte r 1) 128) (all guard_keeps (guards_of r))
         (all constant_keeps us) Z kind spare keep constants zeros in
         let nodes = and_both (all (guard_there ks) (guards_of r)) (all (counters_there ks) us) there counters in
-        and_five (ends_keep n r) (bytes_keep kt r) (nodes_keep ks kt r) O (all (λ u. not (could_fall ks (guards_of r) u)) us)
+        and_five (ends_keep n r) (bytes_keep kt r) (nodes_keep ks kt r) O
+        (all (λ u. not (could_fall ks (guards_of r) u)) us)
         ends bytes nodes once positive
 
     kept_left : Kept ≡ true → Left ≡ true

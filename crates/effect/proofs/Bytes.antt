@@ -202,7 +202,8 @@ wipe_vals : (c : ℕ) (ps : List ℕ) → c < 0xfd → map val_of (map (wipe_byt
 wipe_vals c [] h = refl
 wipe_vals c (b ∷ ps) h = ap₂ ◌∷◌ (wipe_val c b h) (wipe_vals c ps h)
 
-wipe_slots : (c : ℕ) (cs : List ℕ) → c < 0xfd → map cell_slot (map (wipe_byte c) cs) ≡ map (wipe_slot c) (map cell_slot cs)
+wipe_slots : (c : ℕ) (cs : List ℕ) → c < 0xfd → map cell_slot (map (wipe_byte c) cs)
+    ≡ map (wipe_slot c) (map cell_slot cs)
 wipe_slots c [] h = refl
 wipe_slots c (b ∷ cs) h = ap₂ ◌∷◌ (wipe_slot_lem c b h) (wipe_slots c cs h)
 

@@ -27,8 +27,12 @@ use Rattle.model.proofs.expansion.Kinds.{leaves_no_leak, effect_leaves, SlotsAre
 slot_back : (b : ℕ) → slot_byte (cell_slot b) ≡ b
 slot_back b = bool_case (eqb b 0xfd) (λ e. rw e (sym (eqb-true b 0xfd e))) (λ e. rw e (byte_back b))
 
-pub image_bytes_lem : (ps cs : List ℕ) → (map val_byte (heap_of ps cs).ptrs ≡ ps) × (map slot_byte (heap_of ps cs).slots ≡ cs)
-image_bytes_lem ps cs = (map_back val_of val_byte ps (λ b i. byte_back b), map_back cell_slot slot_byte cs (λ b i. slot_back b))
+pub image_bytes_lem : (ps cs : List ℕ) → (map val_byte (heap_of ps cs).ptrs ≡ ps)
+    × (map slot_byte (heap_of ps cs).slots ≡ cs)
+image_bytes_lem ps cs = (
+  map_back val_of val_byte ps (λ b i. byte_back b),
+  map_back cell_slot slot_byte cs (λ b i. slot_back b),
+)
 
 -- ---- a closed heap is its own expansion, cell by cell, so that what carries over to an expansion holds of it
 

@@ -46,7 +46,8 @@ pub record ExploreReady (s : List ℕ) (n : ℕ) (ls es ix : List ℕ) (c : Coun
 -- the listing t explored, with the places of the tables ls and es
 abbrev pub explored_in : List ℕ → List ℕ → List Stmt → Listing → Explored
 explored_in ls es sts t =
-    explore sts (places most_locations (length ls)) (places most_edges (length es)) (places most_locations (length ls)) 0 t
+    explore sts (places most_locations (length ls)) (places most_edges (length es))
+    (places most_locations (length ls)) 0 t
 
 -- whichever the statements and whichever listing was held, the edges of location i are added
 abbrev pub LocationExplored : List ℕ → ℕ → List ℕ → List ℕ → List ℕ → Counts → ℕ → List ℕ → List ℕ → List ℕ → Grown

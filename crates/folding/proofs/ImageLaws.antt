@@ -43,7 +43,8 @@ module _ (ps cs : List ℕ) (x : IsHeap (heap_of ps cs)) (few : length cs ≤ 24
 
   order_few : length (order (heap_of ps cs)) ≤ length cs
   order_few =
-      pigeon (length cs) (order (heap_of ps cs)) (toured (heap_of ps cs) (heap_closed (heap_of ps cs) x)).nodup order_low
+      pigeon (length cs) (order (heap_of ps cs)) (toured (heap_of ps cs) (heap_closed (heap_of ps cs) x)).nodup
+      order_low
 
   -- the holders agree with the heap at each cell of the order
   image_ready : (held : List ℕ) (t : CutTables)

@@ -16,7 +16,8 @@ map_at f g d (x ∷ l) h = ap₂ ◌∷◌ (h 0 (omega arith)) (map_at f g d l (
 
 -- xs over the first n of a list, and then ys over what is lent from there on
 pub over_front : (l l' xs ys part : List ℕ) (n k : ℕ) → length xs ≡ n → l' ≡ xs ++ drop n l
-    → part ≡ ys ++ drop k (mid_of n (length l' - n) l') → put_mid n (length l' - n) l' part ≡ (xs ++ ys) ++ drop (n + k) l
+    → part ≡ ys ++ drop k (mid_of n (length l' - n) l') → put_mid n (length l' - n) l' part
+    ≡ (xs ++ ys) ++ drop (n + k) l
 over_front l l' xs ys part n k e a b =
     let front : take n l' ≡ xs = ap (take n) a ∙ take_at xs (drop n l) n e in
     let rest : drop (n + k) l' ≡ drop (n + k) l =

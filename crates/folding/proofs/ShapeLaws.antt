@@ -33,7 +33,8 @@ abbrev pub Nodes : List Seg → List ℕ → Type 0
 Nodes ss m = (j c : ℕ) → j < length ss → mem c (cells (seg_at ss j)) ≡ true → get_or m c 0 ≡ j
 
 -- a value, whose cell is the first of a segment
-fold_value : (ss : List Seg) (m : List ℕ) → Nodes ss m → (b : ℕ) → ((c : ℕ) → val_of b ≡ cell c → Head ss c × (c < 0xfd))
+fold_value : (ss : List Seg) (m : List ℕ) → Nodes ss m → (b : ℕ)
+    → ((c : ℕ) → val_of b ≡ cell c → Head ss c × (c < 0xfd))
     → fold_byte m b ≡ val_byte (node_val ss (val_of b))
 fold_value ss m is b k = go (val_of b) refl
   where
@@ -84,7 +85,8 @@ module _ (ps cs : List ℕ) (x : IsHeap (heap_of ps cs)) (few : length cs ≤ 24
         let cl = heap_closed h x in
         let kp = heap_kept h x in
         map-map (λ c. fold_byte m (get_or cs c 0)) last ss
-        ∙ map_at (λ (s : Seg). fold_byte m (get_or cs (last s) 0)) (λ (s : Seg). slot_byte (node_slot ss (next h (last s))))
+        ∙ map_at (λ (s : Seg). fold_byte m (get_or cs (last s) 0))
+        (λ (s : Seg). slot_byte (node_slot ss (next h (last s))))
         (seg 0 []) ss (λ n q.
         let c = last (seg_at ss n) in
         let u = end h cl kp n q in

@@ -16,7 +16,8 @@ AllIn m vs = (i : ℕ) → i < length vs → InTable m (get_or vs i 0)
 
 -- each of the list is a cell, and the table has a place for what it holds
 abbrev pub LastsIn : List ℕ → List ℕ → List ℕ → Type 0
-LastsIn m cs last = (i : ℕ) → i < length last → (get_or last i 0 < length cs) × InTable m (get_or cs (get_or last i 0) 0)
+LastsIn m cs last = (i : ℕ) → i < length last → (get_or last i 0 < length cs)
+    × InTable m (get_or cs (get_or last i 0) 0)
 
 -- the pointers ps, and what the cells `last` hold, in terms of nodes
 abbrev pub folded_bytes : List ℕ → List ℕ → List ℕ → List ℕ → List ℕ

@@ -24,4 +24,5 @@ lines_of n t = joined (map line_of (chunks n t))
 
 -- the records that are counted stand in the tables, and the text has room for them
 abbrev pub Stand : ℕ → List ℕ → ℕ → List ℕ → Type 0
-Stand i ls j es = (i ≤ most_locations) × (j ≤ most_edges) × (record_size * i ≤ length ls) × (record_size * j ≤ length es)
+Stand i ls j es = (i ≤ most_locations) × (j ≤ most_edges) × (record_size * i ≤ length ls)
+    × (record_size * j ≤ length es)

@@ -62,7 +62,8 @@ fits_at p c h n =
     cond (eqb n 10) (leb p 1 && true) (cond (eqb n 6) (not (leb (length h.slots) c) && not (in_use (next h c))) true)
 
 module _ (op p c : ℕ) (cs : List ℕ) (lt : op < op_count) where
-  entry_is : (u w : ℕ) (ps : List ℕ) → entry_fits (op_of op u w) (entry p c) (heap_of ps cs) ≡ fits_at p c (heap_of ps cs) op
+  entry_is : (u w : ℕ) (ps : List ℕ) → entry_fits (op_of op u w) (entry p c) (heap_of ps cs)
+      ≡ fits_at p c (heap_of ps cs) op
   entry_is u w ps =
       let h = heap_of ps cs in
       each_op (λ o. entry_fits o (entry p c) h) (fits_at p c h) u w refl op lt

@@ -30,7 +30,8 @@ pub record Opened (s : List ℕ) (r : Routine) : Type 0 where
 
 -- each check by itself
 records_open : (n : ℕ) (rs : List (List ℕ)) (r : Routine) → check_records n rs ≡ good r
-    → (first_bad_record n 0 [] rs ≡ none) × (r ≡ record { stmts = map stmt_of (take n rs); starts = map shape_of (drop n rs) })
+    → (first_bad_record n 0 [] rs ≡ none)
+    × (r ≡ record { stmts = map stmt_of (take n rs); starts = map shape_of (drop n rs) })
 records_open n rs r e = by_bad (first_bad_record n 0 [] rs) refl
   where
     by_bad : (o : Option Refusal) → first_bad_record n 0 [] rs ≡ o
@@ -54,7 +55,8 @@ kinds_open : (rs : List (List ℕ)) (r : Routine) → check_kinds rs ≡ good r 
     × (check_counts rs ≡ good r)
 kinds_open rs r e = by_kind (first_bad_kind false 0 rs) refl
   where
-    by_kind : (o : Option ℕ) → first_bad_kind false 0 rs ≡ o → (first_bad_kind false 0 rs ≡ none) × (check_counts rs ≡ good r)
+    by_kind : (o : Option ℕ) → first_bad_kind false 0 rs ≡ o → (first_bad_kind false 0 rs ≡ none)
+        × (check_counts rs ≡ good r)
     by_kind (some i) q = bad-good (rw (q, check_kinds) at e)
     by_kind none q = (q, rw (q, check_kinds) at e)
 

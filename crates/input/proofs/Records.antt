@@ -45,9 +45,11 @@ pub record_wide : (s : List ℕ) (i : ℕ) → 32 * (i + 1) ≤ length s → len
 record_wide s i h = length-take-le 32 (drop (32 * i) s) (omega (arith, length-drop (32 * i) s))
 
 -- the kind of the first record
-kind_pass : (a : Bool) (i : ℕ) (r : List ℕ) (rs : List (List ℕ)) → kind_fits a (byte r 0) ≡ true → first_bad_kind a i (r ∷ rs)
+kind_pass : (a : Bool) (i : ℕ) (r : List ℕ) (rs : List (List ℕ)) → kind_fits a (byte r 0) ≡ true
+    → first_bad_kind a i (r ∷ rs)
     ≡ first_bad_kind (is_h r) (suc i) rs
-kind_pass a i r rs h = bool_case (is_h r) (λ e. rw (e, first_bad_kind)) (λ e. rw (e, first_bad_kind) (rw (rw e at h, first_bad_kind)))
+kind_pass a i r rs h = bool_case (is_h r) (λ e. rw (e, first_bad_kind))
+    (λ e. rw (e, first_bad_kind) (rw (rw e at h, first_bad_kind)))
 
 kind_fail : (a : Bool) (i : ℕ) (r : List ℕ) (rs : List (List ℕ)) → kind_fits a (byte r 0) ≡ false
     → first_bad_kind a i (r ∷ rs) ≡ some i
@@ -103,16 +105,20 @@ module _ (s : List ℕ) (n : ℕ) (w : 32 * n ≡ length s) where
 
   -- the kinds from record i on
   pub kinds_pass : (a : Bool) (i : ℕ) → i < n → kind_fits a (get_or s (32 * i) 0) ≡ true
-      → first_bad_kind a i (drop i (records_of s)) ≡ first_bad_kind (eqb (get_or s (32 * i) 0) 0x48) (i + 1) (drop (i + 1) (records_of s))
+      → first_bad_kind a i (drop i (records_of s))
+      ≡ first_bad_kind (eqb (get_or s (32 * i) 0) 0x48) (i + 1) (drop (i + 1) (records_of s))
   kinds_pass a i h k =
       let rs = drop (i + 1) (records_of s) in
-      let e : first_bad_kind (is_h (record_at s i)) (suc i) rs ≡ first_bad_kind (eqb (get_or s (32 * i) 0) 0x48) (i + 1) rs =
+      let e : first_bad_kind (is_h (record_at s i)) (suc i) rs
+      ≡ first_bad_kind (eqb (get_or s (32 * i) 0) 0x48) (i + 1) rs =
       rw (record_tag s i, add-one) in
-      ap (first_bad_kind a i) (records_step i h) ∙ kind_pass a i (record_at s i) rs (ap (kind_fits a) (record_tag s i) ∙ k) ∙ e
+      ap (first_bad_kind a i) (records_step i h)
+      ∙ kind_pass a i (record_at s i) rs (ap (kind_fits a) (record_tag s i) ∙ k) ∙ e
 
   pub kinds_fail : (a : Bool) (i : ℕ) → i < n → kind_fits a (get_or s (32 * i) 0) ≡ false
       → first_bad_kind a i (drop i (records_of s)) ≡ some i
-  kinds_fail a i h k = ap (first_bad_kind a i) (records_step i h) ∙ kind_fail a i (record_at s i) (drop (i + 1) (records_of s))
+  kinds_fail a i h k = ap (first_bad_kind a i) (records_step i h)
+      ∙ kind_fail a i (record_at s i) (drop (i + 1) (records_of s))
       (ap (kind_fits a) (record_tag s i) ∙ k)
 
   pub kinds_end : (a : Bool) (i : ℕ) → n ≤ i → first_bad_kind a i (drop i (records_of s)) ≡ none

@@ -99,7 +99,8 @@ hashes_more : (b : Bool) (ls : List Loc) (l : Loc)
     → cond b (hashes ls) (hashes ls ++ hash_of (loc_record l) ∷ []) ≡ hashes (cond b ls (ls ++ l ∷ []))
 hashes_more true ls l = refl
 hashes_more false ls l =
-    sym (ap (map hash_of) (map-append loc_record ls (l ∷ [])) ∙ map-append hash_of (map loc_record ls) (loc_record l ∷ []))
+    sym (ap (map hash_of) (map-append loc_record ls (l ∷ []))
+    ∙ map-append hash_of (map loc_record ls) (loc_record l ∷ []))
 
 -- the index that a search of the table goes by
 pub index_of_lem : (t : Listing) (ls es ix : List ℕ) (c : Counts) → Holds t ls es ix c

@@ -90,7 +90,8 @@ module _ (l : List ℕ) (wide : length l ≡ 32) (few : byte l 3 ≤ 12) where
 -- what a pointer of the record's shape holds
 module _ {l : List ℕ} {d : Decoded} {s : ℕ} {h : Heap} {y : Way} (R : WayReady l d s h y) where
   pointer_here : (i : ℕ) → i < 6 → ptr h i ≡ val_of (byte l (i + 4))
-  pointer_here i lt = ap (λ (x : Heap). ptr x i) (sym (shape_is_lem R)) ∙ pointer_is l (location_wide R) (nodes_few R) i lt
+  pointer_here i lt = ap (λ (x : Heap). ptr x i) (sym (shape_is_lem R))
+      ∙ pointer_is l (location_wide R) (nodes_few R) i lt
 
   held_by : (i : ℕ) → i < 6 → byte l (i + 4) < byte l 3 → ptr h i ≡ cell (byte l (i + 4))
   held_by i lt q = pointer_here i lt ∙ val_cell (byte l (i + 4)) (λ e. omega (arith, nodes_few R))

@@ -184,7 +184,8 @@ entry_fits op e h = not (past_end (action op) e.cell_no (length h.slots)) && acc
 
 -- "a plain step 13, 14, 4 (its record is no S), 5, 6, 7": "Its targets need only be below 64."
 abbrev pub checks_statement : List ℕ → List ℕ → List ℕ → List Row
-checks_statement r ps cs = checks_image ps cs ++ unless 4 (eqb (length r) record_size && is_s r) ∷ checks_s most_statements r
+checks_statement r ps cs = checks_image ps cs ++ unless 4 (eqb (length r) record_size && is_s r) ∷ checks_s
+    most_statements r
 
 -- and then 16
 abbrev pub checks_step : List ℕ → Entry → List ℕ → List ℕ → List Row

@@ -149,7 +149,8 @@ module _ {r : List ℕ} {p c : ℕ} {ps cs : List ℕ} {d : Decoded} (C : Checke
       -- the run of another statement answers f, and leaves the image qs, ds
       module _ (n : d.op ≡ 0 → ⊥) {f : ℕ} {qs ds : List ℕ} (R : Finished d c ps cs f qs ds) where
         ran : (x : Stepping)
-            → x ≡ answered (answer_of (stmt_in d) (branch (op_in d) p (heap_of ps cs)) (effect_of f (heap_of qs ds))) ps cs
+            → x ≡ answered (answer_of (stmt_in d) (branch (op_in d) p (heap_of ps cs)) (effect_of f (heap_of qs ds)))
+            ps cs
             → x ≡ step_image r p c ps cs
         ran x w =
             let st = stmt_in d in

@@ -32,4 +32,5 @@ PassedTo us (some c) done lows highs = (done ≡ true) × Moved (image_of us c) 
 
 abbrev pub OneFollowed : List ℕ → List ℕ → List ℕ → List ℕ → Bool → List ℕ → List ℕ → Type 0
 OneFollowed r ls lows₀ highs₀ done lows highs =
-    PassedTo (updates_of (byte (record_at ls (word r 4)) 3) r) (cut_by (guards_of r) (box_of lows₀ highs₀)) done lows highs
+    PassedTo (updates_of (byte (record_at ls (word r 4)) 3) r) (cut_by (guards_of r) (box_of lows₀ highs₀)) done lows
+    highs

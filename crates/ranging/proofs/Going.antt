@@ -65,7 +65,8 @@ begin_going t l rs ns lows highs R p q =
 
 -- ---- values of 32 bits
 
-fit_below : (xs hs : List ℕ) → ((i : ℕ) → get_or xs i 0 ≤ get_or hs i 0) → sum (λ v. v) hs < 2 ^ 32 → in_counters xs ≡ true
+fit_below : (xs hs : List ℕ) → ((i : ℕ) → get_or xs i 0 ≤ get_or hs i 0) → sum (λ v. v) hs < 2 ^ 32 → in_counters xs
+    ≡ true
 fit_below xs hs o s = all_of (λ v. ltb v (2 ^ 32)) xs (λ v h.
     let r = in_get_or_lem xs 0 v h in
     lt-ltb v (2 ^ 32) (omega (arith, r.2, o r.0, at_most_sum hs r.0)))

@@ -22,7 +22,8 @@ use Rattle.search.proofs.ListLaws.{same_part, same_split}
 module _ (t : List ℕ) (a : ℕ) (r : List ℕ) (b : ℕ) (h : a + 8 ≤ length t) (k : b + 8 ≤ length r) where
   eight_same : same_part 8 t a r b ≡ true → eight_at t a ≡ eight_at r b
   eight_same e =
-      eight_code t a h ∙ ap (code_of 256) (bytes_same (take 8 (drop a t)) (take 8 (drop b r)) e) ∙ sym (eight_code r b k)
+      eight_code t a h ∙ ap (code_of 256) (bytes_same (take 8 (drop a t)) (take 8 (drop b r)) e)
+      ∙ sym (eight_code r b k)
 
   pub eight_is : Bytes t → Bytes r → same_part 8 t a r b ≡ eqb (eight_at t a) (eight_at r b)
   eight_is T R = bool_ext (same_part 8 t a r b) (eqb (eight_at t a) (eight_at r b))
@@ -43,14 +44,16 @@ module _ (t : List ℕ) (a : ℕ) (r : List ℕ) (wide : length r ≡ 32) where
 
   pub key_differ : a + 32 ≤ length t → (key_at t a ≡ key_at r 0 → ⊥) → same_list eqb (take 32 (drop a t)) r ≡ false
   key_differ l h = not-true (same_list eqb (take 32 (drop a t)) r) (λ e.
-      let behind = and_r (same_part 1 t a r 0) (same_part 31 t (a + 1) r 1) (sym (whole ∙ same_split 1 31 t a r 0) ∙ e) in
+      let behind = and_r (same_part 1 t a r 0) (same_part 31 t (a + 1) r 1)
+      (sym (whole ∙ same_split 1 31 t a r 0) ∙ e) in
       let rest = same_part 23 t (a + 1 + 8) r 9 in
       let key = and_l (same_part 8 t (a + 1) r 1) rest (sym (same_split 8 23 t (a + 1) r 1) ∙ behind) in
       h (eight_same t (a + 1) r 1 (omega arith) (omega arith) key))
 
   -- four parts of eight bytes
   pub parts_same : same_list eqb (take 32 (drop a t)) r
-      ≡ (same_part 8 t a r 0 && same_part 8 t (a + 8) r 8) && (same_part 8 t (a + 16) r 16 && same_part 8 t (a + 24) r 24)
+      ≡ (same_part 8 t a r 0 && same_part 8 t (a + 8) r 8)
+      && (same_part 8 t (a + 16) r 16 && same_part 8 t (a + 24) r 24)
   parts_same =
       let e : a + 16 + 8 ≡ a + 24 = omega arith in
       whole ∙ same_split 16 16 t a r 0 ∙ ap₂ ◌&&◌ (same_split 8 8 t a r 0) (same_split 8 8 t (a + 16) r 16 ∙ rw e)

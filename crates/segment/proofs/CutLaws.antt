@@ -69,7 +69,8 @@ one_from p c cur [] = omega arith
 one_from p c cur (x ∷ l) =
     bool_case (p x) (λ t. rw (t, cut_from) (omega arith)) (λ t. rw (t, cut_from) (one_from p c (cur ++ x ∷ []) l))
 
-grows_from : (p : ℕ → Bool) (c : ℕ) (cur l m : List ℕ) → length (cut_from p c cur l) ≤ length (cut_from p c cur (l ++ m))
+grows_from : (p : ℕ → Bool) (c : ℕ) (cur l m : List ℕ)
+    → length (cut_from p c cur l) ≤ length (cut_from p c cur (l ++ m))
 grows_from p c cur [] m = omega (arith, one_from p c cur m)
 grows_from p c cur (x ∷ l) m =
     bool_case (p x) (λ t. rw (t, cut_from) (omega (arith, grows_from p x [] l m)))

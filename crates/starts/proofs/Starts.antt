@@ -64,7 +64,8 @@ module _ (s : List ℕ) (n m : ℕ) (g : check s ≡ good (routine_in n s)) (A :
   -- one more
   pub enter_turn : (a j : ℕ) (t : List ℕ) → j < m → m ≤ places most_locations a
       → t ≡ table_of a (take j (map loc_record (start_locs n s)))
-      → placed t j (location_bytes 0 0 (record_at s (n + j))) ≡ table_of a (take (j + 1) (map loc_record (start_locs n s)))
+      → placed t j (location_bytes 0 0 (record_at s (n + j)))
+      ≡ table_of a (take (j + 1) (map loc_record (start_locs n s)))
   enter_turn a j t h room e =
       let L : List (List ℕ) = map loc_record (start_locs n s) in
       let few : length (take j L) ≡ j = length-take-le j L (omega (arith, records_number)) in

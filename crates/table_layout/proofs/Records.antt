@@ -84,7 +84,8 @@ module _ (t : Tables) where
 
   pub locations_off : locs ≡ false → false ≡ keeps_layout t
   unfolding keeps_layout
-  locations_off e = sym (ap (λ b. counts_in_places t && b && eds) e ∙ ap (λ b. b && eds) (and-false (counts_in_places t)))
+  locations_off e = sym (ap (λ b. counts_in_places t && b && eds) e
+      ∙ ap (λ b. b && eds) (and-false (counts_in_places t)))
 
   pub edges_decide : counts_in_places t ≡ true → locs ≡ true → eds ≡ keeps_layout t
   unfolding keeps_layout

@@ -1,4 +1,5 @@
--- What an answer of the translator says: its counts have their records in the tables, and its outcome has its text; and what is printed for
+-- What an answer of the translator says: its counts have their records in the tables, and its outcome has its text;
+-- and what is printed for
 -- the part of an input that was read.
 use Prim.Native.Nat.{ℕ, ◌≤◌, ◌<◌}
 use native.Mathlib.Omega.{arith}

@@ -45,7 +45,8 @@ strand_last i e v h = let p : e - i ≡ 1 = omega arith in rw p
 -- the strand of node n, then the others
 pub strands_step : (fs ss cs : List ℕ) (b n : ℕ) → n < length ss → length ss ≡ length cs
     → strands_bytes fs b (drop n ss) (drop n cs)
-    ≡ strand_bytes b (get_or cs n 0) (placed_byte fs (get_or ss n 0)) ++ strands_bytes fs (b + get_or cs n 0) (drop (n + 1) ss)
+    ≡ strand_bytes b (get_or cs n 0) (placed_byte fs (get_or ss n 0)) ++ strands_bytes fs (b + get_or cs n 0)
+    (drop (n + 1) ss)
     (drop (n + 1) cs)
 unfolding strands_bytes
 strands_step fs ss cs b n h l = ap₂ (strands_bytes fs b) (drop_step ss n h) (drop_step cs n (omega arith))
@@ -56,7 +57,8 @@ strands_end fs ss cs b n h = ap (λ l. strands_bytes fs b l (drop n cs)) (drop_o
 
 -- node n has a cell, and its cells, from cell b on, are within m
 pub node_room : (vs : List ℕ) (n b m : ℕ) → n < length vs → all (leb 1) vs ≡ true
-    → b + sum (λ v. v) (drop n vs) ≡ sum (λ v. v) vs → sum (λ v. v) vs ≤ m → (1 ≤ get_or vs n 0) × (b + get_or vs n 0 ≤ m)
+    → b + sum (λ v. v) (drop n vs) ≡ sum (λ v. v) vs → sum (λ v. v) vs ≤ m → (1 ≤ get_or vs n 0)
+    × (b + get_or vs n 0 ≤ m)
 node_room vs n b m h p e q = (leb-true 1 (get_or vs n 0) (all_at (leb 1) vs 0 n p h), omega (arith, sum_step vs n h))
 
 -- cells l with the strand of node n written, as k: the other strands follow

@@ -114,7 +114,8 @@ ltb_pred (suc (suc n)) = bool_ext (ltb (suc (suc n) - 1) 1) (ltb (suc (suc n)) 2
     (λ h. absurd (omega (arith, ltb-true (suc (suc n)) 2 h)))
 
 -- an update of a constant of -1, 0 or 1 and of counters of the source, under two guards that keep the layout
-module _ (k u : ℕ) (a b : GuardCode) (few : k ≤ 12) (small : constant_keeps u ≡ true) (there : counters_there k u ≡ true)
+module _ (k u : ℕ) (a b : GuardCode) (few : k ≤ 12) (small : constant_keeps u ≡ true)
+    (there : counters_there k u ≡ true)
     (A : Sound k a) (B : Sound k b) where
   abbrev gs : List GuardCode
   gs = a ∷ b ∷ []

@@ -85,7 +85,8 @@ pointing_step c ps i h = ap (pointing c) (drop_step ps i h)
 pub pointing_end : (c : ℕ) (ps : List ℕ) (i : ℕ) → length ps ≤ i → pointing c (drop i ps) ≡ 0
 pointing_end c ps i h = rw (drop_of_length-le ps h)
 
-pointing_two : (c n : ℕ) (ps : List ℕ) → c < 0xfe → leb 2 (pointing c ps + n) ≡ any (is_cell c) (map val_of ps) || leb 2 n
+pointing_two : (c n : ℕ) (ps : List ℕ) → c < 0xfe → leb 2 (pointing c ps + n)
+    ≡ any (is_cell c) (map val_of ps) || leb 2 n
 pointing_two c n [] h = ap (leb 2) (zero-add n)
 pointing_two c n (p ∷ ps) h =
     rw (is_byte c p h) (bool_case (eqb c p) (λ t. rw t (le-leb 2 ((2 + pointing c ps) + n) (omega arith)))

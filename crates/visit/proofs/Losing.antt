@@ -30,13 +30,15 @@ kept_step : (s cs : List ℕ) (i : ℕ) → i < length cs → kept_from s cs i �
 kept_step s cs i h =
     ap (each_used (has_mark s) i) (map_step cell_slot cs i h)
     ∙ each_step s i (get_or cs i 0) (map cell_slot (drop (i + 1) cs))
-    ∙ ap (λ k. not (lost_at (get_or cs i 0) (get_or s i 0)) && each_used (has_mark s) k (map cell_slot (drop (i + 1) cs)))
+    ∙ ap (λ k. not (lost_at (get_or cs i 0) (get_or s i 0))
+    && each_used (has_mark s) k (map cell_slot (drop (i + 1) cs)))
     (sym (add-one i))
 
 -- one cell more: it, and what was kept before it
 pub kept_more : (s cs : List ℕ) (i : ℕ) (before : Bool) → i < length cs
     → before && kept_from s cs i ≡ (not (lost_at (get_or cs i 0) (get_or s i 0)) && before) && kept_from s cs (i + 1)
-kept_more s cs i true h = kept_step s cs i h ∙ bool_case (lost_at (get_or cs i 0) (get_or s i 0)) (λ t. rw t) (λ f. rw f)
+kept_more s cs i true h = kept_step s cs i h
+    ∙ bool_case (lost_at (get_or cs i 0) (get_or s i 0)) (λ t. rw t) (λ f. rw f)
 kept_more s cs i false h = bool_case (lost_at (get_or cs i 0) (get_or s i 0)) (λ t. rw t) (λ f. rw f)
 
 pub kept_end : (s cs : List ℕ) (i : ℕ) (before : Bool) → length cs ≤ i → before && kept_from s cs i ≡ before

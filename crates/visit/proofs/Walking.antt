@@ -32,7 +32,8 @@ walk_none nx l undef h = ends_at_undef
 walk_none nx l (cell c) h = absurd (h c refl)
 
 -- a value past the last cell is null or undefined
-pub walk_past : (cs l : List ℕ) (v : ℕ) → Closed (slot_at cs) (val_of v) → length cs ≤ v → Walks (slot_at cs) l (val_of v) l
+pub walk_past : (cs l : List ℕ) (v : ℕ) → Closed (slot_at cs) (val_of v) → length cs ≤ v
+    → Walks (slot_at cs) l (val_of v) l
 walk_past cs l v k h = walk_none (slot_at cs) l (val_of v) (λ c e. let q = used_few cs c (rw e at k) in let p =
     cell_val v c e in omega arith)
 
@@ -85,7 +86,8 @@ module _ {cs o s : List ℕ} {n : ℕ} (x : Visiting cs o s n) (v : ℕ) (k : Cl
   put_behind e = let p = place_left e in let r = x.room in let q : n < length o = omega arith in
       rw add-one (take-suc-set o n v q)
 
-  pub walk_go : get_or s v 0 ≡ 0 → (t : List ℕ) → Walks (slot_at cs) (take (n + 1) (set o n v)) (val_of (get_or cs v 0)) t
+  pub walk_go : get_or s v 0 ≡ 0 → (t : List ℕ)
+      → Walks (slot_at cs) (take (n + 1) (set o n v)) (val_of (get_or cs v 0)) t
       → Walks (slot_at cs) (take n o) (val_of v) t
   walk_go e t w = rw is_cell_lem (go (marked_new e) (in_use.1 ∙ ap holds next_val) (rw (put_behind e) at w))
 
@@ -148,7 +150,8 @@ visiting_none {ps = ps} {cs = cs} r = record {
 }
 
 -- one pointer more
-pub tour_step : (ps cs l m : List ℕ) (i : ℕ) (o s : List ℕ) (n : ℕ) → i < length ps → Walked cs l m (get_or ps i 0) o s n
+pub tour_step : (ps cs l m : List ℕ) (i : ℕ) (o s : List ℕ) (n : ℕ) → i < length ps
+    → Walked cs l m (get_or ps i 0) o s n
     → (t : List ℕ) → Tours (slot_at cs) (take n o) (map val_of (drop (i + 1) ps)) t
     → Tours (slot_at cs) l (map val_of (drop i ps)) t
 tour_step ps cs l m i o s n h w t ts = rw (map_step val_of ps i h) (tour_more w.walks ts)

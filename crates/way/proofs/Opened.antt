@@ -33,7 +33,8 @@ put_front (x ∷ l) (suc n) s t h = ap (λ r. x ∷ r) (put_front l n s t (omega
 
 -- the stores of a split: cell k takes over what cell n holds, and cell n holds k
 pub split_bytes : (l : List ℕ) (k n : ℕ) → n < k → k < length l
-    → take (k + 1) (set (set l k (get_or l n 0)) n k) ≡ set (take k l) n (length (take k l)) ++ get_or (take k l) n 0 ∷ []
+    → take (k + 1) (set (set l k (get_or l n 0)) n k)
+    ≡ set (take k l) n (length (take k l)) ++ get_or (take k l) n 0 ∷ []
 split_bytes l k n h lt =
     let len : length (take k l) ≡ k = length-take-le k l (omega arith) in
     take-set-lt (k + 1) (set l k (get_or l n 0)) n k (omega arith)
@@ -87,7 +88,8 @@ module _ (ss : List ℕ) (few : length ss ≤ 12) (values : all (value_byte (len
       let t = map (λ b. holds (val_of b)) ss in
       map-append cell_slot (set ss n (length ss)) (get_or ss n 0 ∷ [])
       ∙ ap₂ (λ l s. l ++ s ∷ [])
-      (map_set cell_slot ss n (length ss) ∙ ap₂ (λ l s. set l n s) same_slots (small_slot (length ss) few)) (slot_of n h)
+      (map_set cell_slot ss n (length ss) ∙ ap₂ (λ l s. set l n s) same_slots (small_slot (length ss) few))
+      (slot_of n h)
       ∙ sym (put_front t n (holds (cell (length ss))) (get_or t n unused) (rw same_length h))
       ∙ ap (λ l. put l n (holds (cell (length ss)))) (sym (put_end t (get_or t n unused))
       ∙ ap (λ m. put t m (get_or t n unused)) same_length)

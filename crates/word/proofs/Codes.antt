@@ -22,7 +22,12 @@ code_append : (c : ℕ) (l m : List ℕ) → code_of c (l ++ m) ≡ code_of c l 
 code_append c [] m = rw pow-zero (omega arith)
 code_append c (x ∷ l) m =
     let p = c ^ length l in
-    rw (code_append c l m, pow-succ' c (length l), mul-add c (code_of c l) (p * code_of c m), mul_assoc c p (code_of c m))
+    rw (
+      code_append c l m,
+      pow-succ' c (length l),
+      mul-add c (code_of c l) (p * code_of c m),
+      mul_assoc c p (code_of c m),
+    )
     (sym (add_assoc x (c * code_of c l) (c * (p * code_of c m))))
 
 -- the n bytes of t from a on
@@ -116,7 +121,8 @@ copied_more a from to h =
     let n : length (take a from) ≡ a = length-take-le a from (omega arith) in
     let front : take a (copied_to a from to) ≡ take a from = take_at (take a from) (drop a to) a n in
     let back : drop (a + 8) (copied_to a from to) ≡ drop (a + 8) to =
-    sym (drop-drop 8 a (copied_to a from to)) ∙ ap (drop 8) (drop_at (take a from) (drop a to) a n) ∙ drop-drop 8 a to in
+    sym (drop-drop 8 a (copied_to a from to)) ∙ ap (drop 8) (drop_at (take a from) (drop a to) a n)
+    ∙ drop-drop 8 a to in
     ap₂ (λ x y. x ++ (take 8 (drop a from) ++ y)) front back
     ∙ sym (append_assoc (take a from) (take 8 (drop a from)) (drop (a + 8) to))
     ∙ ap (λ x. x ++ drop (a + 8) to) (sym (take-add a 8 from))

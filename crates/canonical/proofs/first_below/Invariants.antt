@@ -6,7 +6,8 @@ use Rattle.canonical.proofs.Finding.{below}
 use Rattle.canonical.proofs.first_below.Given as goal
 
 abbrev pub invariant-loop-i : goal.invariant-loop-i
-invariant-loop-i l = (l.i ≤ l.n) × Found (below l.marks l.bound) l.n (place_of (below l.marks l.bound) (numbers 0 l.n)) l.i
+invariant-loop-i l = (l.i ≤ l.n)
+    × Found (below l.marks l.bound) l.n (place_of (below l.marks l.bound) (numbers 0 l.n)) l.i
 
 abbrev pub decreases-loop-i : goal.decreases-loop-i
 decreases-loop-i l = l.n - l.i

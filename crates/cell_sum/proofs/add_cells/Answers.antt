@@ -47,8 +47,11 @@ add_code-requires c =
     let s = c in
     let l = c.loop-i in
     let n = c.node_of-n.result.0 in
-    let lt : n < length s.args.updates.now = omega (arith, node_below (goal.at.add_code-requires c).After-node_of-n, l.invariant.1) in
-    (node_below (goal.at.add_code-requires c).After-node_of-n, omega (arith, (l.invariant.2 n lt).1, s.requires.ready.0, c.cell_plus-plus.ensures.1))
+    let lt : n < length s.args.updates.now =
+    omega (arith, node_below (goal.at.add_code-requires c).After-node_of-n, l.invariant.1) in (
+      node_below (goal.at.add_code-requires c).After-node_of-n,
+      omega (arith, (l.invariant.2 n lt).1, s.requires.ready.0, c.cell_plus-plus.ensures.1),
+    )
 
 pub loop-i-preserved : goal.loop-i-preserved
 loop-i-preserved c =

@@ -9,7 +9,8 @@ use Rattle.cell_sum.proofs.add_cells.Given as goal
 
 abbrev pub invariant-loop-i : goal.invariant-loop-i
 invariant-loop-i l =
-    (l.i ≤ length l.cells) × (length l.updates ≡ length l.initial.updates) × Added l.node (plus_in l.weights) l.cells l.initial.updates l.updates l.i
+    (l.i ≤ length l.cells) × (length l.updates ≡ length l.initial.updates)
+    × Added l.node (plus_in l.weights) l.cells l.initial.updates l.updates l.i
 
 abbrev pub decreases-loop-i : goal.decreases-loop-i
 decreases-loop-i l = length l.cells - l.i

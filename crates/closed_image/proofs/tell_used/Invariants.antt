@@ -8,7 +8,8 @@ use Rattle.closed_image.proofs.tell_used.Given as goal
 
 abbrev pub invariant-loop-i : goal.invariant-loop-i
 invariant-loop-i l =
-    (l.i ≤ length l.cells) × (length l.fine ≡ length l.initial.fine) × (l.fine ≡ map used_cell (take l.i l.cells) ++ drop l.i l.initial.fine)
+    (l.i ≤ length l.cells) × (length l.fine ≡ length l.initial.fine)
+    × (l.fine ≡ map used_cell (take l.i l.cells) ++ drop l.i l.initial.fine)
 
 abbrev pub decreases-loop-i : goal.decreases-loop-i
 decreases-loop-i l = length l.cells - l.i

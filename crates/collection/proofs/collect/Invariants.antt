@@ -7,7 +7,8 @@ use Rattle.collection.proofs.Loop.{done_to}
 use Rattle.collection.proofs.collect.Given as goal
 
 abbrev pub invariant-loop-i : goal.invariant-loop-i
-invariant-loop-i l = (length l.cells ≡ length l.initial.cells) × (left_bytes l.seen 0 l.initial.cells ≡ done_to l.seen l.i l.cells)
+invariant-loop-i l = (length l.cells ≡ length l.initial.cells)
+    × (left_bytes l.seen 0 l.initial.cells ≡ done_to l.seen l.i l.cells)
 
 abbrev pub decreases-loop-i : goal.decreases-loop-i
 decreases-loop-i l = length l.initial.cells - l.i

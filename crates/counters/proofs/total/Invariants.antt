@@ -7,7 +7,8 @@ use Rattle.counters.proofs.total.Given as goal
 
 abbrev pub invariant-loop-i : goal.invariant-loop-i
 invariant-loop-i l =
-    (l.i ≤ length l.counters) × (l.t ≤ 4294967296 * l.i) × (l.t + sum (λ v. v) (drop l.i l.counters) ≡ sum (λ v. v) l.counters)
+    (l.i ≤ length l.counters) × (l.t ≤ 4294967296 * l.i)
+    × (l.t + sum (λ v. v) (drop l.i l.counters) ≡ sum (λ v. v) l.counters)
 
 abbrev pub decreases-loop-i : goal.decreases-loop-i
 decreases-loop-i l = length l.counters - l.i

@@ -26,7 +26,8 @@ returns-then-count-from c =
     let a = c.args in
     let r = a.rec.now in
     ends_off a.count (byte (record_at a.locations.now (word r 2)) 3)
-    (byte (record_at a.locations.now (word r 4)) 3) r (sym (tested (goal.at.returns-then-count-from c).After-two-to) ∙ c.if-count-from.true)
+    (byte (record_at a.locations.now (word r 4)) 3) r
+    (sym (tested (goal.at.returns-then-count-from c).After-two-to) ∙ c.if-count-from.true)
 
 -- past it both are locations
 both : (c : Else-count-from)

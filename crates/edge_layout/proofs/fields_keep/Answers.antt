@@ -29,7 +29,8 @@ returns-then-not-guard_keeps c n ends =
     let s = c in
     let g = c.guards_of-guards in
     guards_off n s.args.nodes s.args.new s.args.rec.now (code_in g.result.first)
-    (code_in g.result.second) g.ensures (sym (judged (goal.at.returns-then-not-guard_keeps c).After-guard_keeps-2) ∙ c.if-not-guard_keeps.true)
+    (code_in g.result.second) g.ensures
+    (sym (judged (goal.at.returns-then-not-guard_keeps c).After-guard_keeps-2) ∙ c.if-not-guard_keeps.true)
 
 pub updates_keep-requires : goal.updates_keep-requires
 updates_keep-requires c =

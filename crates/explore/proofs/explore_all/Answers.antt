@@ -31,14 +31,17 @@ returns-in-Full c =
     let w = c.explore_location in
     let d = c in
     let l = d.loop-i in
-    explores_full _ _ _ _ _ _ _ _ _ _ l.i l.invariant.3 l.invariant.0 l.invariant.1 (omega (arith, since (goal.at.returns-in-Full c).At-loop-i)) _ _ _
+    explores_full _ _ _ _ _ _ _ _ _ _ l.i l.invariant.3 l.invariant.0 l.invariant.1
+    (omega (arith, since (goal.at.returns-in-Full c).At-loop-i)) _ _ _
     w.result w.ensures _ c.in-Full.is
 
 pub overflow_add-i : goal.overflow_add-i
-overflow_add-i c = let d = c in omega (arith, few (goal.at.overflow_add-i c).At-loop-i, since (goal.at.overflow_add-i c).At-loop-i)
+overflow_add-i c = let d = c in
+    omega (arith, few (goal.at.overflow_add-i c).At-loop-i, since (goal.at.overflow_add-i c).At-loop-i)
 
 pub loop-i-smaller : goal.loop-i-smaller
-loop-i-smaller c = let d = c in omega (arith, few (goal.at.loop-i-smaller c).At-loop-i, since (goal.at.loop-i-smaller c).At-loop-i)
+loop-i-smaller c = let d = c in
+    omega (arith, few (goal.at.loop-i-smaller c).At-loop-i, since (goal.at.loop-i-smaller c).At-loop-i)
 
 pub loop-i-preserved : goal.loop-i-preserved
 loop-i-preserved c =
@@ -48,7 +51,8 @@ loop-i-preserved c =
       w.auto.locations ∙ l.invariant.0,
       w.auto.edges ∙ l.invariant.1,
       w.auto.index ∙ l.invariant.2,
-      explores_next _ _ _ _ _ _ _ _ _ _ l.i l.invariant.3 l.invariant.0 l.invariant.1 (omega (arith, since (goal.at.loop-i-preserved c).At-loop-i)) _ _ _
+      explores_next _ _ _ _ _ _ _ _ _ _ l.i l.invariant.3 l.invariant.0 l.invariant.1
+          (omega (arith, since (goal.at.loop-i-preserved c).At-loop-i)) _ _ _
           w.result w.ensures _ c.in-Added.is,
     )
 

@@ -7,7 +7,8 @@ use Rattle.fill.proofs.fill.Given as goal
 
 abbrev pub invariant-loop-i : goal.invariant-loop-i
 invariant-loop-i l =
-    (l.i ≤ length l.initial.part) × (length l.part ≡ length l.initial.part) × (l.part ≡ replicate l.i l.value ++ drop l.i l.initial.part)
+    (l.i ≤ length l.initial.part) × (length l.part ≡ length l.initial.part)
+    × (l.part ≡ replicate l.i l.value ++ drop l.i l.initial.part)
 
 abbrev pub decreases-loop-i : goal.decreases-loop-i
 decreases-loop-i l = length l.initial.part - l.i

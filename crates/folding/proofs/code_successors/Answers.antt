@@ -29,7 +29,8 @@ pub loop-i-preserved : goal.loop-i-preserved
 loop-i-preserved c =
     let l = c.loop-i in (
       l.invariant.0,
-      coded_next _ _ _ _ (l.i - 1) _ l.invariant.1 (last_one (goal.at.loop-i-preserved c).In-loop-i) l.invariant.0 (search rules)
+      coded_next _ _ _ _ (l.i - 1) _ l.invariant.1 (last_one (goal.at.loop-i-preserved c).In-loop-i) l.invariant.0
+          (search rules)
           c.fold_byte.ensures,
     )
 
@@ -38,7 +39,8 @@ returns c =
     let l = c.loop-i in
     let a = c.args in
     let z : l.i ≡ 0 = search rules in (
-      l.invariant.1.is_code ∙ ap (λ k. number_of (map (λ c. fold_byte a.node.now (get_or a.cells.now c 0)) (drop k a.last.now))) z,
+      l.invariant.1.is_code ∙ ap (λ k. number_of
+          (map (λ c. fold_byte a.node.now (get_or a.cells.now c 0)) (drop k a.last.now))) z,
       coded_most _ _ _ _ l.invariant.1 z,
     )
 

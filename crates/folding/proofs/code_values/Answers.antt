@@ -29,7 +29,8 @@ pub loop-i-preserved : goal.loop-i-preserved
 loop-i-preserved c =
     let l = c.loop-i in (
       l.invariant.0,
-      coded_next _ _ _ _ (l.i - 1) _ l.invariant.1 (last_one (goal.at.loop-i-preserved c).In-loop-i) l.invariant.0 (search rules)
+      coded_next _ _ _ _ (l.i - 1) _ l.invariant.1 (last_one (goal.at.loop-i-preserved c).In-loop-i) l.invariant.0
+          (search rules)
           c.fold_byte.ensures,
     )
 

@@ -8,7 +8,8 @@ use Rattle.folding.proofs.fold_values.Given as goal
 
 abbrev pub invariant-loop-i : goal.invariant-loop-i
 invariant-loop-i l =
-    (l.i ≤ length l.values) × (length l.to ≡ length l.initial.to) × (l.to ≡ map (fold_byte l.node) (take l.i l.values) ++ drop l.i l.initial.to)
+    (l.i ≤ length l.values) × (length l.to ≡ length l.initial.to)
+    × (l.to ≡ map (fold_byte l.node) (take l.i l.values) ++ drop l.i l.initial.to)
 
 abbrev pub decreases-loop-i : goal.decreases-loop-i
 decreases-loop-i l = length l.values - l.i

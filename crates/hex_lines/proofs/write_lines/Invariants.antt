@@ -8,7 +8,8 @@ use Rattle.hex_lines.proofs.write_lines.Given as goal
 
 abbrev pub invariant-loop-i : goal.invariant-loop-i
 invariant-loop-i l =
-    (l.i ≤ l.n) × (length l.text ≡ length l.initial.text) × (take (l.at + 65 * l.i) l.text ≡ take l.at l.initial.text ++ lines_of l.i l.table)
+    (l.i ≤ l.n) × (length l.text ≡ length l.initial.text)
+    × (take (l.at + 65 * l.i) l.text ≡ take l.at l.initial.text ++ lines_of l.i l.table)
 
 abbrev pub decreases-loop-i : goal.decreases-loop-i
 decreases-loop-i l = l.n - l.i

@@ -52,12 +52,14 @@ nothing_lost-requires c =
 pub returns-then-nothing_lost : goal.returns-then-nothing_lost
 returns-then-nothing_lost c =
     let v = c in
-    check_done (good (goal.at.returns-then-nothing_lost c).Else-not-is_closed) v.visit-n.ensures c.nothing_lost.ensures c.if-nothing_lost.true
+    check_done (good (goal.at.returns-then-nothing_lost c).Else-not-is_closed) v.visit-n.ensures
+    c.nothing_lost.ensures c.if-nothing_lost.true
 
 pub returns-else-nothing_lost : goal.returns-else-nothing_lost
 returns-else-nothing_lost c =
     let v = c in
-    check_lost (good (goal.at.returns-else-nothing_lost c).Else-not-is_closed) v.visit-n.ensures c.nothing_lost.ensures c.if-nothing_lost.false
+    check_lost (good (goal.at.returns-else-nothing_lost c).Else-not-is_closed) v.visit-n.ensures
+    c.nothing_lost.ensures c.if-nothing_lost.false
 
 pub is_closed-requires : goal.is_closed-requires
 is_closed-requires c = few (goal.at.is_closed-requires c).Else-not-lengths_ok

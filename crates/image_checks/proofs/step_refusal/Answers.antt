@@ -19,12 +19,14 @@ returns-then-rec-ne83 c =
     let t = c in
     let k = t in
     let a = k.args in
-    refuse_tag a.rec.now k.check_image-checked.ensures t.if-checked-ne0.false t.if-rec-ne-RECORD.false c.if-rec-ne83.true
+    refuse_tag a.rec.now k.check_image-checked.ensures t.if-checked-ne0.false t.if-rec-ne-RECORD.false
+    c.if-rec-ne83.true
 
 pub returns : goal.returns
 returns c =
     let t = c in
     let k = t in
     let a = k.args in
-    refuse_record a.rec.now k.check_image-checked.ensures t.if-checked-ne0.false t.if-rec-ne-RECORD.false c.if-rec-ne83.false
+    refuse_record a.rec.now k.check_image-checked.ensures t.if-checked-ne0.false t.if-rec-ne-RECORD.false
+    c.if-rec-ne83.false
     c.statement_refusal.ensures

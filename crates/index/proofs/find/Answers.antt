@@ -27,14 +27,17 @@ overflow_mul-j c = let l = c.loop-i in record { fits = omega (arith, l.invariant
 
 pub same_at-requires : goal.same_at-requires
 same_at-requires c =
-    let l = c.loop-i in
-    (place_within _ _ _ _ _ _ l.invariant (l.i - 1) (before (goal.at.same_at-requires c).In-loop-i), l.invariant.ready.whole)
+    let l = c.loop-i in (
+      place_within _ _ _ _ _ _ l.invariant (l.i - 1) (before (goal.at.same_at-requires c).In-loop-i),
+      l.invariant.ready.whole,
+    )
 
 pub returns-then-same_at : goal.returns-then-same_at
 returns-then-same_at c =
     let d = c in
     let l = d.loop-i in
-    sym (l.invariant.rest ∙ found_here _ _ _ _ (l.i - 1) (before (goal.at.returns-then-same_at c).In-loop-i) (sym c.same_at.ensures ∙ c.if-same_at.true))
+    sym (l.invariant.rest ∙ found_here _ _ _ _ (l.i - 1) (before (goal.at.returns-then-same_at c).In-loop-i)
+    (sym c.same_at.ensures ∙ c.if-same_at.true))
 
 pub entry-i-requires-in-loop-i : goal.entry-i-requires-in-loop-i
 entry-i-requires-in-loop-i c =
@@ -46,7 +49,12 @@ pub loop-i-smaller : goal.loop-i-smaller
 loop-i-smaller c =
     let d = c in
     let l = d.loop-i in
-    omega (arith, c.entry-i-in-loop-i.ensures, chain_less _ _ _ _ _ _ l.invariant (l.i - 1) (before (goal.at.loop-i-smaller c).In-loop-i), before (goal.at.loop-i-smaller c).In-loop-i)
+    omega (
+      arith,
+      c.entry-i-in-loop-i.ensures,
+      chain_less _ _ _ _ _ _ l.invariant (l.i - 1) (before (goal.at.loop-i-smaller c).In-loop-i),
+      before (goal.at.loop-i-smaller c).In-loop-i,
+    )
 
 pub loop-i-preserved : goal.loop-i-preserved
 loop-i-preserved c =

@@ -10,4 +10,7 @@ pub check_kinds-requires : goal.check_kinds-requires
 check_kinds-requires c = length_even _ c.if-length.false
 
 pub returns : goal.returns
-returns c = record { outcome = c.check_kinds.ensures.outcome ∙ check_rest c.args.input.now c.if-length.false; counts = c.check_kinds.ensures.counts }
+returns c = record {
+  outcome = c.check_kinds.ensures.outcome ∙ check_rest c.args.input.now c.if-length.false;
+  counts = c.check_kinds.ensures.counts;
+}

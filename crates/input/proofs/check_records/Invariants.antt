@@ -10,7 +10,8 @@ use Rattle.input.proofs.check_records.Given as goal
 
 abbrev pub invariant-loop-i : goal.invariant-loop-i
 invariant-loop-i l =
-    (l.i ≤ l.records) × (first_bad_record l.statements 0 [] (records_of l.input) ≡ first_bad_record l.statements l.i (earlier l.input l.i)
+    (l.i ≤ l.records) × (first_bad_record l.statements 0 [] (records_of l.input)
+    ≡ first_bad_record l.statements l.i (earlier l.input l.i)
     (drop l.i (records_of l.input)))
 
 abbrev pub decreases-loop-i : goal.decreases-loop-i

@@ -53,7 +53,8 @@ keep_location-count-requires c =
     let s = d in
     let a = s.args in
     record {
-      place = place_within most_locations (length a.locations.now) d.find-j.result (placed (goal.at.keep_location-count-requires c).Else-cl-j);
+      place = place_within most_locations (length a.locations.now) d.find-j.result
+          (placed (goal.at.keep_location-count-requires c).Else-cl-j);
       low = omega (arith, placed (goal.at.keep_location-count-requires c).Else-cl-j);
       size = s.requires.held.indexed.size;
       hashed = d.hash-h.ensures.1;
@@ -67,7 +68,8 @@ put_edge-requires c =
     let s = d in
     let p = s.requires in
     rw c.fields_to.ensures (
-      place_within most_edges (length s.args.edges.now) s.args.counts.edges (room (goal.at.put_edge-requires c).Else-ce-ne),
+      place_within most_edges (length s.args.edges.now) s.args.counts.edges
+          (room (goal.at.put_edge-requires c).Else-ce-ne),
       (
         p.low,
         omega (arith, placed (goal.at.put_edge-requires c).Else-cl-j),
@@ -86,7 +88,8 @@ returns c t e H W B =
     let f = d.find-j in
     let kept = c.keep_location-count in
     let fields = c.fields_to in
-    one_more t a.from e _ _ _ _ _ _ _ H W B f.result f.ensures (placed (goal.at.returns c).Else-cl-j) (room (goal.at.returns c).Else-ce-ne) _ _ _ kept.result
+    one_more t a.from e _ _ _ _ _ _ _ H W B f.result f.ensures (placed (goal.at.returns c).Else-cl-j)
+    (room (goal.at.returns c).Else-ce-ne) _ _ _ kept.result
     kept.ensures.0 kept.ensures.1
     fields.result fields.ensures c.put_edge.ensures d.hash-h.result
     d.hash-h.ensures.0 kept.ensures.2

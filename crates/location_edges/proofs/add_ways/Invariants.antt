@@ -7,8 +7,10 @@ use Rattle.location_edges.proofs.add_ways.Given as goal
 
 abbrev pub invariant-loop-j : goal.invariant-loop-j
 invariant-loop-j l =
-    (length l.locations ≡ length l.initial.locations) × (length l.edges ≡ length l.initial.edges) × (length l.index ≡ length l.initial.index)
-    × Adds l.location l.d l.initial.locations l.initial.edges l.initial.index l.initial.held l.i l.locations l.edges l.index l.held l.j
+    (length l.locations ≡ length l.initial.locations) × (length l.edges ≡ length l.initial.edges)
+    × (length l.index ≡ length l.initial.index)
+    × Adds l.location l.d l.initial.locations l.initial.edges l.initial.index l.initial.held l.i l.locations l.edges
+    l.index l.held l.j
 
 abbrev pub decreases-loop-j : goal.decreases-loop-j
 decreases-loop-j l = l.ways.count - l.j

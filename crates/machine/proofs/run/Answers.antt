@@ -13,18 +13,21 @@ pub returns-then-fault-ne0 : goal.returns-then-fault-ne0
 returns-then-fault-ne0 c =
     let e = c in
     let s = e in
-    run_faults s.requires (after (goal.at.returns-then-fault-ne0 c).After-run_effect-fault) e.run_effect-fault.ensures _ _ c.if-fault-ne0.true
+    run_faults s.requires (after (goal.at.returns-then-fault-ne0 c).After-run_effect-fault)
+    e.run_effect-fault.ensures _ _ c.if-fault-ne0.true
 
 pub visit-n-requires : goal.visit-n-requires
 visit-n-requires c =
     let e = c in
     let s = e in
-    visit_ready s.requires (after (goal.at.visit-n-requires c).After-run_effect-fault) e.run_effect-fault.ensures (search rules)
+    visit_ready s.requires (after (goal.at.visit-n-requires c).After-run_effect-fault) e.run_effect-fault.ensures
+    (search rules)
 
 pub returns : goal.returns
 returns c =
     let v = c in
     let e = v in
     let s = e in
-    run_settled s.requires (after (goal.at.returns c).After-run_effect-fault) e.run_effect-fault.ensures (search rules) v.visit-n.ensures v.visit-n.auto.order
+    run_settled s.requires (after (goal.at.returns c).After-run_effect-fault) e.run_effect-fault.ensures
+    (search rules) v.visit-n.ensures v.visit-n.auto.order
     c.settle-lost.ensures

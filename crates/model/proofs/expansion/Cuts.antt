@@ -115,7 +115,12 @@ module _ (nx : ℕ → Slot) (p : ℕ → Bool) where
       → (b : ℕ) × (mem b (c ∷ l) ≡ true) × (nx b ≡ holds (cell d)) × (b ≡ last_from c l → ⊥)
   inner_has c [] d k nd h = clash h refl
   inner_has c (x ∷ l) d k nd h = mem-cases d x l h
-      (λ e. (c, mem_here c (x ∷ l), rw e k.0, λ q. clash (subst (λ b. mem b (x ∷ l) ≡ true) (sym q) (mem_last x l)) nd.0))
+      (λ e. (
+        c,
+        mem_here c (x ∷ l),
+        rw e k.0,
+        λ q. clash (subst (λ b. mem b (x ∷ l) ≡ true) (sym q) (mem_last x l)) nd.0,
+      ))
       (λ h'. let r = inner_has x l d k.1 nd.1 h' in (r.0, mem_there r.0 c (x ∷ l) r.1, r.2, r.3))
 
 flat_cut_from : (p : ℕ → Bool) (c : ℕ) (cur l : List ℕ) → flat (cut_from p c cur l) ≡ c ∷ (cur ++ l)

@@ -22,7 +22,8 @@ use Rattle.model.proofs.expansion.Writes.{expands_new, expands_write, n_closed, 
 use Rattle.model.specs.Machine.{put, put_slot, free_cell, set_ptr, Source, Action, Effect, compare, look, wipe_slot, wipe, value_of, through, free_val, perform, held, from, point, follow, link, make, release, nil, splice, stay, done}
 use Rattle.model.specs.Edges.{split_heap, two_nodes, view_val, view_pair, view}
 
-get_or_put_lem : (l : List Slot) (c : ℕ) (s : Slot) (i : ℕ) → get_or (put l c s) i unused ≡ cond (eqb i c) s (get_or l i unused)
+get_or_put_lem : (l : List Slot) (c : ℕ) (s : Slot) (i : ℕ) → get_or (put l c s) i unused
+    ≡ cond (eqb i c) s (get_or l i unused)
 get_or_put_lem [] zero s zero = refl
 get_or_put_lem [] zero s (suc i) = rw (eqb-suc-zero i)
 get_or_put_lem [] (suc c) s zero = rw (eqb-zero-suc c)

@@ -77,10 +77,12 @@ closed_test h k = and_both (all (named (next h)) h.ptrs) (all (slot_named (next 
     (named_slots (next h) h.slots k.1)
 
 -- the test of each cell in use
-each_used_lem : (p : ℕ → Bool) (i : ℕ) (ss : List Slot) → ((j : ℕ) → Used (λ x. get_or ss x unused) j → p (i + j) ≡ true)
+each_used_lem : (p : ℕ → Bool) (i : ℕ) (ss : List Slot)
+    → ((j : ℕ) → Used (λ x. get_or ss x unused) j → p (i + j) ≡ true)
     → each_used p i ss ≡ true
 each_used_lem p i [] h = refl
-each_used_lem p i (unused ∷ ss) h = each_used_lem p (suc i) ss (λ j u. subst (λ x. p x ≡ true) (omega arith) (h (suc j) u))
+each_used_lem p i (unused ∷ ss) h =
+    each_used_lem p (suc i) ss (λ j u. subst (λ x. p x ≡ true) (omega arith) (h (suc j) u))
 each_used_lem p i (holds v ∷ ss) h = and_both (p i) (each_used p (suc i) ss)
     (subst (λ x. p x ≡ true) (omega arith) (h 0 (v, refl)))
     (each_used_lem p (suc i) ss (λ j u. subst (λ x. p x ≡ true) (omega arith) (h (suc j) u)))

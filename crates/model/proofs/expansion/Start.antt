@@ -77,7 +77,8 @@ module _ (h : Heap) (cl : ClosedHeap h) (kp : Kept h) where
       (mem_last (seg_at (segments h) n).first (seg_at (segments h) n).rest)
 
   pub slot_at_lem : (n : ℕ) (k : n < length (segments h)) → next (shape h) n ≡ holds (node_val (segments h) (end n k).0)
-  slot_at_lem n k = get_or_map (λ (s : Seg). node_slot (segments h) (next h (last s))) (segments h) n (seg 0 []) unused k
+  slot_at_lem n k = get_or_map (λ (s : Seg). node_slot (segments h) (next h (last s))) (segments h) n (seg 0 [])
+      unused k
       ∙ ap (node_slot (segments h)) (end n k).1
 
   below : (n : ℕ) → Used (next (shape h)) n → n < length (segments h)

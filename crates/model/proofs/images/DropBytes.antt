@@ -47,7 +47,8 @@ module _ (r : List ℕ) (p c : ℕ) (ps cs : List ℕ) (ok : step_verdict (step_
       ap (λ (s : Stepping). s.ptr_bytes) dropped ∙ map_set val_byte (map val_of ps) u null
       ∙ ap (λ l. set l u 0xfe) (map_back val_of val_byte ps (λ b i. byte_back b))
 
-  cell_left : (i : ℕ) → i < length cs → get_or (step_image r p c ps cs).cell_bytes i 0 ≡ slot_byte (next (collect cut) i)
+  cell_left : (i : ℕ) → i < length cs → get_or (step_image r p c ps cs).cell_bytes i 0
+      ≡ slot_byte (next (collect cut) i)
   cell_left i lt =
       ap (λ (s : Stepping). get_or s.cell_bytes i 0) dropped
       ∙ get_or_map slot_byte (collect cut).slots i unused 0
@@ -56,7 +57,8 @@ module _ (r : List ℕ) (p c : ℕ) (ps cs : List ℕ) (ok : step_verdict (step_
   cut_closed : ClosedHeap cut
   cut_closed = set_closed (heap_of ps cs) u null (heap_closed (heap_of ps cs) (step_heap r p c ps cs ok)) tt
 
-  pub drop_stays : (i : ℕ) → i < length cs → Reaches cut i → get_or (step_image r p c ps cs).cell_bytes i 0 ≡ get_or cs i 0
+  pub drop_stays : (i : ℕ) → i < length cs → Reaches cut i → get_or (step_image r p c ps cs).cell_bytes i 0
+      ≡ get_or cs i 0
   drop_stays i lt q =
       cell_left i lt ∙ ap slot_byte (visited_stays cut i (reaches_order cut cut_closed i q)
       ∙ get_or_map cell_slot cs i 0 unused lt) ∙ slot_byte_lem (get_or cs i 0)

@@ -59,7 +59,12 @@ unfolding fold_image
 fold_zero ps cs e = rw (e, fold_image)
 
 pub fold_suc : (ps cs : List ℕ) (n : ℕ) → refusal_image ps cs ≡ suc n
-    → fold_image ps cs ≡ record { verdict = verdict_by (suc n) 0; record_bytes = replicate 32 0; counts = replicate 12 0 }
+    → fold_image ps cs ≡ record {
+      verdict = verdict_by (suc n) 0;
+      record_bytes = replicate 32 0;
+      counts =
+          replicate 12 0;
+    }
 unfolding fold_image
 fold_suc ps cs n e = rw (e, fold_image)
 

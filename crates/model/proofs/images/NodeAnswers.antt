@@ -76,7 +76,8 @@ module _ (r : List ℕ) (w : length r ≡ 32) (l : layout_h r ≡ true) where
       let layout = unless 8 (eqb (length r) 32 && layout_h r) in
       told_as (unless 13 (eqb np 6 && leb nc 240)) (layout ∷ tail)
       (and_both (eqb np 6) (leb nc 240) (eq-eqb np 6 p) (le-leb nc 240 q))
-      (told_as layout tail (and_both (eqb (length r) 32) (layout_h r) (eq-eqb (length r) 32 w) l) (nodes_told rest refl))
+      (told_as layout tail (and_both (eqb (length r) 32) (layout_h r) (eq-eqb (length r) 32 w) l)
+      (nodes_told rest refl))
 
   pub unfold_told : (vs ps cs : List ℕ) → length ps ≡ 6 → length cs ≤ 240
       → GivenAsTold (shape_of r) (refusal_of (unfold_image r vs ps cs).verdict).number
@@ -107,7 +108,8 @@ module _ (rs : List (List ℕ)) (i m : ℕ) (e : record_refusal rs i ≡ suc m) 
   keeps_layout_lem : layout_h (get_or rs i []) ≡ true
   keeps_layout_lem = by_check (failed_given (checks_h (take i rs) (get_or rs i [])) m (rw no_statement at e))
     where
-      by_check : Given (checks_h (take i rs) (get_or rs i [])) (suc m) (failed_node (checks_h (take i rs) (get_or rs i [])))
+      by_check : Given (checks_h (take i rs) (get_or rs i [])) (suc m)
+          (failed_node (checks_h (take i rs) (get_or rs i [])))
           → layout_h (get_or rs i []) ≡ true
       by_check (inl (z, d, p)) = clash t (ap tells_node (sym z))
       by_check (inr (p, g)) = p

@@ -88,7 +88,8 @@ pub step_answers : (r : List ℕ) (p c : ℕ) (ps cs : List ℕ) → step_verdic
     → step_image r p c ps cs ≡ answered (step (stmt_of r) (entry p c) (heap_of ps cs)) ps cs
 step_answers r p c ps cs z = by_case (step_cases r p c ps cs)
   where
-    by_case : StepCases r p c ps cs → step_image r p c ps cs ≡ answered (step (stmt_of r) (entry p c) (heap_of ps cs)) ps
+    by_case : StepCases r p c ps cs → step_image r p c ps cs
+        ≡ answered (step (stmt_of r) (entry p c) (heap_of ps cs)) ps
         cs
     by_case (inl (n, e, q)) = not_both (step_verdict (step_image r p c ps cs).answer) (refusal (suc n) 0) z
         (ap (λ (s : Stepping). step_verdict s.answer) q)

@@ -87,7 +87,8 @@ extend_targets i (e ∷ es) t = extend_targets i es (add_edge i t e)
 -- ---- the laws
 
 -- only a location of the list has edges
-pub edge_below : (sts : List Stmt) (ls : List Loc) (i : ℕ) (e : Edge) → In e (edges_of sts (loc_at ls i)) → i < length ls
+pub edge_below : (sts : List Stmt) (ls : List Loc) (i : ℕ) (e : Edge) → In e (edges_of sts (loc_at ls i))
+    → i < length ls
 edge_below sts ls i e h = bool_case (ltb i (length ls)) (λ q. ltb-true i (length ls) q)
     (λ q. absurd (subst (λ l. In e (edges_of sts l))
     (get_or-eq_default ls (failed 0 leak) (ltb-false i (length ls) q)) h))
@@ -101,7 +102,8 @@ module _ (sts : List Stmt) (hs : List Heap) where
   explored_sound (suc i) l h =
       let ls = (explored sts hs i).locs in
       extend_all (Reached sts hs) i (edges_of sts (loc_at ls i)) (explored sts hs i) (explored_sound i)
-      (λ e k. by_edge e (explored_sound i (loc_at ls i) (get_or_in_lem ls (failed 0 leak) i (edge_below sts ls i e k))) k) l h
+      (λ e k. by_edge e (explored_sound i (loc_at ls i)
+      (get_or_in_lem ls (failed 0 leak) i (edge_below sts ls i e k))) k) l h
 
   pub explored_distinct : Distinct hs → (i : ℕ) → Distinct (explored sts hs i).locs
   explored_distinct k zero = starts_distinct hs k

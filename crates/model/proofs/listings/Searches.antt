@@ -122,7 +122,8 @@ module _ (ls : List Loc) (l : Loc) (a : ℕ) (t r : List ℕ) (once : Distinct l
         h,
         equal_location i h ∙ on,
         λ j k lt. not-true (equal_at t r j) (λ x.
-            let same = sym (loc_same l (get_or ls i l) on) ∙ loc_same l (get_or ls j l) (sym (equal_location j lt) ∙ x) in
+            let same = sym (loc_same l (get_or ls i l) on)
+            ∙ loc_same l (get_or ls j l) (sym (equal_location j lt) ∙ x) in
             let e = distinct_at ls l i j once h lt same in
             omega arith),
       ))
@@ -131,7 +132,8 @@ module _ (ls : List Loc) (l : Loc) (a : ℕ) (t r : List ℕ) (once : Distinct l
       clash (any_in (same_loc l) ls (get_or ls j l) (get_or_in_lem ls l j lt) (sym (equal_location j lt) ∙ x)) e)))
 
   pub known_place : highest_below (length ls) (equal_at t r) ≡ number_below (length ls) (place_of (same_loc l) ls)
-  known_place = highest_only (equal_at t r) (length ls) (number_below (length ls) (place_of (same_loc l) ls)) place_tells
+  known_place = highest_only (equal_at t r) (length ls) (number_below (length ls) (place_of (same_loc l) ls))
+      place_tells
 
   pub known_searched : length ls ≤ places 1024 a
       → searched t (length ls) r ≡ number_below (length ls) (place_of (same_loc l) ls)
@@ -158,7 +160,8 @@ module _ (r : Routine) (G : GoodStarts r) (i : ℕ) (es later : List Edge)
       let ls = t.locs in
       let k = subst (In e) (sym front) (in_append_l e es later h) in
       let lt = edge_below r.stmts ls i e k in
-      (good_edge r.stmts (loc_at ls i) (explored_good r G i (loc_at ls i) (get_or_in_lem ls (failed 0 leak) i lt)) e k).1)
+      (good_edge r.stmts (loc_at ls i) (explored_good r G i (loc_at ls i) (get_or_in_lem ls (failed 0 leak) i lt)) e
+      k).1)
 
   pub now_searched : (l : Loc) → WritableLoc l → (a : ℕ) → length (extend i es t).locs ≤ places 1024 a
       → searched (table_of a (map loc_record (extend i es t).locs)) (length (extend i es t).locs) (loc_record l)

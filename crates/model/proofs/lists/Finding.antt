@@ -17,7 +17,8 @@ found_start p n =
     omega arith
 
 module _ (p : ℕ → Bool) {n f i : ℕ} (inv : Found p n f i) where
-  first_is_lem : i < n → place_of p (numbers i (n - i)) ≡ cond (p i) 0 (suc (place_of p (numbers (i + 1) (n - (i + 1)))))
+  first_is_lem : i < n → place_of p (numbers i (n - i))
+      ≡ cond (p i) 0 (suc (place_of p (numbers (i + 1) (n - (i + 1)))))
   first_is_lem h =
       let e : n - i ≡ suc (n - (i + 1)) = omega arith in
       ap (λ k. place_of p (numbers i k)) e
@@ -28,7 +29,8 @@ module _ (p : ℕ → Bool) {n f i : ℕ} (inv : Found p n f i) where
 
   pub found_later : i < n → p i ≡ false → Found p n f (i + 1)
   found_later h t =
-      let e : place_of p (numbers i (n - i)) ≡ suc (place_of p (numbers (i + 1) (n - (i + 1)))) = first_is_lem h ∙ rw t in
+      let e : place_of p (numbers i (n - i)) ≡ suc (place_of p (numbers (i + 1) (n - (i + 1)))) =
+      first_is_lem h ∙ rw t in
       omega arith
 
   pub found_none : n ≤ i → i ≤ n → n ≡ f

@@ -40,7 +40,8 @@ shapes i (r ∷ rs) e = bool_case (is_h r)
       all_h = and_both (is_h r) (all is_h rs) h q.all_h;
       count_h = rw h (omega (arith, q.count_h));
     })
-    (λ h. let z : first_bad_kind true i (r ∷ rs) ≡ some i = rw (h, first_bad_kind) (rw (and-false (is_s r), first_bad_kind)) in
+    (λ h. let z : first_bad_kind true i (r ∷ rs) ≡ some i =
+    rw (h, first_bad_kind) (rw (and-false (is_s r), first_bad_kind)) in
     some-none (sym e ∙ z))
 
 shapes_sorted : (rs : List (List ℕ)) → Shapes rs → Sorted rs
@@ -67,4 +68,5 @@ kinds_sorted i (r ∷ rs) e = bool_case (is_h r)
     (λ h. let z = rw (h, first_bad_kind) at e in
     bool_case (is_s r)
     (λ s. sorted_more r rs s (kinds_sorted (suc i) rs (rw (s, first_bad_kind) at z)))
-    (λ s. let y : first_bad_kind false i (r ∷ rs) ≡ some i = rw (h, first_bad_kind) (rw (s, first_bad_kind)) in some-none (sym e ∙ y)))
+    (λ s. let y : first_bad_kind false i (r ∷ rs) ≡ some i = rw (h, first_bad_kind) (rw (s, first_bad_kind)) in
+    some-none (sym e ∙ y)))

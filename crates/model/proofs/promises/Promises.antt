@@ -209,7 +209,8 @@ unfold_refusals = unfold_checked
 -- "a refused unfolding or step leaves pointers and cells as they stood"; lengths are kept
 abbrev pub UnfoldLeaves : Type 0
 UnfoldLeaves = (r vs ps cs : List ℕ)
-    → (length (unfold_image r vs ps cs).ptr_bytes ≡ length ps) × (length (unfold_image r vs ps cs).cell_bytes ≡ length cs)
+    → (length (unfold_image r vs ps cs).ptr_bytes ≡ length ps)
+    × (length (unfold_image r vs ps cs).cell_bytes ≡ length cs)
     × ((x : Refusal) → (unfold_image r vs ps cs).verdict ≡ is_refused x → ((unfold_image r vs ps cs).ptr_bytes ≡ ps)
     × ((unfold_image r vs ps cs).cell_bytes ≡ cs))
 

@@ -86,7 +86,8 @@ guards_cover s r e l p = good_cover r.stmts l (reached_good r (check_good s r e)
 
 -- an accepted translation is one of an accepted input
 abbrev pub AcceptedIsChecked : Type 0
-AcceptedIsChecked = (s : List ℕ) (a b : ℕ) → (translate s a b).verdict ≡ is_accepted → (r : Routine) × (check s ≡ good r)
+AcceptedIsChecked = (s : List ℕ) (a b : ℕ) → (translate s a b).verdict ≡ is_accepted → (r : Routine)
+    × (check s ≡ good r)
 
 pub accepted_is_checked : AcceptedIsChecked
 accepted_is_checked s a b z = let A = is_accepted_lem s a b z in (A.0, A.2)

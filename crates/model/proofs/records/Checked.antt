@@ -46,14 +46,16 @@ abbrev Accepted : ℕ → List (List ℕ) → List (List ℕ) → Type 0
 Accepted n earlier [] = Unit {0}
 Accepted n earlier (r ∷ rs) = (first_failed (checks_record n earlier r) ≡ 0) × Accepted n (r ∷ earlier) rs
 
-records_accepted : (n i : ℕ) (earlier rs : List (List ℕ)) → first_bad_record n i earlier rs ≡ none → Accepted n earlier rs
+records_accepted : (n i : ℕ) (earlier rs : List (List ℕ)) → first_bad_record n i earlier rs ≡ none
+    → Accepted n earlier rs
 records_accepted n i earlier [] e = tt
 records_accepted n i earlier (r ∷ rs) e =
     by_refusal (first_failed (checks_record n earlier r)) refl
     (λ z. records_accepted n (suc i) (r ∷ earlier) rs z)
   where
     by_refusal : (m : ℕ) → first_failed (checks_record n earlier r) ≡ m
-        → (first_bad_record n (suc i) (r ∷ earlier) rs ≡ none → Accepted n (r ∷ earlier) rs) → Accepted n earlier (r ∷ rs)
+        → (first_bad_record n (suc i) (r ∷ earlier) rs ≡ none → Accepted n (r ∷ earlier) rs)
+        → Accepted n earlier (r ∷ rs)
     by_refusal zero q rec = (q, rec (rw (q, first_bad_record) at e))
     by_refusal (suc m) q rec =
         let z : first_bad_record n i earlier (r ∷ rs)

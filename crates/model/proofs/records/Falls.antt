@@ -53,7 +53,8 @@ module _ (k : ℕ) (gs : List GuardCode) where
   least_past i h = get_or-eq_default (least_counters k gs) 0 (omega (arith, least_length))
 
   least_positive : (i : ℕ) → i < k → 1 ≤ get_or (least_counters k gs) i 0
-  least_positive i h = rw (least_at i h) (bool_case (asks_more gs i) (λ e. rw e (omega arith)) (λ e. rw e (omega arith)))
+  least_positive i h = rw (least_at i h)
+      (bool_case (asks_more gs i) (λ e. rw e (omega arith)) (λ e. rw e (omega arith)))
 
   least_ones : all (leb 1) (least_counters k gs) ≡ true
   least_ones = all_of (leb 1) (least_counters k gs) (λ c i.

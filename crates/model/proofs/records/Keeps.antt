@@ -81,7 +81,8 @@ module _ (from to k : ℕ) (e : Edge) (few : k ≤ 12) (S : SmallEdge k e) where
   flags_few u i = let z = (S.small u i).1 in omega arith
 
   bytes_keep_lem : bytes_keep kt R ≡ true
-  bytes_keep_lem = and_five true (ltb (byte R 1) 128) (all guard_keeps (guards_of R)) (all constant_keeps (updates_of kt R))
+  bytes_keep_lem = and_five true (ltb (byte R 1) 128) (all guard_keeps (guards_of R))
+      (all constant_keeps (updates_of kt R))
       (all is_zero (drop (8 + 2 * kt) R)) refl
       (lt-ltb (byte R 1) 128 (edge_bit from to k e S.branch S.guarded (omega arith)))
       (all_guards guard_keeps (guard_keeps_lem e.guards))
@@ -114,7 +115,8 @@ module _ (from to k : ℕ) (e : Edge) (few : k ≤ 12) (S : SmallEdge k e) where
   -- among n locations
   pub edge_keeps_lem : (n : ℕ) → from < n → to < n → Pairs AddApart e.updates → StaysPositive k e
       → edge_keeps n k kt R ≡ true
-  edge_keeps_lem n f t A P = and_five (ends_keep n R) (bytes_keep kt R) (nodes_keep k kt R) (added_once (updates_of kt R))
+  edge_keeps_lem n f t A P = and_five (ends_keep n R) (bytes_keep kt R) (nodes_keep k kt R)
+      (added_once (updates_of kt R))
       (all (λ u. not (could_fall k (guards_of R) u)) (updates_of kt R))
       (simp (edge_from from to e, edge_to from to e, lt-ltb from n f, lt-ltb to n t))
       bytes_keep_lem nodes_keep_lem (added_once_lem A) (none_falls P)

@@ -29,7 +29,8 @@ use Rattle.model.proofs.lists.Logic.{and_l, and_r, bool_case, clash, not-false, 
 
 -- record k is of a wrong kind, where an H may stand before the list
 abbrev wrong_after : Bool → List (List ℕ) → ℕ → Bool
-wrong_after after rs k = not (is_h (get_or rs k [])) && not (is_s (get_or rs k []) && not (after || any is_h (take k rs)))
+wrong_after after rs k = not (is_h (get_or rs k []))
+    && not (is_s (get_or rs k []) && not (after || any is_h (take k rs)))
 
 abbrev KindCases : Bool → ℕ → List (List ℕ) → Type 0
 KindCases after i rs =
@@ -64,7 +65,8 @@ kind_cases after i (r ∷ rs) = bool_case (is_h r)
     (kind_cases true (suc i) rs))
     (λ h. bool_case (is_s r && not after)
     (λ s. let a : after ≡ false = not-false after (and_r (is_s r) (not after) s) in
-    kind_more after false i r rs (rw (h, first_bad_kind) (rw (s, first_bad_kind))) (rw (h, a, and_l (is_s r) (not after) s))
+    kind_more after false i r rs (rw (h, first_bad_kind) (rw (s, first_bad_kind)))
+    (rw (h, a, and_l (is_s r) (not after) s))
     (λ k. rw (h, a)) (kind_cases false (suc i) rs))
     (λ s. inl (
       0,
@@ -116,7 +118,8 @@ record_cases n i earlier (r ∷ rs) = by_first (first_failed (checks_record n ea
     by_first (suc m) e c = inl (
       0,
       m,
-      rw (e, first_bad_record) (ap (λ p. some (refusal_at (suc m) p (failed_node (checks_record n earlier r)))) (omega arith)),
+      rw (e, first_bad_record) (ap (λ p. some (refusal_at (suc m) p (failed_node (checks_record n earlier r))))
+          (omega arith)),
       omega
           arith,
       e,
@@ -175,7 +178,8 @@ module _ (s : List ℕ) (a : no_records s ≡ false) where
       refusal_at (suc m) (0 + i) (node_after (count is_s (records_of s)) [] (records_of s) i),
       counts_records b c ∙ rw (p, check_records),
       bad_record m i
-          (ap₂ (λ q cs. refusal_at (suc m) q (failed_node cs)) (zero-add i) (sym (none_earlier (records_of s) i))) a f b c
+          (ap₂ (λ q cs. refusal_at (suc m) q (failed_node cs)) (zero-add i) (sym (none_earlier (records_of s) i))) a
+          f b c
           lt (λ j l. ap first_failed (none_earlier (records_of s) j) ∙ g j l)
           (ap first_failed (none_earlier (records_of s) i) ∙ w),
     )
@@ -222,7 +226,8 @@ refused_input s x e = ⊎_elim
     (λ (p : (r : Routine) × (check s ≡ good r) × GoodInput s r). bad-good (sym e ∙ p.1)) (check_cases s)
 
 -- records of right kinds all, and the first of a wrong kind
-kinds_none : (rs : List (List ℕ)) → ((j : ℕ) → j < length rs → wrong_kind rs j ≡ false) → first_bad_kind false 0 rs ≡ none
+kinds_none : (rs : List (List ℕ)) → ((j : ℕ) → j < length rs → wrong_kind rs j ≡ false) → first_bad_kind false 0 rs
+    ≡ none
 kinds_none rs f = ⊎_elim (λ (k, q, lt, w, g). clash w (f k lt)) (λ (q, g). q) (kind_cases false 0 rs)
 
 kind_found_lem : (rs : List (List ℕ)) (i : ℕ) → i < length rs → ((j : ℕ) → j < i → wrong_kind rs j ≡ false)
@@ -234,7 +239,8 @@ kind_found_lem rs i lt f w = ⊎_elim
 
 -- the first that is refused
 record_found : (rs : List (List ℕ)) (n i : ℕ) → i < length rs → ((j : ℕ) → j < i → record_refusal rs j ≡ 0)
-    → record_refusal rs i ≡ suc n → first_bad_record (count is_s rs) 0 [] rs ≡ some (refusal_at (suc n) i (record_node rs i))
+    → record_refusal rs i ≡ suc n → first_bad_record (count is_s rs) 0 [] rs
+    ≡ some (refusal_at (suc n) i (record_node rs i))
 record_found rs n i lt f w = ⊎_elim
     (λ (k, m, q, l, v, g).
     let u = ap first_failed (none_earlier rs k) ∙ v in

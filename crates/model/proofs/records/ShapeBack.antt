@@ -48,7 +48,8 @@ laid_of a b c k w l h =
         long = l;
         few = few;
         values = and_r (leb k 12) (all (value_byte k) (take (6 + k) w)) h4;
-        zeros = all_zero_lem (drop (6 + k) w) (subst (λ m. all is_zero (drop m r) ≡ true) e z) ∙ ap (λ m. replicate m 0) n;
+        zeros = all_zero_lem (drop (6 + k) w) (subst (λ m. all is_zero (drop m r) ≡ true) e z)
+            ∙ ap (λ m. replicate m 0) n;
       },
     )
 

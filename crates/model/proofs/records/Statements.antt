@@ -67,7 +67,8 @@ passed_s n r e = none_failed (checks_s n r) refl e
 
 fields_hold : (r : List ℕ) → fields_s r ≡ true
     → (pointer_field (uses_u (byte r 1)) (byte r 2) ≡ true) × (pointer_field (uses_w (byte r 1)) (byte r 3) ≡ true)
-    × (target_field (uses_first (byte r 1)) (byte r 4) ≡ true) × (target_field (uses_second (byte r 1)) (byte r 5) ≡ true)
+    × (target_field (uses_first (byte r 1)) (byte r 4) ≡ true)
+    × (target_field (uses_second (byte r 1)) (byte r 5) ≡ true)
     × (all is_zero (drop 6 r) ≡ true)
 fields_hold r h =
     let op = byte r 1 in
@@ -90,7 +91,8 @@ pointer_low true b h = ltb-true b 6 h
 pointer_low false b h = omega (arith, eqb-true b 0 h)
 
 -- the op and the pointers of an accepted S record
-pub statement_fields : (n : ℕ) (r : List ℕ) → refusal_s n r ≡ 0 → (byte r 1 < op_count) × (byte r 2 < 6) × (byte r 3 < 6)
+pub statement_fields : (n : ℕ) (r : List ℕ) → refusal_s n r ≡ 0 → (byte r 1 < op_count) × (byte r 2 < 6)
+    × (byte r 3 < 6)
 statement_fields n r e =
     let op = byte r 1 in
     let q = passed_s n r e in

@@ -25,7 +25,8 @@ use Rattle.model.proofs.shapes.Same.{place_found, place_passes}
 -- ---- the first node
 
 -- before the first place where a test passes it passes nowhere
-pub place_before : {A : Type 0} (p : A → Bool) (l : List A) (d : A) (i : ℕ) → i < place_of p l → p (get_or l i d) ≡ false
+pub place_before : {A : Type 0} (p : A → Bool) (l : List A) (d : A) (i : ℕ) → i < place_of p l → p (get_or l i d)
+    ≡ false
 place_before p [] d i h = absurd (omega arith)
 place_before p (x ∷ l) d zero h = bool_case (p x) (λ t. absurd (let k = rw t at h in omega arith)) (λ t. t)
 place_before p (x ∷ l) d (suc i) h = bool_case (p x) (λ t. absurd (let k = rw t at h in omega arith))

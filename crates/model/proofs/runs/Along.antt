@@ -48,7 +48,8 @@ module _ (t : Tables) where
   along_refused m c n ns x e = rw (e, moves_along)
 
   -- a move made before is one move more
-  along_suc : (ns : List ℕ) (m : ℕ) (c : Configuration) → moves_along t (suc m) c ns ≡ made_before 1 (moves_along t m c ns)
+  along_suc : (ns : List ℕ) (m : ℕ) (c : Configuration) → moves_along t (suc m) c ns
+      ≡ made_before 1 (moves_along t m c ns)
   along_suc [] m c = ap (λ k. walked_to 0 k c) (omega arith)
   along_suc (n ∷ ns) m c = number-case (moved t c n).refusal
       (λ e. along_done (suc m) c n ns e ∙ along_suc ns (suc m) (moved t c n).configuration
@@ -56,7 +57,8 @@ module _ (t : Tables) where
       (λ x e. along_refused (suc m) c n ns x e ∙ ap (λ k. walked_to (suc x) k c) (omega arith)
       ∙ ap (made_before 1) (sym (along_refused m c n ns x e)))
 
-  pub along_more : (m : ℕ) (c : Configuration) (ns : List ℕ) → moves_along t m c ns ≡ made_before m (moves_along t 0 c ns)
+  pub along_more : (m : ℕ) (c : Configuration) (ns : List ℕ) → moves_along t m c ns
+      ≡ made_before m (moves_along t 0 c ns)
   along_more zero c ns = ap (λ k. walked_to (moves_along t 0 c ns).refusal k (moves_along t 0 c ns).configuration)
       (omega arith)
   along_more (suc m) c ns = along_suc ns m c ∙ ap (made_before 1) (along_more m c ns)
@@ -89,7 +91,8 @@ module _ (t : Tables) (c : Configuration) (ns : List ℕ) where
   walk_long h = rw (lt-leb (length ns) 4096 h, walked)
 
 -- what an empty walk gives
-pub walk_empty : (t : Tables) (c : Configuration) → walked t c [] ≡ cond (keeps t c) (walked_to 0 0 c) (walked_to 20 0 c)
+pub walk_empty : (t : Tables) (c : Configuration) → walked t c []
+    ≡ cond (keeps t c) (walked_to 0 0 c) (walked_to 20 0 c)
 walk_empty t c = bool_case (keeps t c)
     (λ k. walk_kept t c [] (omega arith) k ∙ rw k)
     (λ k. walk_broken t c [] k ∙ rw k)

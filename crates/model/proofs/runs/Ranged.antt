@@ -244,11 +244,13 @@ module _ (t : Tables) (l : ℕ) (rs ns : List ℕ) where
   why_refused x p (no_start e h) = ranging_unasked (rw (e, le-ltb l t.loc_count h))
   why_refused x p (too_long e h m) = ranging_unasked (rw (e, lt-ltb l t.loc_count h, lt-leb (length ns) 4096 m))
   why_refused x p (not_linked a q lt bad below) =
-      let e = first_is_lem (linked_at t l ns) (linked_part t l ns) q (length ns) (linked_before t l ns) (linked_stops t l ns)
+      let e = first_is_lem (linked_at t l ns) (linked_part t l ns) q (length ns) (linked_before t l ns)
+      (linked_stops t l ns)
       lt bad below in
       ranging_unlinked a (omega arith) ∙ ap (refused_at 23) e
   why_refused x p (no_range a each q lt bad below) =
-      let e = first_is_lem (range_keeps rs) (first_wrong k rs) q k (wrong_before k rs) (wrong_there k rs) lt bad below in
+      let e = first_is_lem (range_keeps rs) (first_wrong k rs) q k (wrong_before k rs) (wrong_there k rs) lt bad
+      below in
       ranging_wrong a (all_lead each) (omega arith) ∙ ap (refused_at 22) e
     where
       all_lead : ((i : ℕ) → i < length ns → linked_at t l ns i ≡ true) → length ns ≤ linked_part t l ns

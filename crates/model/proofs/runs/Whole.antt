@@ -185,7 +185,8 @@ module _ (r : Routine) (t : Listing) (X : Exact r t) (G : GoodStarts r) (a b : �
           ))
 
   -- there are always such cells
-  supplied : (ns : List ℕ) (q : State) (c : Config) → Fits q c → (cs : List ℕ) × Supply sts q (trace (move_of T) c ns) cs
+  supplied : (ns : List ℕ) (q : State) (c : Config) → Fits q c → (cs : List ℕ)
+      × Supply sts q (trace (move_of T) c ns) cs
   supplied [] q c B = ([], record { enough = refl; are_unused = tt })
   supplied (n ∷ ns) q c B = by_move (move_of T c n) refl (λ q' c' B'. supplied ns q' c' B')
     where

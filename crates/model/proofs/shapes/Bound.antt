@@ -94,7 +94,12 @@ slot_one b (holds v) = cell_one b v
 
 pcounts : (b : ℕ) (vs : List Val) → tsum b (λ i. pcount i vs) ≤ length vs
 pcounts b [] = omega (arith, tsum_zero b)
-pcounts b (v ∷ vs) = omega (arith, tsum_add b (λ i. one_if (is_cell i v)) (λ i. pcount i vs), cell_one b v, pcounts b vs)
+pcounts b (v ∷ vs) = omega (
+  arith,
+  tsum_add b (λ i. one_if (is_cell i v)) (λ i. pcount i vs),
+  cell_one b v,
+  pcounts b vs,
+)
 
 hcounts : (b : ℕ) (ss : List Slot) → tsum b (λ i. holders i ss) ≤ length ss
 hcounts b [] = omega (arith, tsum_zero b)

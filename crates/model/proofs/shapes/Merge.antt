@@ -20,8 +20,10 @@ use Rattle.model.proofs.shapes.Segments.{counted_ones, counted_single, heads_sin
 
 -- each merge keeps the shape and the counters of the segments, and a heap stays a heap
 pub merge_keeps : {W U : Heap} {w u : ℕ → ℕ} → Merges W w U u → (shape U ≡ shape W) × (counted U u ≡ counted W w)
-merge_keeps (merge {W = W} {w = w} p d x u n e) =
-    (sym (fold_same (merge_heap p d W) (merge_segs p d) W (merge_expansion W p d x u n e)), after_counted W p d x u n e w)
+merge_keeps (merge {W = W} {w = w} p d x u n e) = (
+  sym (fold_same (merge_heap p d W) (merge_segs p d) W (merge_expansion W p d x u n e)),
+  after_counted W p d x u n e w,
+)
 
 pub merge_heap_lem : {W U : Heap} {w u : ℕ → ℕ} → Merges W w U u → IsHeap U
 merge_heap_lem (merge {W = W} p d x u n e) = after_heap W p d x u n e

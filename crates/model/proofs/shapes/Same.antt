@@ -145,7 +145,8 @@ pub distinct_at : {A : Type 0} (l : List A) (d : A) (i j : ℕ) → Distinct l �
     ≡ get_or l j d → i ≡ j
 distinct_at [] d i j k h h' e = absurd (omega arith)
 distinct_at (x ∷ l) d zero zero k h h' e = refl
-distinct_at (x ∷ l) d zero (suc j) k h h' e = absurd (k.0 (subst (λ z. In z l) (sym e) (get_or_in_lem l d j (omega arith))))
+distinct_at (x ∷ l) d zero (suc j) k h h' e =
+    absurd (k.0 (subst (λ z. In z l) (sym e) (get_or_in_lem l d j (omega arith))))
 distinct_at (x ∷ l) d (suc i) zero k h h' e = absurd (k.0 (subst (λ z. In z l) e (get_or_in_lem l d i (omega arith))))
 distinct_at (x ∷ l) d (suc i) (suc j) k h h' e = ap suc (distinct_at l d i j k.1 (omega arith) (omega arith) e)
 
@@ -178,7 +179,8 @@ prefix_trans l m n p q = (p.0 ++ q.0, q.1 ∙ ap (λ z. z ++ q.0) p.1 ∙ append
 pub prefix_length : {A : Type 0} (l m : List A) → Prefix l m → length l ≤ length m
 prefix_length l m p = rw (p.1, length-append l p.0) (omega arith)
 
-pub prefix_get_or_lem : {A : Type 0} (l m : List A) (d : A) (i : ℕ) → Prefix l m → i < length l → get_or m i d ≡ get_or l i d
+pub prefix_get_or_lem : {A : Type 0} (l m : List A) (d : A) (i : ℕ) → Prefix l m → i < length l → get_or m i d
+    ≡ get_or l i d
 prefix_get_or_lem l m d i p h = ap (λ z. get_or z i d) p.1 ∙ get_or-append l p.0 d i h
 
 pub prefix_place : {A : Type 0} (p : A → Bool) (l m : List A) → Prefix l m → place_of p l < length l → place_of p m

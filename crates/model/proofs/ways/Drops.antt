@@ -124,7 +124,8 @@ module _ (st : Stmt) (u : ℕ) (k : kind st.op ≡ drops u) where
 
     pub drop_edge : edges_at i st h ≡ going ∷ []
     drop_edge =
-        ap (λ (c : Kind). joined (map (λ y. edge_by i nodes y (step_by st nodes y)) (ways_of c (view (action_of c) h) h))) k
+        ap (λ (c : Kind). joined (map (λ y. edge_by i nodes y (step_by st nodes y))
+        (ways_of c (view (action_of c) h) h))) k
         ∙ ap (λ a. joined (edge_by i nodes (whole [] 0 h) a ∷ [])) (drop_goes (entry 0 nodes) h)
         ∙ ap (λ es. joined (es ∷ [])) (went_edge i nodes (whole [] 0 h) 0 st.first_target (collect cut))
 

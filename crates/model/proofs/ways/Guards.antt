@@ -108,8 +108,10 @@ module _ (s : ℕ) (st : Stmt) (h : Heap) (kp : kept h ≡ true) where
   ways_exclude (one_node n) a =
       ways_apart (ways_of (kind st.op) (one_node n) h) ((one_not_more n [] [], tt), (tt, tt))
   ways_exclude (two_nodes n m) a =
-      ways_apart (ways_of (kind st.op) (two_nodes n m) h)
-      ((second_apart n m, (one_not_more n (one_at m ∷ []) [], tt)), ((one_not_more n (more_at m ∷ []) [], tt), (tt, tt)))
+      ways_apart (ways_of (kind st.op) (two_nodes n m) h) (
+        (second_apart n m, (one_not_more n (one_at m ∷ []) [], tt)),
+        ((one_not_more n (more_at m ∷ []) [], tt), (tt, tt)),
+      )
     where
       second_apart : (n m : ℕ) → Apart (one_at n ∷ one_at m ∷ []) (one_at n ∷ more_at m ∷ [])
       second_apart n m cs p q =

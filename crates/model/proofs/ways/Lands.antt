@@ -65,7 +65,8 @@ module _ (s : ℕ) (st : Stmt) (H : Heap) (cl : ClosedHeap H) (kp : Kept H) wher
       ∙ kind-case (kind op_of_lem) (λ e. ap (λ z. branch op_of_lem z (shape H)) (h e))
       (λ n. branch_pick (kind op_of_lem) p q (shape H) n)
 
-  node_branch : (n : ℕ) → Views (view does (shape H)) n → (p q : ℕ) (g : Heap) → branch op_of_lem p H ≡ branch op_of_lem q g
+  node_branch : (n : ℕ) → Views (view does (shape H)) n → (p q : ℕ) (g : Heap) → branch op_of_lem p H
+      ≡ branch op_of_lem q g
   node_branch n a p q g =
       let f = view_acts (kind op_of_lem) (shape H) n a in
       ap (λ k. branch_by k p H) f.1 ∙ sym (ap (λ k. branch_by k q g) f.1)
@@ -155,7 +156,8 @@ module _ (s : ℕ) (st : Stmt) (H : Heap) (cl : ClosedHeap H) (kp : Kept H) wher
       }
 
   pub way_lands : (v : View) → view does (shape H) ≡ v → (y : Way) → In y (ways_of (kind op_of_lem) v (shape H))
-      → guards_on y.guards (counters H) ≡ true → (e : Entry) → is_stop (kind op_of_lem) ≡ false → accepts op_of_lem e H ≡ true
+      → guards_on y.guards (counters H) ≡ true → (e : Entry) → is_stop (kind op_of_lem) ≡ false
+      → accepts op_of_lem e H ≡ true
       → (kind op_of_lem ≡ picks → e.pick ≡ y.pick) → Lands s st H cl kp y e
   way_lands no_node v y i on e g ac pk = plain_lands v y i e g ac pk
   way_lands (one_node n) v y (inl q) on e g ac pk =

@@ -59,7 +59,8 @@ flags_or f g j (c ∷ cs) h =
     (λ p. bool_case (g j) (λ q. rw (p, q) (omega arith)) (λ q. rw (p, q) (omega arith)))
 
 -- the cell of a list that a counter belongs to
-any_owner : (w : ℕ → Weight) (i : ℕ) (l : List ℕ) → any (λ c. adds_counter i (w c)) l ≡ true → (d : ℕ) × (mem d l ≡ true)
+any_owner : (w : ℕ → Weight) (i : ℕ) (l : List ℕ) → any (λ c. adds_counter i (w c)) l ≡ true → (d : ℕ)
+    × (mem d l ≡ true)
     × (adds_counter i (w d) ≡ true)
 any_owner w i l h = let r = any_find (λ c. adds_counter i (w c)) l h in (r.0, in_mem r.0 l r.1, r.2)
 
@@ -67,7 +68,8 @@ any_owner w i l h = let r = any_find (λ c. adds_counter i (w c)) l h in (r.0, i
 pub update_adds : (k : ℕ) (w : ℕ → Weight) (s : Seg) (i : ℕ) → get_or (update_of k w s).adds i false ≡ true
     → (c : ℕ) × (mem c (cells s) ≡ true) × (adds_counter i (w c) ≡ true)
 update_adds k w s i h =
-    any_owner w i (cells s) (subst (λ j. any (λ c. adds_counter j (w c)) (cells s) ≡ true) (zero-add i) (flag_at (λ j. any (λ c. adds_counter j (w c)) (cells s)) 0 k i h))
+    any_owner w i (cells s) (subst (λ j. any (λ c. adds_counter j (w c)) (cells s) ≡ true) (zero-add i)
+    (flag_at (λ j. any (λ c. adds_counter j (w c)) (cells s)) 0 k i h))
 
 pub adds_update : (k : ℕ) (w : ℕ → Weight) (s : Seg) (i c : ℕ) → i < k → mem c (cells s) ≡ true
     → adds_counter i (w c) ≡ true → get_or (update_of k w s).adds i false ≡ true

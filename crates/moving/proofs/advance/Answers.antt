@@ -65,7 +65,8 @@ told : (c : After-replace_counters) → let d = c in
 told c =
     let d = c in
     let a = d.args in
-    ap (λ n. in_counters (map (applied a.counters.now) (updates_of n a.rec.now))) (sym (d.nodes_at-nodes.ensures ∙ ap (λ i. byte (record_at a.locations.now i) 3) d.two-to.ensures))
+    ap (λ n. in_counters (map (applied a.counters.now) (updates_of n a.rec.now)))
+    (sym (d.nodes_at-nodes.ensures ∙ ap (λ i. byte (record_at a.locations.now i) 3) d.two-to.ensures))
     ∙ sym c.replace_counters.ensures.told
 
 pub returns-then-not-replace_counters : goal.returns-then-not-replace_counters
@@ -88,4 +89,5 @@ returns c =
     (standing a.location a.counters.now) d.two-to.result p.replace_counters.new.counters
     d.two-to.ensures (told (goal.at.returns c).After-replace_counters ∙ b)
     (p.replace_counters.ensures.put b
-    ∙ ap (λ n. filled 12 (map (applied a.counters.now) (updates_of n a.rec.now))) (nodes_are (goal.at.returns c).After-nodes_at-nodes))
+    ∙ ap (λ n. filled 12 (map (applied a.counters.now) (updates_of n a.rec.now)))
+    (nodes_are (goal.at.returns c).After-nodes_at-nodes))

@@ -26,7 +26,8 @@ returns-then-not-put_counter c =
     let l = p in
     let a = l.args in (
       put_over a.rec.now a.counters.now a.nodes a.next.now l.loop-j.next l.loop-j.j l.loop-j.invariant.1
-          p.loop-j-test.true (sym (told (goal.at.returns-then-not-put_counter c).After-put_counter) ∙ c.if-not-put_counter.true),
+          p.loop-j-test.true (sym (told (goal.at.returns-then-not-put_counter c).After-put_counter)
+          ∙ c.if-not-put_counter.true),
       λ e. clash e refl,
     )
 

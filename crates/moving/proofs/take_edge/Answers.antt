@@ -19,14 +19,16 @@ use Rattle.moving.proofs.take_edge.Goals.{After-leads, Else-counts-number}
 pub returns-then-counts-number : goal.returns-then-counts-number
 returns-then-counts-number c =
     let s = c in
-    past_last (tables_in c.args.locations.now c.args.edges.now c.args.counts) (standing c.args.location c.args.counters.now) s.args.number s.requires.0 c.if-counts-number.true
+    past_last (tables_in c.args.locations.now c.args.edges.now c.args.counts)
+    (standing c.args.location c.args.counters.now) s.args.number s.requires.0 c.if-counts-number.true
 
 -- the edge's record is within its table
 inside : (c : Else-counts-number) → let a = c.args in
     32 * a.number + 32 ≤ length a.edges.now
 inside c =
     let s = c in
-    in_table (tables_in c.args.locations.now c.args.edges.now c.args.counts) (standing c.args.location c.args.counters.now) s.args.number s.requires.0 c.if-counts-number.false
+    in_table (tables_in c.args.locations.now c.args.edges.now c.args.counts)
+    (standing c.args.location c.args.counters.now) s.args.number s.requires.0 c.if-counts-number.false
 
 pub leads-requires : goal.leads-requires
 leads-requires c =
@@ -35,12 +37,14 @@ leads-requires c =
       search rules,
       s.requires.1,
       subst (λ l. (g : GuardCode) → In g (guards_of l) → g.node < 12) (sym (record_part_lem s.args.edges.now
-          s.args.number)) (guard_nodes_lem (tables_in c.args.locations.now c.args.edges.now c.args.counts) (standing c.args.location c.args.counters.now) s.args.number s.requires.0 e.if-counts-number.false),
+          s.args.number)) (guard_nodes_lem (tables_in c.args.locations.now c.args.edges.now c.args.counts)
+          (standing c.args.location c.args.counters.now) s.args.number s.requires.0 e.if-counts-number.false),
     )
 
 -- what is told of the edge's record
 told : (c : After-leads) → let s = c in
-    c.leads.result ≡ Leads (tables_in c.args.locations.now c.args.edges.now c.args.counts) (standing c.args.location c.args.counters.now) s.args.number s.requires.0
+    c.leads.result ≡ Leads (tables_in c.args.locations.now c.args.edges.now c.args.counts)
+    (standing c.args.location c.args.counters.now) s.args.number s.requires.0
 told c =
     let s = c in
     c.leads.ensures
@@ -52,7 +56,9 @@ returns-then-not-leads c =
     let d = c in
     let e = d in
     let s = e in
-    stuck (tables_in c.args.locations.now c.args.edges.now c.args.counts) (standing c.args.location c.args.counters.now) s.args.number s.requires.0 e.if-counts-number.false (sym (told (goal.at.returns-then-not-leads c).After-leads) ∙ c.if-not-leads.true)
+    stuck (tables_in c.args.locations.now c.args.edges.now c.args.counts)
+    (standing c.args.location c.args.counters.now) s.args.number s.requires.0 e.if-counts-number.false
+    (sym (told (goal.at.returns-then-not-leads c).After-leads) ∙ c.if-not-leads.true)
 
 pub advance-requires : goal.advance-requires
 advance-requires c =
@@ -60,7 +66,8 @@ advance-requires c =
     let s = e in
     subst (λ l. Ready l s.args.locations.now s.args.location s.args.counters.now)
     (sym (record_part_lem s.args.edges.now s.args.number))
-    (ready (tables_in c.args.locations.now c.args.edges.now c.args.counts) (standing c.args.location c.args.counters.now) s.args.number s.requires.0 e.if-counts-number.false s.requires.1)
+    (ready (tables_in c.args.locations.now c.args.edges.now c.args.counts)
+    (standing c.args.location c.args.counters.now) s.args.number s.requires.0 e.if-counts-number.false s.requires.1)
 
 pub returns : goal.returns
 returns c =
@@ -69,9 +76,11 @@ returns c =
     let e = f in
     let s = e in
     v.advance.ensures
-    ∙ ap (λ l. advanced l (byte (record_at s.args.locations.now (word l 4)) 3) (standing c.args.location c.args.counters.now))
+    ∙ ap (λ l. advanced l (byte (record_at s.args.locations.now (word l 4)) 3)
+    (standing c.args.location c.args.counters.now))
     (record_part_lem s.args.edges.now s.args.number)
-    ∙ goes (tables_in c.args.locations.now c.args.edges.now c.args.counts) (standing c.args.location c.args.counters.now) s.args.number s.requires.0 e.if-counts-number.false
+    ∙ goes (tables_in c.args.locations.now c.args.edges.now c.args.counts)
+    (standing c.args.location c.args.counters.now) s.args.number s.requires.0 e.if-counts-number.false
     (sym (told (goal.at.returns c).After-leads) ∙ f.if-not-leads.false)
 
 pub overflow_mul-at : goal.overflow_mul-at

@@ -16,7 +16,10 @@ slice_bounds-result-end c =
 pub returns-then-mark-eq0 : goal.returns-then-mark-eq0
 returns-then-mark-eq0 c =
     let a = c.args in
-    let e = c.if-mark-eq0.true in record { part = ap (λ l. take (a.end - a.begin) (drop a.begin l)) (meant_locations a.locations.now a.edges.now e); stands = ap (λ p. onward p a.begin) (meant_locations a.locations.ref_ptr a.edges.ref_ptr e) }
+    let e = c.if-mark-eq0.true in record {
+      part = ap (λ l. take (a.end - a.begin) (drop a.begin l)) (meant_locations a.locations.now a.edges.now e);
+      stands = ap (λ p. onward p a.begin) (meant_locations a.locations.ref_ptr a.edges.ref_ptr e);
+    }
 
 pub slice_bounds-result-end-2 : goal.slice_bounds-result-end-2
 slice_bounds-result-end-2 c =

@@ -43,6 +43,7 @@ pub returns : goal.returns
 returns c =
     let a = c.args in
     let h = handed (tables_in a.locations.now a.edges.now a.counts) a.mark a.number
-    (meant a.mark a.locations.ref_ptr a.edges.ref_ptr) (there (goal.at.returns c).Else-not-answerable) c.part_of-2.ensures.part
+    (meant a.mark a.locations.ref_ptr a.edges.ref_ptr) (there (goal.at.returns c).Else-not-answerable)
+    c.part_of-2.ensures.part
     c.part_of-2.ensures.stands in
     record { part = h.0; stands = h.1.0; told = h.1.1 }

@@ -21,13 +21,15 @@ entry_ok-requires c = (decoded_fields (checked (goal.at.entry_ok-requires c).Aft
 pub returns-then-not-entry_ok : goal.returns-then-not-entry_ok
 returns-then-not-entry_ok c =
     let e = c in
-    step_refused (checked (goal.at.returns-then-not-entry_ok c).After-decode-d) e.entry_ok.ensures c.if-not-entry_ok.true
+    step_refused (checked (goal.at.returns-then-not-entry_ok c).After-decode-d) e.entry_ok.ensures
+    c.if-not-entry_ok.true
 
 pub returns-then-d-eq0 : goal.returns-then-d-eq0
 returns-then-d-eq0 c =
     let t = c in
     let e = t in
-    step_stopped (checked (goal.at.returns-then-d-eq0 c).After-decode-d) e.entry_ok.ensures t.if-not-entry_ok.false c.if-d-eq0.true
+    step_stopped (checked (goal.at.returns-then-d-eq0 c).After-decode-d) e.entry_ok.ensures t.if-not-entry_ok.false
+    c.if-d-eq0.true
 
 pub branch_of-branch-requires : goal.branch_of-branch-requires
 branch_of-branch-requires c =
@@ -41,7 +43,8 @@ pub run_statement-failed-requires : goal.run_statement-failed-requires
 run_statement-failed-requires c =
     let t = c in
     let e = t in
-    step_ready (checked (goal.at.run_statement-failed-requires c).After-decode-d) e.entry_ok.ensures t.if-not-entry_ok.false
+    step_ready (checked (goal.at.run_statement-failed-requires c).After-decode-d) e.entry_ok.ensures
+    t.if-not-entry_ok.false
 
 pub returns-then-failed-ne0 : goal.returns-then-failed-ne0
 returns-then-failed-ne0 c =
@@ -49,7 +52,8 @@ returns-then-failed-ne0 c =
     let n = r in
     let t = n in
     let e = t in
-    step_faulted (checked (goal.at.returns-then-failed-ne0 c).After-decode-d) e.entry_ok.ensures t.if-not-entry_ok.false n.if-d-eq0.false
+    step_faulted (checked (goal.at.returns-then-failed-ne0 c).After-decode-d) e.entry_ok.ensures
+    t.if-not-entry_ok.false n.if-d-eq0.false
     r.run_statement-failed.ensures c.if-failed-ne0.true
 
 pub returns : goal.returns

@@ -26,7 +26,9 @@ returns-then-not-range_keeps c =
     let l = c in
     let a = l.args in
     let h : l.loop-i.i < a.k = search rules in
-    found_here (wrong a.ranges.now) l.loop-i.invariant.1 h (sym (ap not (told (goal.at.returns-then-not-range_keeps c).After-range_keeps)) ∙ ap not c.if-not-range_keeps.true)
+    found_here (wrong a.ranges.now) l.loop-i.invariant.1 h
+    (sym (ap not (told (goal.at.returns-then-not-range_keeps c).After-range_keeps))
+    ∙ ap not c.if-not-range_keeps.true)
 
 pub loop-i-preserved : goal.loop-i-preserved
 loop-i-preserved c =
@@ -34,7 +36,8 @@ loop-i-preserved c =
     let a = l.args in
     let h : l.loop-i.i < a.k = search rules in (
       omega arith,
-      found_later (wrong a.ranges.now) l.loop-i.invariant.1 h (sym (ap not (told (goal.at.loop-i-preserved c).After-range_keeps)) ∙ ap not c.if-not-range_keeps.false),
+      found_later (wrong a.ranges.now) l.loop-i.invariant.1 h
+          (sym (ap not (told (goal.at.loop-i-preserved c).After-range_keeps)) ∙ ap not c.if-not-range_keeps.false),
     )
 
 pub returns : goal.returns

@@ -31,7 +31,8 @@ overflow_cast-n c = omega (arith, c.type_inv.path c.loop-i.i)
 told : (c : After-is_linked) (ls : List ℕ) (m : ℕ)
     → let l = c in
     let s = l in
-    c.is_linked.result ≡ linked (tables s.args.edges.now s.args.count ls m) l.loop-i.location (get_or s.args.path.now l.loop-i.i 0)
+    c.is_linked.result ≡ linked (tables s.args.edges.now s.args.count ls m) l.loop-i.location
+    (get_or s.args.path.now l.loop-i.i 0)
 told c ls m = c.is_linked.ensures
 
 pub returns-then-not-is_linked : goal.returns-then-not-is_linked
@@ -57,7 +58,8 @@ loop-i-preserved c = λ ls m.
     let d = c in
     let l = d in
     let s = l in
-    subst (Led (tables c.args.edges.now c.args.count ls m) s.args.start s.args.path.now (l.loop-i.i + 1)) (sym c.led_to-location.ensures)
+    subst (Led (tables c.args.edges.now c.args.count ls m) s.args.start s.args.path.now (l.loop-i.i + 1))
+    (sym c.led_to-location.ensures)
     (leads_on (l.loop-i.invariant ls m) d.loop-i-test.true
     (sym (told (goal.at.loop-i-preserved c).After-is_linked ls m) ∙ d.if-not-is_linked.false))
 

@@ -17,8 +17,10 @@ use Rattle.range_edge.proofs.follow_one.Goals.{After-nodes_at-nodes}
 pub cut-requires : goal.cut-requires
 cut-requires c =
     let first = (code_in c.guards_of-guards.result.first) in
-    let n = c.requires.guard_nodes first (subst (In first) c.guards_of-guards.ensures (inl refl)) in
-    (subst (λ k. first.node < k) (sym c.requires.twelve_lows) n, subst (λ k. first.node < k) (sym c.requires.twelve_highs) n)
+    let n = c.requires.guard_nodes first (subst (In first) c.guards_of-guards.ensures (inl refl)) in (
+      subst (λ k. first.node < k) (sym c.requires.twelve_lows) n,
+      subst (λ k. first.node < k) (sym c.requires.twelve_highs) n,
+    )
 
 pub cut-requires-2 : goal.cut-requires-2
 cut-requires-2 c =
@@ -37,7 +39,8 @@ nodes_are c =
     c.nodes_at-nodes.ensures ∙ ap (λ i. byte (record_at a.locations.now i) 3) c.two-to.ensures
 
 twelve_twice : (c : After-nodes_at-nodes) → Twelve (box_of c.cut-2.new.lows c.cut-2.new.highs)
-twelve_twice c = cut_twelve (code_in c.guards_of-guards.result.second) c.cut-2.ensures.1 (cut_twelve (code_in c.guards_of-guards.result.first) c.cut.ensures.1
+twelve_twice c = cut_twelve (code_in c.guards_of-guards.result.second) c.cut-2.ensures.1
+    (cut_twelve (code_in c.guards_of-guards.result.first) c.cut.ensures.1
     (record { of_lows = c.requires.twelve_lows; of_highs = c.requires.twelve_highs }))
 
 pub replace_counters-requires : goal.replace_counters-requires
@@ -54,20 +57,25 @@ replace_counters-requires-2 c =
 
 pub returns-then-not-cut : goal.returns-then-not-cut
 returns-then-not-cut c =
-    rw (at_first (code_in c.guards_of-guards.result.first) (code_in c.guards_of-guards.result.second) c.guards_of-guards.ensures (box_of c.args.lows.now c.args.highs.now) (sym c.cut.ensures.0 ∙ c.if-not-cut.true)) refl
+    rw (at_first (code_in c.guards_of-guards.result.first) (code_in c.guards_of-guards.result.second)
+    c.guards_of-guards.ensures (box_of c.args.lows.now c.args.highs.now)
+    (sym c.cut.ensures.0 ∙ c.if-not-cut.true)) refl
 
 pub returns-then-not-cut-2 : goal.returns-then-not-cut-2
 returns-then-not-cut-2 c =
-    rw (at_second (code_in c.guards_of-guards.result.first) (code_in c.guards_of-guards.result.second) c.guards_of-guards.ensures (box_of c.args.lows.now c.args.highs.now) c.cut.ensures.1
+    rw (at_second (code_in c.guards_of-guards.result.first) (code_in c.guards_of-guards.result.second)
+    c.guards_of-guards.ensures (box_of c.args.lows.now c.args.highs.now) c.cut.ensures.1
     (sym c.cut.ensures.0 ∙ c.if-not-cut.false) (sym c.cut-2.ensures.0 ∙ c.if-not-cut-2.true)) refl
 
 pub returns : goal.returns
 returns c =
     let a = c.args in
-    let p = at_second (code_in c.guards_of-guards.result.first) (code_in c.guards_of-guards.result.second) c.guards_of-guards.ensures (box_of c.args.lows.now c.args.highs.now) c.cut.ensures.1
+    let p = at_second (code_in c.guards_of-guards.result.first) (code_in c.guards_of-guards.result.second)
+    c.guards_of-guards.ensures (box_of c.args.lows.now c.args.highs.now) c.cut.ensures.1
     (sym c.cut.ensures.0 ∙ c.if-not-cut.false) (sym c.cut-2.ensures.0 ∙ c.if-not-cut-2.false) in
     rw p (
       refl,
-      box_moved a.rec.now (nodes_are (goal.at.returns c).After-nodes_at-nodes) c.cut-2.ensures.1 c.replace_counters.ensures
+      box_moved a.rec.now (nodes_are (goal.at.returns c).After-nodes_at-nodes) c.cut-2.ensures.1
+          c.replace_counters.ensures
           c.replace_counters-2.ensures,
     )

@@ -23,18 +23,19 @@ use Rattle.ranging.proofs.follow.Goals.{After-follow_one, At-loop-i}
 
 -- ---- before the loop: the tables keep the layout, the start is in them, and the path is not too long
 
-module _ (t : Tables) (start : ℕ) (rs ns : List ℕ) {lows highs : List ℕ} (R : FollowReady t start rs ns lows highs) where
-  layout : keeps_layout t ≡ true
-  layout = asked_layout t start rs ns R.asked
+module _ (t : Tables) (start : ℕ) (rs ns : List ℕ) {lows highs : List ℕ} (R : FollowReady t start rs ns lows highs)
+  where
+    layout : keeps_layout t ≡ true
+    layout = asked_layout t start rs ns R.asked
 
-  location : start < t.loc_count
-  location = asked_start t start rs ns R.asked
+    location : start < t.loc_count
+    location = asked_start t start rs ns R.asked
 
-  short : length ns ≤ 4096
-  short = asked_length t start rs ns R.asked
+    short : length ns ≤ 4096
+    short = asked_length t start rs ns R.asked
 
-  nodes_few : nodes_at t start ≤ 12
-  nodes_few = layout_nodes t layout start location
+    nodes_few : nodes_at t start ≤ 12
+    nodes_few = layout_nodes t layout start location
 
 pub nodes_at-k-requires : goal.nodes_at-k-requires
 nodes_at-k-requires c =
@@ -49,13 +50,15 @@ nodes_at-k-requires c =
 pub read_ends-requires : goal.read_ends-requires
 read_ends-requires c =
     let a = c.args in
-    let few = nodes_few (tables_in c.args.locations.now c.args.edges.now c.args.counts) a.start a.ranges.now a.path.now c.requires in
+    let few = nodes_few (tables_in c.args.locations.now c.args.edges.now c.args.counts) a.start a.ranges.now
+    a.path.now c.requires in
     (omega (arith, c.nodes_at-k.ensures, few), omega arith, ap length c.requires.no_lows)
 
 pub read_ends-requires-2 : goal.read_ends-requires-2
 read_ends-requires-2 c =
     let a = c.args in
-    let few = nodes_few (tables_in c.args.locations.now c.args.edges.now c.args.counts) a.start a.ranges.now a.path.now c.requires in
+    let few = nodes_few (tables_in c.args.locations.now c.args.edges.now c.args.counts) a.start a.ranges.now
+    a.path.now c.requires in
     (omega (arith, c.nodes_at-k.ensures, few), omega arith, ap length c.requires.no_highs)
 
 pub loop-i-init : goal.loop-i-init
@@ -76,7 +79,9 @@ loop-i-init c =
 -- ---- an edge
 
 -- how the path stands, whose counts the invariant does not name
-going : (c : At-loop-i) → Going (tables_in c.args.locations.now c.args.edges.now c.args.counts) c.args.start (start_box (nodes_at (tables_in c.args.locations.now c.args.edges.now c.args.counts) c.args.start) c.args.ranges.now) c.args.path.now c.loop-i.i c.loop-i.lows c.loop-i.highs
+going : (c : At-loop-i) → Going (tables_in c.args.locations.now c.args.edges.now c.args.counts) c.args.start
+    (start_box (nodes_at (tables_in c.args.locations.now c.args.edges.now c.args.counts) c.args.start)
+    c.args.ranges.now) c.args.path.now c.loop-i.i c.loop-i.lows c.loop-i.highs
 going c =
     c.loop-i.invariant.2 c.args.counts (record {
       asked = c.requires.asked;
@@ -100,7 +105,9 @@ pub slice_bounds-follow_one-end : goal.slice_bounds-follow_one-end
 slice_bounds-follow_one-end c =
     let a = c.args in
     let t = (tables_in c.args.locations.now c.args.edges.now c.args.counts) in
-    in_bytes t (layout t a.start a.ranges.now a.path.now c.requires) a.start (start_box (nodes_at (tables_in c.args.locations.now c.args.edges.now c.args.counts) c.args.start) c.args.ranges.now) a.path.now c.loop-i.i c.loop-i.lows
+    in_bytes t (layout t a.start a.ranges.now a.path.now c.requires) a.start
+    (start_box (nodes_at (tables_in c.args.locations.now c.args.edges.now c.args.counts) c.args.start)
+    c.args.ranges.now) a.path.now c.loop-i.i c.loop-i.lows
     c.loop-i.highs (going (goal.at.slice_bounds-follow_one-end c).At-loop-i) c.loop-i-test.true
 
 pub follow_one-requires : goal.follow_one-requires
@@ -109,7 +116,9 @@ follow_one-requires c =
     let t = (tables_in c.args.locations.now c.args.edges.now c.args.counts) in
     subst (λ r. EdgeReady r a.locations.now c.loop-i.lows c.loop-i.highs)
     (sym (record_part_lem a.edges.now (get_or a.path.now c.loop-i.i 0)))
-    (ready t (layout t a.start a.ranges.now a.path.now c.requires) a.start (start_box (nodes_at (tables_in c.args.locations.now c.args.edges.now c.args.counts) c.args.start) c.args.ranges.now) a.path.now c.loop-i.i c.loop-i.lows
+    (ready t (layout t a.start a.ranges.now a.path.now c.requires) a.start
+    (start_box (nodes_at (tables_in c.args.locations.now c.args.edges.now c.args.counts) c.args.start)
+    c.args.ranges.now) a.path.now c.loop-i.i c.loop-i.lows
     c.loop-i.highs (going (goal.at.follow_one-requires c).At-loop-i) c.loop-i-test.true)
 
 -- what is told of edge i
@@ -125,8 +134,12 @@ returns-then-not-follow_one c =
     let a = c.args in
     let t = (tables_in c.args.locations.now c.args.edges.now c.args.counts) in
     let l = c.loop-i in
-    is_stopped t a.start (start_box (nodes_at (tables_in c.args.locations.now c.args.edges.now c.args.counts) c.args.start) c.args.ranges.now) a.path.now l.i c.follow_one.new.lows c.follow_one.new.highs c.loop-i-test.true
-    (stops t (layout t a.start a.ranges.now a.path.now c.requires) a.start (start_box (nodes_at (tables_in c.args.locations.now c.args.edges.now c.args.counts) c.args.start) c.args.ranges.now) a.path.now l.i l.lows
+    is_stopped t a.start (start_box
+    (nodes_at (tables_in c.args.locations.now c.args.edges.now c.args.counts) c.args.start) c.args.ranges.now)
+    a.path.now l.i c.follow_one.new.lows c.follow_one.new.highs c.loop-i-test.true
+    (stops t (layout t a.start a.ranges.now a.path.now c.requires) a.start
+    (start_box (nodes_at (tables_in c.args.locations.now c.args.edges.now c.args.counts) c.args.start)
+    c.args.ranges.now) a.path.now l.i l.lows
     l.highs (going (goal.at.returns-then-not-follow_one c).At-loop-i) c.loop-i-test.true c.follow_one.result
     c.follow_one.new.lows c.follow_one.new.highs (told (goal.at.returns-then-not-follow_one c).After-follow_one)
     c.if-not-follow_one.true)
@@ -134,7 +147,12 @@ returns-then-not-follow_one c =
 pub overflow_add-i : goal.overflow_add-i
 overflow_add-i c =
     let a = c.args in
-    omega (arith, c.loop-i-test.true, short (tables_in c.args.locations.now c.args.edges.now c.args.counts) a.start a.ranges.now a.path.now c.requires)
+    omega (
+      arith,
+      c.loop-i-test.true,
+      short (tables_in c.args.locations.now c.args.edges.now c.args.counts) a.start a.ranges.now a.path.now
+          c.requires,
+    )
 
 pub loop-i-preserved : goal.loop-i-preserved
 loop-i-preserved c =
@@ -145,14 +163,19 @@ loop-i-preserved c =
       omega (arith, f.auto.highs, l.invariant.1),
       λ m R.
           let t = tables_in a.locations.now a.edges.now m in
-          goes_on t (asked_layout t a.start a.ranges.now a.path.now R.asked) a.start (start_box (nodes_at (tables_in c.args.locations.now c.args.edges.now c.args.counts) c.args.start) c.args.ranges.now)
+          goes_on t (asked_layout t a.start a.ranges.now a.path.now R.asked) a.start
+          (start_box (nodes_at (tables_in c.args.locations.now c.args.edges.now c.args.counts) c.args.start)
+          c.args.ranges.now)
           a.path.now l.i l.lows l.highs (l.invariant.2 m R)
           c.loop-i-test.true f.result f.new.lows f.new.highs (told (goal.at.loop-i-preserved c).After-follow_one)
-          (short (tables_in c.args.locations.now c.args.edges.now c.args.counts) a.start a.ranges.now a.path.now c.requires) c.if-not-follow_one.false,
+          (short (tables_in c.args.locations.now c.args.edges.now c.args.counts) a.start a.ranges.now a.path.now
+          c.requires) c.if-not-follow_one.false,
     )
 
 pub returns : goal.returns
 returns c =
     let a = c.args in
-    is_followed (tables_in c.args.locations.now c.args.edges.now c.args.counts) a.start (start_box (nodes_at (tables_in c.args.locations.now c.args.edges.now c.args.counts) c.args.start) c.args.ranges.now) a.path.now c.loop-i.i c.loop-i.lows c.loop-i.highs
+    is_followed (tables_in c.args.locations.now c.args.edges.now c.args.counts) a.start
+    (start_box (nodes_at (tables_in c.args.locations.now c.args.edges.now c.args.counts) c.args.start)
+    c.args.ranges.now) a.path.now c.loop-i.i c.loop-i.lows c.loop-i.highs
     (going (goal.at.returns c).At-loop-i) c.loop-i-test.false

@@ -22,10 +22,14 @@ pub returns-then-not-is_askable : goal.returns-then-not-is_askable
 returns-then-not-is_askable c =
     let a = c.args in
     c.ended.ensures.0
-    ∙ sym (ap ranged_to (ranging_unasked (tables_in c.args.locations.now c.args.edges.now (record { locations = c.args.location_count; edges = c.args.edge_count })) a.start a.ranges.now a.path.now
+    ∙ sym (ap ranged_to (ranging_unasked
+    (tables_in c.args.locations.now c.args.edges.now
+    (record { locations = c.args.location_count; edges = c.args.edge_count })) a.start a.ranges.now a.path.now
     (sym (c.is_askable.ensures a.path.now refl) ∙ c.if-not-is_askable.true)))
 
-yes : (c : Else-not-is_askable) → askable (tables_in c.args.locations.now c.args.edges.now (record { locations = c.args.location_count; edges = c.args.edge_count })) c.args.start c.args.path.now ≡ true
+yes : (c : Else-not-is_askable)
+    → askable (tables_in c.args.locations.now c.args.edges.now
+    (record { locations = c.args.location_count; edges = c.args.edge_count })) c.args.start c.args.path.now ≡ true
 yes c = sym (c.is_askable.ensures c.args.path.now refl) ∙ c.if-not-is_askable.false
 
 layout : (t : Tables) (start : ℕ) (rs ns : List ℕ) → askable t start ns ≡ true
@@ -35,13 +39,17 @@ layout t start rs ns q = (asked_layout t start rs ns q, asked_start t start rs n
 pub go_along-led-requires : goal.go_along-led-requires
 go_along-led-requires c =
     let a = c.args in
-    let t = (tables_in c.args.locations.now c.args.edges.now (record { locations = c.args.location_count; edges = c.args.edge_count })) in
-    (layout_room t (layout t a.start a.ranges.now a.path.now (yes (goal.at.go_along-led-requires c).Else-not-is_askable)).0).1
+    let t = (tables_in c.args.locations.now c.args.edges.now
+    (record { locations = c.args.location_count; edges = c.args.edge_count })) in
+    (layout_room t (layout t a.start a.ranges.now a.path.now
+    (yes (goal.at.go_along-led-requires c).Else-not-is_askable)).0).1
 
 -- ---- how far the edges lead on
 
 linked_is : (c : After-go_along-led)
-    → c.go_along-led.result.linked ≡ linked_part (tables_in c.args.locations.now c.args.edges.now (record { locations = c.args.location_count; edges = c.args.edge_count })) c.args.start c.args.path.now
+    → c.go_along-led.result.linked
+    ≡ linked_part (tables_in c.args.locations.now c.args.edges.now
+    (record { locations = c.args.location_count; edges = c.args.edge_count })) c.args.start c.args.path.now
 linked_is c = (c.go_along-led.ensures c.args.locations.now c.args.location_count).0
 
 pub returns-then-led-path : goal.returns-then-led-path
@@ -49,17 +57,23 @@ returns-then-led-path c =
     let a = c.args in
     let g = linked_is (goal.at.returns-then-led-path c).After-go_along-led in
     c.ended-then-led-path.ensures.0 ∙ ap (λ p. ranged_to (refused_at 23 p)) g
-    ∙ sym (ap ranged_to (ranging_unlinked (tables_in c.args.locations.now c.args.edges.now (record { locations = c.args.location_count; edges = c.args.edge_count })) a.start a.ranges.now a.path.now
+    ∙ sym (ap ranged_to (ranging_unlinked
+    (tables_in c.args.locations.now c.args.edges.now
+    (record { locations = c.args.location_count; edges = c.args.edge_count })) a.start a.ranges.now a.path.now
     (yes (goal.at.returns-then-led-path c).Else-not-is_askable) (omega (arith, g, c.if-led-path.true))))
 
-all_linked : (c : Else-led-path) → length c.args.path.now ≤ linked_part (tables_in c.args.locations.now c.args.edges.now (record { locations = c.args.location_count; edges = c.args.edge_count })) c.args.start c.args.path.now
+all_linked : (c : Else-led-path)
+    → length c.args.path.now ≤ linked_part
+    (tables_in c.args.locations.now c.args.edges.now
+    (record { locations = c.args.location_count; edges = c.args.edge_count })) c.args.start c.args.path.now
 all_linked c =
     omega (arith, (c.go_along-led.ensures c.args.locations.now c.args.location_count).0, c.if-led-path.false)
 
 pub nodes_at-k-requires : goal.nodes_at-k-requires
 nodes_at-k-requires c =
     let a = c.args in
-    let t = (tables_in c.args.locations.now c.args.edges.now (record { locations = c.args.location_count; edges = c.args.edge_count })) in
+    let t = (tables_in c.args.locations.now c.args.edges.now
+    (record { locations = c.args.location_count; edges = c.args.edge_count })) in
     let L = layout t a.start a.ranges.now a.path.now (yes (goal.at.nodes_at-k-requires c).Else-not-is_askable) in
     omega (arith, layout_room t L.0, L.1)
 
@@ -68,12 +82,15 @@ nodes_at-k-requires c =
 pub first_wrong-wrong-requires : goal.first_wrong-wrong-requires
 first_wrong-wrong-requires c =
     let a = c.args in
-    let t = (tables_in c.args.locations.now c.args.edges.now (record { locations = c.args.location_count; edges = c.args.edge_count })) in
+    let t = (tables_in c.args.locations.now c.args.edges.now
+    (record { locations = c.args.location_count; edges = c.args.edge_count })) in
     let L = layout t a.start a.ranges.now a.path.now (yes (goal.at.first_wrong-wrong-requires c).Else-not-is_askable) in
     omega (arith, c.nodes_at-k.ensures, layout_nodes t L.0 a.start L.1)
 
 wrong_is : (c : After-first_wrong-wrong)
-    → c.first_wrong-wrong.result ≡ first_wrong (nodes_at (tables_in c.args.locations.now c.args.edges.now (record { locations = c.args.location_count; edges = c.args.edge_count })) c.args.start) c.args.ranges.now
+    → c.first_wrong-wrong.result ≡ first_wrong
+    (nodes_at (tables_in c.args.locations.now c.args.edges.now
+    (record { locations = c.args.location_count; edges = c.args.edge_count })) c.args.start) c.args.ranges.now
 wrong_is c = c.first_wrong-wrong.ensures ∙ ap (λ k. first_wrong k c.args.ranges.now) c.nodes_at-k.ensures
 
 pub returns-then-wrong-k : goal.returns-then-wrong-k
@@ -81,12 +98,18 @@ returns-then-wrong-k c =
     let a = c.args in
     let w = wrong_is (goal.at.returns-then-wrong-k c).After-first_wrong-wrong in
     c.ended-then-wrong-k.ensures.0 ∙ ap (λ p. ranged_to (refused_at 22 p)) w
-    ∙ sym (ap ranged_to (ranging_wrong (tables_in c.args.locations.now c.args.edges.now (record { locations = c.args.location_count; edges = c.args.edge_count })) a.start a.ranges.now a.path.now
-    (yes (goal.at.returns-then-wrong-k c).Else-not-is_askable) (all_linked (goal.at.returns-then-wrong-k c).Else-led-path)
+    ∙ sym (ap ranged_to (ranging_wrong
+    (tables_in c.args.locations.now c.args.edges.now
+    (record { locations = c.args.location_count; edges = c.args.edge_count })) a.start a.ranges.now a.path.now
+    (yes (goal.at.returns-then-wrong-k c).Else-not-is_askable)
+    (all_linked (goal.at.returns-then-wrong-k c).Else-led-path)
     (omega (arith, w, c.nodes_at-k.ensures, c.if-wrong-k.true))))
 
-none_wrong : (c : Else-wrong-k) → nodes_at (tables_in c.args.locations.now c.args.edges.now (record { locations = c.args.location_count; edges = c.args.edge_count })) c.args.start
-    ≤ first_wrong (nodes_at (tables_in c.args.locations.now c.args.edges.now (record { locations = c.args.location_count; edges = c.args.edge_count })) c.args.start) c.args.ranges.now
+none_wrong : (c : Else-wrong-k)
+    → nodes_at (tables_in c.args.locations.now c.args.edges.now
+    (record { locations = c.args.location_count; edges = c.args.edge_count })) c.args.start
+    ≤ first_wrong (nodes_at (tables_in c.args.locations.now c.args.edges.now
+    (record { locations = c.args.location_count; edges = c.args.edge_count })) c.args.start) c.args.ranges.now
 none_wrong c =
     let w = c.first_wrong-wrong.ensures ∙ ap (λ k. first_wrong k c.args.ranges.now) c.nodes_at-k.ensures in
     omega (arith, w, c.nodes_at-k.ensures, c.if-wrong-k.false)
@@ -94,13 +117,18 @@ none_wrong c =
 pub follow_kept-requires : goal.follow_kept-requires
 follow_kept-requires c =
     let a = c.args in
-    let R = follow_ready (tables_in c.args.locations.now c.args.edges.now (record { locations = c.args.location_count; edges = c.args.edge_count })) a.start a.ranges.now a.path.now (yes (goal.at.follow_kept-requires c).Else-not-is_askable)
-    (all_linked (goal.at.follow_kept-requires c).Else-led-path) (none_wrong (goal.at.follow_kept-requires c).Else-wrong-k) in
+    let R = follow_ready (tables_in c.args.locations.now c.args.edges.now
+    (record { locations = c.args.location_count; edges = c.args.edge_count })) a.start a.ranges.now a.path.now
+    (yes (goal.at.follow_kept-requires c).Else-not-is_askable)
+    (all_linked (goal.at.follow_kept-requires c).Else-led-path)
+    (none_wrong (goal.at.follow_kept-requires c).Else-wrong-k) in
     let g = linked_is (goal.at.follow_kept-requires c).After-go_along-led in
     (R, (c.go_along-led.ensures a.locations.now a.location_count).1 (g ∙ R.linked))
 
 pub returns : goal.returns
 returns c =
     let a = c.args in
-    kept_is (tables_in c.args.locations.now c.args.edges.now (record { locations = c.args.location_count; edges = c.args.edge_count })) a.start a.ranges.now a.path.now (yes (goal.at.returns c).Else-not-is_askable)
+    kept_is (tables_in c.args.locations.now c.args.edges.now
+    (record { locations = c.args.location_count; edges = c.args.edge_count })) a.start a.ranges.now a.path.now
+    (yes (goal.at.returns c).Else-not-is_askable)
     (all_linked (goal.at.returns c).Else-led-path) (none_wrong (goal.at.returns c).Else-wrong-k) c.follow_kept.ensures

@@ -67,4 +67,5 @@ returns c =
     (λ l. lasts_low m cs l (λ i. omega (arith, nodes i)) (λ i. omega (arith, held i)))
 
 pub slice_bounds-code_successors-count : goal.slice_bounds-code_successors-count
-slice_bounds-code_successors-count c = omega (arith, (half (goal.at.slice_bounds-code_successors-count c).After-in_second-half).1)
+slice_bounds-code_successors-count c =
+    omega (arith, (half (goal.at.slice_bounds-code_successors-count c).After-in_second-half).1)

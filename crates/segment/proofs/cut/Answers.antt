@@ -17,7 +17,8 @@ pub put-k-requires : goal.put-k-requires
 put-k-requires c =
     let l = c in
     let s = l in
-    ready_at s.requires l.loop-i.i (search rules) (now (goal.at.put-k-requires c).At-loop-i) l.loop-i.invariant.1 l.loop-i.k l.loop-i.invariant.2
+    ready_at s.requires l.loop-i.i (search rules) (now (goal.at.put-k-requires c).At-loop-i) l.loop-i.invariant.1
+    l.loop-i.k l.loop-i.invariant.2
 
 pub loop-i-preserved : goal.loop-i-preserved
 loop-i-preserved c =
@@ -31,8 +32,10 @@ loop-i-preserved c =
     let t = cut_tables p.new.node p.new.last p.new.size in (
       omega arith,
       record { node = search rules; last = search rules; size = search rules },
-      turn_at s.requires l.loop-i.i b (now (goal.at.loop-i-preserved c).At-loop-i) inv.1 l.loop-i.k inv.2 t p.result p.ensures,
-      size_past _ _ l.loop-i.k (now (goal.at.loop-i-preserved c).At-loop-i) t p.result p.ensures s.args.size.now (λ e. (y.more e).0) inv.3,
+      turn_at s.requires l.loop-i.i b (now (goal.at.loop-i-preserved c).At-loop-i) inv.1 l.loop-i.k inv.2 t p.result
+          p.ensures,
+      size_past _ _ l.loop-i.k (now (goal.at.loop-i-preserved c).At-loop-i) t p.result p.ensures s.args.size.now
+          (λ e. (y.more e).0) inv.3,
     )
 
 pub returns : goal.returns

@@ -8,8 +8,10 @@ use Rattle.segment.proofs.cut.Given as goal
 
 abbrev pub invariant-loop-i : goal.invariant-loop-i
 invariant-loop-i l =
-    (l.i ≤ length l.order) × Alike (cut_tables l.node l.last l.size) (cut_tables l.initial.node l.initial.last l.initial.size)
-    × IsCut (segs l.held (take l.i l.order)) (cut_tables l.node l.last l.size) l.k × (drop l.k l.size ≡ drop l.k l.initial.size)
+    (l.i ≤ length l.order) × Alike (cut_tables l.node l.last l.size)
+    (cut_tables l.initial.node l.initial.last l.initial.size)
+    × IsCut (segs l.held (take l.i l.order)) (cut_tables l.node l.last l.size) l.k
+    × (drop l.k l.size ≡ drop l.k l.initial.size)
 
 abbrev pub decreases-loop-i : goal.decreases-loop-i
 decreases-loop-i l = length l.order - l.i

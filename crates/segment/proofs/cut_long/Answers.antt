@@ -21,7 +21,8 @@ within c =
     let l = c in
     let s = l in
     let inv = l.loop-i.invariant in
-    run_within s.requires l.loop-i.i c.loop-i-test.true (cut_tables l.loop-i.node l.loop-i.last l.loop-i.size) inv.1 l.loop-i.k inv.2
+    run_within s.requires l.loop-i.i c.loop-i-test.true (cut_tables l.loop-i.node l.loop-i.last l.loop-i.size) inv.1
+    l.loop-i.k inv.2
     c.run_end-end.result c.run_end-end.ensures
 
 room : (c : After-run_end-end) → let l = c.loop-i in
@@ -30,7 +31,8 @@ room c =
     let l = c in
     let s = l in
     let inv = l.loop-i.invariant in
-    run_room s.requires l.loop-i.i c.loop-i-test.true (cut_tables l.loop-i.node l.loop-i.last l.loop-i.size) inv.1 l.loop-i.k inv.2
+    run_room s.requires l.loop-i.i c.loop-i-test.true (cut_tables l.loop-i.node l.loop-i.last l.loop-i.size) inv.1
+    l.loop-i.k inv.2
     c.run_end-end.result c.run_end-end.ensures
 
 pub loop-i-init : goal.loop-i-init
@@ -51,7 +53,8 @@ name_cells-requires c =
     let l = e in
     let s = l in
     let inv = l.loop-i.invariant in
-    run_low s.requires l.loop-i.i e.loop-i-test.true (now (goal.at.name_cells-requires c).At-loop-i) inv.1 l.loop-i.k inv.2
+    run_low s.requires l.loop-i.i e.loop-i-test.true (now (goal.at.name_cells-requires c).At-loop-i) inv.1 l.loop-i.k
+    inv.2
     e.run_end-end.result e.run_end-end.ensures
 
 pub bounds-order-end : goal.bounds-order-end
@@ -91,9 +94,11 @@ loop-i-preserved c =
         last = simp length-set inv.1.last;
         size = simp length-set inv.1.size;
       },
-      run_turn s.requires l.loop-i.i e.loop-i-test.true (now (goal.at.loop-i-preserved c).At-loop-i) inv.1 l.loop-i.k inv.2
+      run_turn s.requires l.loop-i.i e.loop-i-test.true (now (goal.at.loop-i-preserved c).At-loop-i) inv.1 l.loop-i.k
+          inv.2
           e.run_end-end.result e.run_end-end.ensures n.new.node _ _ n.ensures
-          (omega (arith, (within (goal.at.loop-i-preserved c).After-run_end-end).0)) (omega (arith, (within (goal.at.loop-i-preserved c).After-run_end-end).0)),
+          (omega (arith, (within (goal.at.loop-i-preserved c).After-run_end-end).0))
+          (omega (arith, (within (goal.at.loop-i-preserved c).After-run_end-end).0)),
       past_next l.loop-i.size s.args.size.now l.loop-i.k _ inv.3,
     )
 

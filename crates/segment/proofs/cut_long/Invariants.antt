@@ -9,7 +9,8 @@ use Rattle.segment.proofs.cut_long.Given as goal
 
 abbrev pub invariant-loop-i : goal.invariant-loop-i
 invariant-loop-i l =
-    (l.i ≤ length l.order) × Alike (cut_tables l.node l.last l.size) (cut_tables l.initial.node l.initial.last l.initial.size)
+    (l.i ≤ length l.order) × Alike (cut_tables l.node l.last l.size)
+    (cut_tables l.initial.node l.initial.last l.initial.size)
     × CutTo l.order l.held (cut_tables l.node l.last l.size) l.k l.i × (drop l.k l.size ≡ drop l.k l.initial.size)
 
 abbrev pub decreases-loop-i : goal.decreases-loop-i

@@ -7,7 +7,8 @@ use Rattle.segment.proofs.name_cells.Given as goal
 
 abbrev pub invariant-loop-i : goal.invariant-loop-i
 invariant-loop-i l =
-    (length l.node ≡ length l.initial.node) × (named (drop l.i l.cells) l.n.0 l.node ≡ named l.cells l.n.0 l.initial.node)
+    (length l.node ≡ length l.initial.node)
+    × (named (drop l.i l.cells) l.n.0 l.node ≡ named l.cells l.n.0 l.initial.node)
 
 abbrev pub decreases-loop-i : goal.decreases-loop-i
 decreases-loop-i l = length l.cells - l.i

@@ -53,4 +53,5 @@ pub returns : goal.returns
 returns c =
     let e = c in
     let n = e in
-    rw (inner (goal.at.returns c).Else-held-c-ge2) (record { entered = rw n.last_node.ensures at e.extend.ensures; number = refl })
+    rw (inner (goal.at.returns c).Else-held-c-ge2)
+    (record { entered = rw n.last_node.ensures at e.extend.ensures; number = refl })

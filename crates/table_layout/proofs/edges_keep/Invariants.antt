@@ -9,8 +9,10 @@ use Rattle.table_layout.proofs.edges_keep.Given as goal
 
 abbrev pub invariant-loop-i : goal.invariant-loop-i
 invariant-loop-i l = (l.i ≤ l.counts.edges)
-    × (all (λ n. edge_keeps_in (tables_in l.locations l.edges l.counts) (record_at l.edges n)) (numbers 0 l.counts.edges)
-    ≡ all (λ n. edge_keeps_in (tables_in l.locations l.edges l.counts) (record_at l.edges n)) (numbers l.i (l.counts.edges - l.i)))
+    × (all (λ n. edge_keeps_in (tables_in l.locations l.edges l.counts) (record_at l.edges n))
+    (numbers 0 l.counts.edges)
+    ≡ all (λ n. edge_keeps_in (tables_in l.locations l.edges l.counts) (record_at l.edges n))
+    (numbers l.i (l.counts.edges - l.i)))
 
 abbrev pub decreases-loop-i : goal.decreases-loop-i
 decreases-loop-i l = l.counts.edges - l.i

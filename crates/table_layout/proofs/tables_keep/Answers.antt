@@ -31,7 +31,8 @@ returns-then-not-in_places c = counts_off (tables c.args.locations.now c.args.ed
     (sym (tested (goal.at.returns-then-not-in_places c).After-in_places-2) ∙ c.if-not-in_places.true)
 
 -- past it, the counts are within the places
-counted : (c : Else-not-in_places) → counts_in_places (tables c.args.locations.now c.args.edges.now c.args.counts) ≡ true
+counted : (c : Else-not-in_places) → counts_in_places (tables c.args.locations.now c.args.edges.now c.args.counts)
+    ≡ true
 unfolding tables
 counted c = sym (ap₂ ◌&&◌ c.in_places.ensures c.in_places-2.ensures) ∙ c.if-not-in_places.false
 
@@ -72,5 +73,6 @@ returns c =
     let d = c in
     let e = d in
     c.edges_keep.ensures
-    ∙ edges_decide (tables c.args.locations.now c.args.edges.now c.args.counts) (counted (goal.at.returns c).Else-not-in_places)
+    ∙ edges_decide (tables c.args.locations.now c.args.edges.now c.args.counts)
+    (counted (goal.at.returns c).Else-not-in_places)
     (sym d.locations_keep.ensures ∙ d.if-not-locations_keep.false)

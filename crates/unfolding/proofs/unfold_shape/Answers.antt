@@ -41,7 +41,13 @@ write_cells-requires c =
     let r = a.rec.now in
     let v = a.counters.now in
     let p = a.pointers.now in
-    let l = a.cells.now in record { filled = (ready_successors r v p l s.requires ∙ sym (ready_counters r v p l s.requires), ready_positive r v p l s.requires); room = (ready_nodes r v p l s.requires, s.requires.few) }
+    let l = a.cells.now in record {
+      filled = (
+        ready_successors r v p l s.requires ∙ sym (ready_counters r v p l s.requires),
+        ready_positive r v p l s.requires,
+      );
+      room = (ready_nodes r v p l s.requires, s.requires.few);
+    }
 
 pub returns : goal.returns
 returns c =

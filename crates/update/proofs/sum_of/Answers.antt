@@ -33,7 +33,8 @@ most c =
     omega arith
 
 pub overflow_sub-left : goal.overflow_sub-left
-overflow_sub-left c = rw (bit (goal.at.overflow_sub-left c).In-loop-left) (within (goal.at.overflow_sub-left c).In-loop-left)
+overflow_sub-left c = rw (bit (goal.at.overflow_sub-left c).In-loop-left)
+    (within (goal.at.overflow_sub-left c).In-loop-left)
 
 pub loop-left-smaller : goal.loop-left-smaller
 loop-left-smaller c = rw (bit (goal.at.loop-left-smaller c).In-loop-left) (omega (
@@ -48,7 +49,8 @@ loop-left-preserved c =
     let l = c.loop-left in
     let e = lowest_added l.left c.loop-left-test.true l.invariant.0
     c.args.counters.now (omega arith) in
-    rw (bit (goal.at.loop-left-preserved c).In-loop-left) (omega arith, omega arith, most (goal.at.loop-left-preserved c).After-shared_slice_known-1)
+    rw (bit (goal.at.loop-left-preserved c).In-loop-left)
+    (omega arith, omega arith, most (goal.at.loop-left-preserved c).After-shared_slice_known-1)
 
 pub returns : goal.returns
 returns c =

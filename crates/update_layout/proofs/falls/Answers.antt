@@ -33,7 +33,9 @@ returns-then-exclude-asks c =
     let a = code_in s.args.guards.first in
     let b = code_in s.args.guards.second in
     let e : exclude a b || asks a u || asks b u ≡ true = cc in
-    falls_never s.args.nodes u a b s.requires.0 s.requires.1 s.requires.2 (first_sound (goal.at.returns-then-exclude-asks c).Start) (second_sound (goal.at.returns-then-exclude-asks c).Start) e
+    falls_never s.args.nodes u a b s.requires.0 s.requires.1 s.requires.2
+    (first_sound (goal.at.returns-then-exclude-asks c).Start)
+    (second_sound (goal.at.returns-then-exclude-asks c).Start) e
 
 pub overflow_add-result : goal.overflow_add-result
 overflow_add-result c =
@@ -52,4 +54,5 @@ returns c =
     let b = code_in s.args.guards.second in
     let e : exclude a b || asks a u || asks b u ≡ false = cc in
     ap (λ n. ltb (n + u / 4096) 2) c.counters_added.ensures.1
-    ∙ falls_else s.args.nodes u a b s.requires.0 s.requires.1 s.requires.2 (first_sound (goal.at.returns c).Start) (second_sound (goal.at.returns c).Start) e
+    ∙ falls_else s.args.nodes u a b s.requires.0 s.requires.1 s.requires.2 (first_sound (goal.at.returns c).Start)
+    (second_sound (goal.at.returns c).Start) e

@@ -43,11 +43,18 @@ returns-then-update c =
     let b = code_in s.args.guards.second in
     let low = ltb-true 4096 u (and_l (ltb 4096 u) (ltb u 8192) c.if-update.true) in
     let high = ltb-true u 8192 (and_r (ltb 4096 u) (ltb u 8192) c.if-update.true) in
-    left (goal.at.returns-then-update c).Else-update-nodes (falls_plain k u a b s.requires.0 (on (goal.at.returns-then-update c).Else-update-nodes).0 (on (goal.at.returns-then-update c).Else-update-nodes).1 (sound k a s.requires.1.first)
+    left (goal.at.returns-then-update c).Else-update-nodes
+    (falls_plain k u a b s.requires.0 (on (goal.at.returns-then-update c).Else-update-nodes).0
+    (on (goal.at.returns-then-update c).Else-update-nodes).1 (sound k a s.requires.1.first)
     (sound k b s.requires.1.second) low high)
 
 pub falls-requires : goal.falls-requires
-falls-requires c = let e = c in let s = e in (s.requires.0, (on (goal.at.falls-requires c).Else-update-nodes).0, (on (goal.at.falls-requires c).Else-update-nodes).1, s.requires.1)
+falls-requires c = let e = c in let s = e in (
+  s.requires.0,
+  (on (goal.at.falls-requires c).Else-update-nodes).0,
+  (on (goal.at.falls-requires c).Else-update-nodes).1,
+  s.requires.1,
+)
 
 pub returns : goal.returns
 returns c = left (goal.at.returns c).Else-update-nodes (sym c.falls.ensures)

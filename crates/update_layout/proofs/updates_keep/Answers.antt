@@ -35,7 +35,8 @@ returns-then-not-update_keeps-apart c =
     let a = c.args in
     let l = c.loop-j in
     kept_fail (update_keeps a.nodes (codes_in a.guards)) l.seen a.rec.now l.j a.new l.invariant.1
-    c.loop-j-test.true (sym (tested (goal.at.returns-then-not-update_keeps-apart c).After-apart) ∙ c.if-not-update_keeps-apart.true)
+    c.loop-j-test.true (sym (tested (goal.at.returns-then-not-update_keeps-apart c).After-apart)
+    ∙ c.if-not-update_keeps-apart.true)
 
 pub loop-j-preserved : goal.loop-j-preserved
 loop-j-preserved c =

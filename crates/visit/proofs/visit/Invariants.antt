@@ -12,7 +12,8 @@ use Rattle.visit.proofs.visit.Given as goal
 
 abbrev pub invariant-loop-i : goal.invariant-loop-i
 invariant-loop-i l =
-    (length l.order ≡ length l.initial.order) × (length l.seen ≡ length l.initial.seen) × Visiting l.cells l.order l.seen l.n
+    (length l.order ≡ length l.initial.order) × (length l.seen ≡ length l.initial.seen)
+    × Visiting l.cells l.order l.seen l.n
     × ((t : List ℕ) → Tours (slot_at l.cells) (take l.n l.order) (map val_of (drop l.i l.pointers)) t
     → Tours (slot_at l.cells) [] (map val_of l.pointers) t)
     × ((c : ℕ) → c < length l.cells → Alike (get_or l.seen c 0 + pointing c (drop l.i l.pointers))

@@ -14,9 +14,11 @@ use Rattle.visit.proofs.walk_from.Given as goal
 
 abbrev pub invariant-loop-v : goal.invariant-loop-v
 invariant-loop-v l =
-    (length l.order ≡ length l.initial.order) × (length l.seen ≡ length l.initial.seen) × Visiting l.cells l.order l.seen l.n
+    (length l.order ≡ length l.initial.order) × (length l.seen ≡ length l.initial.seen)
+    × Visiting l.cells l.order l.seen l.n
     × Closed (slot_at l.cells) (val_of l.v)
-    × ((t : List ℕ) → Walks (slot_at l.cells) (take l.n l.order) (val_of l.v) t → Walks (slot_at l.cells) (take l.count l.initial.order)
+    × ((t : List ℕ) → Walks (slot_at l.cells) (take l.n l.order) (val_of l.v) t
+    → Walks (slot_at l.cells) (take l.count l.initial.order)
     (val_of l.start) t)
     × (1 ≤ l.holders)
     × ((c k b : ℕ) → c < length l.cells → Alike (get_or l.initial.seen c 0 + (cond (eqb c l.start) 2 0 + k))

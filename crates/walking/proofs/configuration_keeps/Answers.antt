@@ -38,7 +38,8 @@ pub counters_of-requires : goal.counters_of-requires
 counters_of-requires c =
     let e = c in
     let s = e in
-    let few = layout_nodes (tables (goal.at.counters_of-requires c).Start) s.requires s.args.configuration.location (there (goal.at.counters_of-requires c).Else-counts-at) in
+    let few = layout_nodes (tables (goal.at.counters_of-requires c).Start) s.requires s.args.configuration.location
+    (there (goal.at.counters_of-requires c).Else-counts-at) in
     let n = c.nodes_at.ensures in
     (omega arith, search rules)
 
@@ -50,4 +51,5 @@ returns c =
     let g = a.configuration in
     let ks = byte (record_at a.locations.now g.location) 3 in
     c.counters_of.ensures ∙ ap (λ k. counters_of k g.counters) d.nodes_at.ensures
-    ∙ sym (ap (λ b. b && counters_of ks g.counters) (lt-ltb g.location a.counts.locations (there (goal.at.returns c).Else-counts-at)))
+    ∙ sym (ap (λ b. b && counters_of ks g.counters)
+    (lt-ltb g.location a.counts.locations (there (goal.at.returns c).Else-counts-at)))

@@ -14,7 +14,8 @@ pub returns-then-path-gt-MOST_MOVES : goal.returns-then-path-gt-MOST_MOVES
 returns-then-path-gt-MOST_MOVES c =
     let s = c in
     c.ended.ensures
-    ∙ sym (walk_long (tables (goal.at.returns-then-path-gt-MOST_MOVES c).Start) s.args.configuration s.args.path.now c.if-path-gt-MOST_MOVES.true)
+    ∙ sym (walk_long (tables (goal.at.returns-then-path-gt-MOST_MOVES c).Start) s.args.configuration s.args.path.now
+    c.if-path-gt-MOST_MOVES.true)
 
 pub returns-then-not-keeps : goal.returns-then-not-keeps
 returns-then-not-keeps c =
@@ -33,5 +34,6 @@ returns c =
     let e = d in
     let s = e in
     c.walk_kept.ensures
-    ∙ sym (walk_kept (tables (goal.at.returns c).Start) s.args.configuration s.args.path.now e.if-path-gt-MOST_MOVES.false
+    ∙ sym (walk_kept (tables (goal.at.returns c).Start) s.args.configuration s.args.path.now
+    e.if-path-gt-MOST_MOVES.false
     (sym d.keeps.ensures ∙ d.if-not-keeps.false))

@@ -35,9 +35,11 @@ returns-then-taken-ne0 c =
     let here = standing l.loop-i.location l.loop-i.counters in
     c.ended.ensures
     ∙ ap (λ cs. walked_to m.take_edge-taken.result.refusal l.loop-i.i (standing l.loop-i.location cs))
-    (refused_same (tables (goal.at.returns-then-taken-ne0 c).Start) s.args.configuration s.args.path.now l.loop-i.i here l.loop-i.invariant lt
+    (refused_same (tables (goal.at.returns-then-taken-ne0 c).Start) s.args.configuration s.args.path.now l.loop-i.i
+    here l.loop-i.invariant lt
     m.take_edge-taken.ensures h)
-    ∙ refused_there (tables (goal.at.returns-then-taken-ne0 c).Start) s.args.configuration s.args.path.now l.loop-i.i here l.loop-i.invariant lt
+    ∙ refused_there (tables (goal.at.returns-then-taken-ne0 c).Start) s.args.configuration s.args.path.now l.loop-i.i
+    here l.loop-i.invariant lt
     m.take_edge-taken.ensures h
 
 pub loop-i-preserved : goal.loop-i-preserved

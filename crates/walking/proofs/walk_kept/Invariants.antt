@@ -8,7 +8,8 @@ use Rattle.walking.proofs.walk_kept.Given as goal
 
 abbrev pub invariant-loop-i : goal.invariant-loop-i
 invariant-loop-i l =
-    Standing (tables_in l.locations l.edges l.counts) (standing l.initial.location l.initial.counters) l.path l.i (standing l.location l.counters)
+    Standing (tables_in l.locations l.edges l.counts) (standing l.initial.location l.initial.counters) l.path l.i
+    (standing l.location l.counters)
 
 abbrev pub decreases-loop-i : goal.decreases-loop-i
 decreases-loop-i l = length l.path - l.i
