@@ -27,7 +27,7 @@ def ranges_case(reference, ts, counts, start, given, path):
     else:
         ends = rows.get('ranges', [])
         told, numbers, ranges = 'follows', [0, 0, 1, *rows['follows']], laid([*zip(ends[::2], ends[1::2])])
-    call = 'rangedBy (%s) (%s) %d %d %d (%s) (%s)' % (*map(data, ts), *counts, start, spelled(given), spelled(path))
+    call = 'ranged_by (%s) (%s) %d %d %d (%s) (%s)' % (*map(data, ts), *counts, start, spelled(given), spelled(path))
     return told, call, lists([numbers, ranges])
 
 

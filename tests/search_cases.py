@@ -11,7 +11,7 @@ def search_case(reference, table, count, record):
     out = reference('search', text.encode()).split()
     spelled = '(replicate %d 7)' % table if long else '(%s)' % data(table)
     found = [1, int(out[1])] if out[0] == 'found' else [0, 0]
-    return 'searchedIn %s %d (%s)' % (spelled, count, data(record)), lists([found])
+    return 'searched_in %s %d (%s)' % (spelled, count, data(record)), lists([found])
 
 
 def search_cases(rng, reference, count):

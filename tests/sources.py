@@ -8,11 +8,11 @@ from uses import CRATES, ROOT
 
 # words of the language and of the toolchain, of the text form, and a package
 OTHERS = {"abbrev", "again", "axioms", "else", "goto", "graphviz", "if", "Lts", "match", "pub", "use"}
-NAME = r"[^\W\d][\w′·-]*"
+NAME = r"[^\W\d][\w'?-]*"
 # what declares a name, by the ending of the file, and what is a comment there
 DECLARES = {
     "antt": rf"^ *(?:(?:pub|abbrev|unfoldable|record|data) )*({NAME}) (?:: |[({{].* : )|^(?:pub )?mod ({NAME})",
-    "rt": r"\b(?:fn|struct|enum|const|mod|ensures) (\w+)|^\s+(?:pub )?(\w+)(?:: |,$| \{)|\bu\d+::(\w+)",
+    "rt": r"\b(?:fn|struct|enum|const|mod|requires|ensures) (\w+)|^\s+(?:pub )?(\w+)(?:: |,$| \{)|\bu\d+::(\w+)",
     "rs": r"\b(?:fn|struct|enum|const|static|mod|trait|type) (\w+)",
     "c": r"\b(\w+)\(|\benum (\w+)|\b([A-Z_]{3,})\b",
     "h": r"\b(\w+)\(|\benum (\w+)|\b([A-Z_]{3,})\b",
@@ -23,7 +23,8 @@ COMMENT = {"antt": r"--(?= |$).*", "rt": r"//.*", "rs": r"//.*", "c": r"/\*[\s\S
 
 def files():
     for folder, inner, names in os.walk(ROOT):
-        inner[:] = [name for name in inner if name not in ("target", ".git", "__pycache__")]
+        in_crate = os.path.dirname(folder) == str(ROOT / "crates")
+        inner[:] = [name for name in inner if name not in ("target", ".git", "__pycache__") and not (in_crate and name == "out")]
         yield from (os.path.relpath(os.path.join(folder, name), ROOT) for name in inner + names)
 
 
@@ -50,16 +51,17 @@ TODAY |= {f: re.sub(r"\s+(?:\* )?", " ", read(f)) for f in ("include/currantplan
 CODE = {f: re.sub(COMMENT[ending(f)], "", read(f), flags=re.M) for f in sorted(FILES - {"tests/documents"})
         if ending(f) in DECLARES and (ROOT / f).is_file()}
 DECLARED = {f: {name for m in re.finditer(DECLARES[ending(f)], text, re.M) for name in m.groups()} for f, text in CODE.items()}
-IMPORTED = {name for text in CODE.values() for m in re.finditer(r"^use [\w.·]+\{([^}]*)\}", text, re.M) for name in m[1].split(", ")}
+IMPORTED = {name for text in CODE.values() for m in re.finditer(r"^(?:pub )?(?:ghost )?use [\w.]+\{([^}]*)\}", text, re.M) for name in m[1].split(", ")}
 KNOWN = OTHERS.union(IMPORTED, *DECLARED.values(), (pathlib.Path(f).stem for f in FILES))
-USED = {word for text in CODE.values() for word in re.findall(NAME, text)}
+# a quote after a word of a script is no prime
+USED = {word for text in CODE.values() for word in re.findall(rf"{NAME}|\w+", text) for word in (word, word.rstrip("'"))}
 SCRIPTS = "".join(text for f, text in CODE.items() if not ending(f))
 # what the programs print
 PRINTED = "".join(read(f) for f in sorted(FILES) if ending(f) == "out")
 SHOWN = PRINTED + "".join(text for f, text in PAGES.items() if f.startswith("docs/examples/"))
 # the statements in words, by their numbers: a constructor's comment, or its name
 FORMS = {int(n): form or name for name, n, form in re.findall(r"^  (\w+) : .*Op  -- (\d+)(?:: (.*?))?(?: \(.*)?$", spec("Machine"), re.M)}
-FAULTS = [int(n) for n in re.findall(r"^faultNumber \w+ = (\d+)", spec("Machine"), re.M)]
+FAULTS = [int(n) for n in re.findall(r"^fault_number \w+ = (\d+)", spec("Machine"), re.M)]
 
 
 def form(statement):
@@ -118,12 +120,12 @@ def value(name, path):
 def refusals():
     """The numbers of refusals by where they are looked at, in the order of the checks."""
     lists = {}
-    for name, text in re.findall(r"^(numbers\w+) = (.*)", spec("Listings"), re.M):
-        lists[name] = [n for word in re.findall(r"\d+|numbers\w+", text) for n in lists.get(word) or [int(word)]]
-    checks = dict(re.findall(r"^(check\w+) .*=([\s\S]*?)\n\n", spec("Image"), re.M))
-    image, counters, step = ([int(n) for n in re.findall(r"unless (\d+)", checks[name])] for name in ("checksImage", "checkCounters", "checksStep"))
-    return {"input": lists["numbersInput"][:4], "S record": lists["numbersS"], "H record": lists["numbersH"],
-            "tables": lists["numbersTranslate"][-2:], "heap image": image, "unfolding": counters, "plain step": step,
+    for name, text in re.findall(r"^(numbers_\w+) = (.*)", spec("Listings"), re.M):
+        lists[name] = [n for word in re.findall(r"\d+|numbers_\w+", text) for n in lists.get(word) or [int(word)]]
+    checks = dict(re.findall(r"^(checks?_\w+) .*=([\s\S]*?)\n\n", spec("Image"), re.M))
+    image, counters, step = ([int(n) for n in re.findall(r"unless (\d+)", checks[name])] for name in ("checks_image", "check_counters", "checks_step"))
+    return {"input": lists["numbers_input"][:4], "S record": lists["numbers_s"], "H record": lists["numbers_h"],
+            "tables": lists["numbers_translate"][-2:], "heap image": image, "unfolding": counters, "plain step": step,
             "one record out of the tables": numbers(re.search(r"refusal (\d+)", spec("Part"))[1]),
-            "moves and walks": sorted({int(n) for n in re.findall(r"staysWith (\d\d)", spec("Walking"))}),
-            "ranges": [*dict.fromkeys(int(n) for n in re.findall(r"refusedAt (\d\d)", spec("Ranges")))]}
+            "moves and walks": sorted({int(n) for n in re.findall(r"stays_with (\d\d)", spec("Walking"))}),
+            "ranges": [*dict.fromkeys(int(n) for n in re.findall(r"refused_at (\d\d)", spec("Ranges")))]}

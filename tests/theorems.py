@@ -6,103 +6,99 @@ ROOT = os.path.dirname(os.path.dirname(os.path.abspath(__file__)))
 ACCEPTED = [0, 0, 0]  # no number, place or node
 
 HEAD = '''-- Comparisons of the definitions with the second translator.
-use Prim.Native.Nat.{ℕ, zero, suc, _-_, _/_, _%_, _^_}
-use mathlib.Core.Path.{_≡_, refl}
-use mathlib.Core.Bool.{true, _&&_, cond}
-use mathlib.Core.List.{List, [], _∷_, _++_, map}
-use lib.Dec.{eqb}
-use lib.ListN.{replicate}
-use Rattle·model.specs.Base.{sameList, numbers}
-use Rattle·model.specs.Records.{Refusal, isAccepted, isRefused, recordAt, locRecord}
-use Rattle·model.specs.Translate.{Tables, Outcome, Explored, full, listed, linkRecord, routineOf, check, listing, translate}
-use Rattle·model.specs.Image.{Folding, Unfolding, Stepping, foldImage, unfoldImage, stepImage, stepVerdict}
-use Rattle·model.specs.Part.{partBytes, recordPart}
-use Rattle·model.specs.Answers.{foundNumbers, refusalOf, stepNumbers}
-use Rattle·model.specs.Bench.{endsIn, firstUnplaced, translateFull}
-use Rattle·model.specs.Layout.{keepsLayout}
-use Rattle·model.specs.Search.{searched}
-use Rattle·model.specs.Ranges.{rangedTo, ranging}
-use Rattle·model.specs.Walking.{moved, walked}
-use Rattle·model.specs.declared.Configuration.{Configuration}
+use Rattle.std.specs.Prelude.{ℕ, zero, suc, ◌-◌, ◌/◌, ◌%◌, ◌^◌, true, ◌&&◌, cond, List, [], ◌∷◌, ◌++◌, map, ◌≡◌, eqb, replicate}
+use mathlib.Core.Path.{refl}
+use Rattle.model.specs.Base.{same_list, numbers}
+use Rattle.model.specs.Records.{Refusal, is_accepted, is_refused, record_at, loc_record}
+use Rattle.model.specs.Translate.{Tables, Outcome, Explored, full, listed, link_record, routine_of, check, listing, translate}
+use Rattle.model.specs.Image.{Folding, Unfolding, Stepping, fold_image, unfold_image, step_image, step_verdict}
+use Rattle.model.specs.Part.{part_bytes, record_part}
+use Rattle.model.specs.Answers.{found_numbers, refusal_of, step_numbers}
+use Rattle.model.specs.Bench.{ends_in, first_unplaced, translate_full}
+use Rattle.model.specs.Layout.{keeps_layout}
+use Rattle.model.specs.Search.{searched}
+use Rattle.model.specs.Ranges.{ranged_to, ranging}
+use Rattle.model.specs.Walking.{moved, walked}
+use Rattle.model.specs.declared.Configuration.{Configuration}
 
-abbrev bytesOf : ℕ → ℕ → List ℕ
-bytesOf zero x = []
-bytesOf (suc n) x = x / 256 ^ n % 256 ∷ bytesOf n x
+abbrev bytes_of : ℕ → ℕ → List ℕ
+bytes_of zero x = []
+bytes_of (suc n) x = x / 256 ^ n % 256 ∷ bytes_of n x
 
 -- a record: its digits, and how many zeros stand after them, an even number
 abbrev line : ℕ → ℕ → List ℕ
-line x z = bytesOf (32 - z / 2) x ++ replicate (z / 2) 0
+line x z = bytes_of (32 - z / 2) x ++ replicate (z / 2) 0
 
 abbrev printed : Tables → List (List ℕ)
-printed t = map (recordAt (t .locBytes)) (numbers 0 (t .locCount)) ++ map (recordAt (t .edgeBytes)) (numbers 0 (t .edgeCount))
+printed t = map (record_at t.loc_bytes) (numbers 0 t.loc_count) ++ map (record_at t.edge_bytes) (numbers 0 t.edge_count)
 
 abbrev ending : Refusal → List ℕ
-ending x = x .number ∷ x .place ∷ x .node ∷ []
+ending x = x.number ∷ x.place ∷ x.node ∷ []
 
 abbrev translated : List ℕ → ℕ → ℕ → List (List ℕ)
 translated s a b =
     let o = translate s a b in
-    elim (o .verdict) [ isAccepted ↦ printed (o .tables) | isRefused x ↦ ending x ∷ [] ]
+    elim (o.verdict) [ is_accepted ↦ printed o.tables | is_refused x ↦ ending x ∷ [] ]
 
-abbrev recordsOf : Explored → List (List ℕ)
-recordsOf (full x) = ending x ∷ []
-recordsOf (listed t) = map locRecord (t .locs) ++ map linkRecord (t .links)
+abbrev records_of : Explored → List (List ℕ)
+records_of (full x) = ending x ∷ []
+records_of (listed t) = map loc_record t.locs ++ map link_record t.links
 
 -- the listing of a statement and two stops on a shape, without the checks of the input
 abbrev explored : List ℕ → List ℕ → List (List ℕ)
-explored s h = recordsOf (listing (routineOf 3 (s ∷ line 0x53 62 ∷ line 0x53 62 ∷ h ∷ [])) 16 16)
+explored s h = records_of (listing (routine_of 3 (s ∷ line 0x53 62 ∷ line 0x53 62 ∷ h ∷ [])) 16 16)
 
 -- 11, 12 or none, told from the full tables
 abbrev unplaced : List ℕ → ℕ → ℕ → List (List ℕ)
-unplaced s cl ce = ending (refusalOf (firstUnplaced cl ce 0 (endsIn (translateFull s .tables)))) ∷ []
+unplaced s cl ce = ending (refusal_of (first_unplaced cl ce 0 (ends_in (translate_full s).tables))) ∷ []
 
 abbrev folded : Folding → List (List ℕ)
-folded f = ending (refusalOf (f .verdict)) ∷ f .recordBytes ∷ f .counts ∷ []
+folded f = ending (refusal_of f.verdict) ∷ f.record_bytes ∷ f.counts ∷ []
 
 -- a record out of two tables: the refusal, where the part begins and its length; its bytes
 abbrev shown : List ℕ → List ℕ → ℕ → ℕ → ℕ → ℕ → List (List ℕ)
 shown ls es l e mark n =
-    let t : Tables = record { locBytes = ls; edgeBytes = es; locCount = l; edgeCount = e } in
-    let p = recordPart t mark n in
-    (ending (refusalOf (p .verdict)) ++ p .begins ∷ p .size ∷ []) ∷ partBytes t mark n ∷ []
+    let t : Tables = record { loc_bytes = ls; edge_bytes = es; loc_count = l; edge_count = e } in
+    let p = record_part t mark n in
+    (ending (refusal_of p.verdict) ++ p.begins ∷ p.size ∷ []) ∷ part_bytes t mark n ∷ []
 
 -- a search: 1 and the number, or 0 and 0
-abbrev searchedIn : List ℕ → ℕ → List ℕ → List (List ℕ)
-searchedIn t n r = let found = foundNumbers (searched t n r) in (found .0 ∷ found .1 ∷ []) ∷ []
+abbrev searched_in : List ℕ → ℕ → List ℕ → List (List ℕ)
+searched_in t n r = let found = found_numbers (searched t n r) in (found.0 ∷ found.1 ∷ []) ∷ []
 
 -- whether tables keep the layout
-abbrev layoutOf : List ℕ → List ℕ → ℕ → ℕ → List (List ℕ)
-layoutOf ls es l e =
-    let t : Tables = record { locBytes = ls; edgeBytes = es; locCount = l; edgeCount = e } in
-    (cond (keepsLayout t) 1 0 ∷ []) ∷ []
+abbrev layout_of : List ℕ → List ℕ → ℕ → ℕ → List (List ℕ)
+layout_of ls es l e =
+    let t : Tables = record { loc_bytes = ls; edge_bytes = es; loc_count = l; edge_count = e } in
+    (cond (keeps_layout t) 1 0 ∷ []) ∷ []
 
 -- a walk, and a move: the refusal, how many moves a walk made, and the location; the counters
-abbrev walkedBy : List ℕ → List ℕ → ℕ → ℕ → ℕ → List ℕ → List ℕ → List (List ℕ)
-walkedBy ls es l e at cs ns =
-    let t : Tables = record { locBytes = ls; edgeBytes = es; locCount = l; edgeCount = e } in
+abbrev walked_by : List ℕ → List ℕ → ℕ → ℕ → ℕ → List ℕ → List ℕ → List (List ℕ)
+walked_by ls es l e at cs ns =
+    let t : Tables = record { loc_bytes = ls; edge_bytes = es; loc_count = l; edge_count = e } in
     let c : Configuration = record { location = at; counters = cs } in
     let w = walked t c ns in
-    (w .refusal ∷ w .made ∷ w .configuration .location ∷ []) ∷ w .configuration .counters ∷ []
+    (w.refusal ∷ w.made ∷ w.configuration.location ∷ []) ∷ w.configuration.counters ∷ []
 
-abbrev movedBy : List ℕ → List ℕ → ℕ → ℕ → ℕ → List ℕ → ℕ → List (List ℕ)
-movedBy ls es l e at cs n =
-    let t : Tables = record { locBytes = ls; edgeBytes = es; locCount = l; edgeCount = e } in
+abbrev moved_by : List ℕ → List ℕ → ℕ → ℕ → ℕ → List ℕ → ℕ → List (List ℕ)
+moved_by ls es l e at cs n =
+    let t : Tables = record { loc_bytes = ls; edge_bytes = es; loc_count = l; edge_count = e } in
     let c : Configuration = record { location = at; counters = cs } in
     let m = moved t c n in
-    (m .refusal ∷ m .configuration .location ∷ []) ∷ m .configuration .counters ∷ []
+    (m.refusal ∷ m.configuration.location ∷ []) ∷ m.configuration.counters ∷ []
 
 -- a path from ranges: the refusal, the place, 1 where some start follows, and the location; the ranges
-abbrev rangedBy : List ℕ → List ℕ → ℕ → ℕ → ℕ → List ℕ → List ℕ → List (List ℕ)
-rangedBy ls es l e at rs ns =
-    let t : Tables = record { locBytes = ls; edgeBytes = es; locCount = l; edgeCount = e } in
-    let r = rangedTo (ranging t at rs ns) in
-    (r .refusal ∷ r .place ∷ r .follows ∷ r .location ∷ []) ∷ r .ranges ∷ []
+abbrev ranged_by : List ℕ → List ℕ → ℕ → ℕ → ℕ → List ℕ → List ℕ → List (List ℕ)
+ranged_by ls es l e at rs ns =
+    let t : Tables = record { loc_bytes = ls; edge_bytes = es; loc_count = l; edge_count = e } in
+    let r = ranged_to (ranging t at rs ns) in
+    (r.refusal ∷ r.place ∷ r.follows ∷ r.location ∷ []) ∷ r.ranges ∷ []
 
 abbrev unfolded : Unfolding → List (List ℕ)
-unfolded u = ending (refusalOf (u .verdict)) ∷ u .ptrBytes ∷ u .cellBytes ∷ []
+unfolded u = ending (refusal_of u.verdict) ∷ u.ptr_bytes ∷ u.cell_bytes ∷ []
 
 abbrev stepped : Stepping → List (List ℕ)
-stepped s = (ending (refusalOf (stepVerdict (s .answer))) ++ stepNumbers (s .answer)) ∷ s .ptrBytes ∷ s .cellBytes ∷ []
+stepped s = (ending (refusal_of (step_verdict s.answer)) ++ step_numbers s.answer) ∷ s.ptr_bytes ∷ s.cell_bytes ∷ []
 
 '''
 
@@ -136,26 +132,27 @@ def translate_call(bs, a, b):
 
 
 def fold_call(ps, cs):
-    return 'folded (foldImage (%s) (%s))' % (numbers(ps), numbers(cs))
+    return 'folded (fold_image (%s) (%s))' % (numbers(ps), numbers(cs))
 
 
 def unfold_call(record, counts, ps, cs):
-    return 'unfolded (unfoldImage (%s) (%s) (%s) (%s))' % (data(record), numbers(counts), numbers(ps), numbers(cs))
+    return 'unfolded (unfold_image (%s) (%s) (%s) (%s))' % (data(record), numbers(counts), numbers(ps), numbers(cs))
 
 
 def step_call(record, pick, cell, ps, cs):
-    return 'stepped (stepImage (%s) %d %d (%s) (%s))' % (data(record), pick, cell, numbers(ps), numbers(cs))
+    return 'stepped (step_image (%s) %d %d (%s) (%s))' % (data(record), pick, cell, numbers(ps), numbers(cs))
 
 
 def theorem(number, group):
     """That each case of a group, a name, a call and the answer that is expected, has this answer."""
-    same = ' && '.join('sameList (sameList eqb) (%s) (%s)' % case[1:] for case in group)
-    shut = 'check listing translate foldImage unfoldImage stepImage recordPart searched keepsLayout moved walked ranging'
+    same = ' && '.join('same_list (same_list eqb) (%s) (%s)' % case[1:] for case in group)
+    shut = 'check listing translate fold_image unfold_image step_image record_part searched keeps_layout moved walked ranging'
     return '-- %s\nc%d : %s ≡ true\nunfolding %s\nc%d = refl\n\n' % (group[0][0], number, same, shut, number)
 
 
 def write_crates(scratch, modules):
-    """The definitions, and a crate for each module. Its theorems are numbered through all of them."""
+    """The definitions, and a crate for each module. Its theorems are numbered through all of them. They stand in proofs/, since a
+    statement of specs/ that no contract names may stay unproved."""
     number = 0
     for part in ('specs', 'src'):
         shutil.copytree(os.path.join(ROOT, 'crates', 'model', part), os.path.join(scratch, 'crates', 'model', part))
@@ -163,11 +160,11 @@ def write_crates(scratch, modules):
     write('crates.txt', 'model:\n' + ''.join('compared%d: model\n' % i for i in range(len(modules))))
     for i, groups in enumerate(modules):
         crate = os.path.join('crates', 'compared%d' % i)
-        os.makedirs(os.path.join(scratch, crate, 'specs'))
+        os.makedirs(os.path.join(scratch, crate, 'proofs'))
         os.makedirs(os.path.join(scratch, crate, 'src'))
-        write(crate + '/src/lib.rt', 'pub fn nothing(x: u8) -> u8 {\n    x\n}\n')
-        write(crate + '/specs/Lib.antt', 'pub mod Compared\n')
-        write(crate + '/specs/Compared.antt', HEAD + ''.join(theorem(number + n, group) for n, group in enumerate(groups)))
+        write(crate + '/src/lib.rt', '#![tactic(auto)]\n\npub fn nothing(x: u8) -> u8 {\n    x\n}\n')
+        write(crate + '/proofs/Lib.antt', 'pub mod Compared\n')
+        write(crate + '/proofs/Compared.antt', HEAD + ''.join(theorem(number + n, group) for n, group in enumerate(groups)))
         number += len(groups)
 
 
@@ -175,14 +172,19 @@ def untrue(modules):
     """The numbers of the theorems that do not hold; none where the prover failed otherwise, so that nothing was compared."""
     with tempfile.TemporaryDirectory() as scratch:
         write_crates(scratch, modules)
-        run = subprocess.run(['rt', 'check'], cwd=scratch, stdout=subprocess.PIPE, stderr=subprocess.STDOUT)
-    out = run.stdout.decode()
-    bad = re.findall(r'crates/(\w+)/specs/Compared\.antt:\S* error: `c(\d+)`', out)
-    unproved = {name for name in map('compared%d'.__mod__, range(len(modules))) if 'rt: %s proved' % name not in out}
-    if unproved != {name for name, _ in bad} or run.returncode and not bad:
-        print(out[-3000:])
+        run = subprocess.run(['rt', 'all', 'check'], cwd=scratch, stdout=subprocess.PIPE, stderr=subprocess.STDOUT)
+    # what is said of each crate, under a line '== NAME', and at the end how each did
+    *said, summary = re.split(r'^== ', run.stdout.decode(), flags=re.M)
+    errors = {name: re.findall(r'^\S+:\d+:\d+: error: (.*)', text, re.M) for name, _, text in (s.partition('\n') for s in said)}
+    bad = {name: [m[1] for text in texts if (m := re.match(r'`c(\d+)`: ', text))] for name, texts in errors.items()}
+    proved = {name for name in bad if '\n%s: ok\n' % name in summary}
+    names = {'model', *map('compared%d'.__mod__, range(len(modules)))}
+    # where there is another error, the theorems that need what it is about are not looked at
+    other = any(len(bad[name]) < len(errors[name]) for name in bad)
+    if other or names - proved != {name for name in bad if bad[name]} or bool(run.returncode) != any(bad.values()):
+        print(run.stdout.decode()[-3000:])
         return None
-    return sorted({int(number) for _, number in bad})
+    return sorted({int(number) for numbers in bad.values() for number in numbers})
 
 
 def compare(modules):

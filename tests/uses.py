@@ -6,10 +6,11 @@ ROOT = pathlib.Path(__file__).resolve().parent.parent
 CRATES = ROOT / "crates"
 # the crate that Rust and C link
 LIBRARY = "currantplane"
-KIT = {"bytes", "check", "io", "libc", "os"}
+# the kit's library that lines of crates.txt may name, for a number's digits and for buffers; std is always there, and no line names it
+KIT = {"io"}
 
-# Rattle·NAME.specs.X of another crate, Rattle·NAME·specs.specs.X of the own one; the same with proofs
-MODULE = re.compile(r"Rattle·(\w+)(?:·\w+)?\.([\w.-]*[\w-])")
+# Rattle.NAME.specs.X, of the own crate too; the same with proofs
+MODULE = re.compile(r"(?<![\w.])Rattle\.(\w+)\.([\w.'-]*[\w'-])")
 # the first name of a path in code
 CODE_PATH = re.compile(r"(?<![\w:])([a-z]\w*)::")
 
@@ -17,11 +18,14 @@ CODE_PATH = re.compile(r"(?<![\w:])([a-z]\w*)::")
 def listed():
     """The lines of crates.txt: each crate with those that it names, in their order."""
     rows = (line.split("#")[0].split(":") for line in (ROOT / "crates.txt").read_text(encoding="utf8").splitlines())
-    return {row[0].strip(): row[1].split() for row in rows if len(row) == 2}
+    # after the name it may say that the crate is a static library
+    return {row[0].split()[0]: row[1].split() for row in rows if len(row) == 2}
 
 
 def sources(crate, part, ending):
-    return sorted((CRATES / crate / part).rglob(f"*.{ending}"))
+    """The sources of a crate, without what a check writes."""
+    found = (CRATES / crate / part).rglob(f"*.{ending}")
+    return sorted(file for file in found if "out" not in file.relative_to(CRATES / crate).parts[:1])
 
 
 def lines(file):
@@ -38,7 +42,7 @@ def declared(file):
 
 
 def modules(file):
-    """The modules of the repository that a file names: place, crate, and the path in it, which begins with specs or proofs."""
+    """The modules of crates that a file names, std's too: place, crate, and the path in it, which begins with specs or proofs."""
     return [(place, m[1], tuple(m[2].split("."))) for place, line in lines(file) for m in MODULE.finditer(line)]
 
 
@@ -46,12 +50,12 @@ def used_by(crate):
     """The other crates that a crate's files name, each with its places."""
     code = sources(crate, "src", "rt")
     # a module of the crate itself may have a crate's name
-    known = (KIT | set(listed())) - {name for file in code for name in declared(file)}
+    known = KIT | set(listed()) - {name for file in code for name in declared(file)}
     found = [(other, place) for file in sources(crate, ".", "antt") + code for place, other, _ in modules(file)]
     found += [(name, place) for file in code for place, line in lines(file) for name in CODE_PATH.findall(line) if name in known]
     used = {}
     for other, place in found:
-        if other != crate:
+        if other not in (crate, "std"):
             used.setdefault(other, []).append(place)
     return used
 

@@ -101,16 +101,16 @@ class Walks:
     def layout(self, ts, counts, at, cs):
         """Whether the layout is broken: what an empty walk from a configuration of a sound location says."""
         told = self.walk(ts, counts, at, cs, [])[0][0]
-        return told, 'layoutOf ' + self.tables_call(ts, counts), lists([[int(not told)]])
+        return told, 'layout_of ' + self.tables_call(ts, counts), lists([[int(not told)]])
 
     def case(self, ts, counts, at, cs, path):
         """A walk, and where it is one edge the single move as well."""
         numbers, after = self.walk(ts, counts, at, cs, path)
         inner = '%s %d (%s) (%s)' % (self.tables_call(ts, counts), at, spelled(cs), spelled(path))
-        yield 'walkedBy ' + inner, lists([numbers, after])
+        yield 'walked_by ' + inner, lists([numbers, after])
         if len(path) == 1:
             inner = '%s %d (%s) %d' % (self.tables_call(ts, counts), at, spelled(cs), path[0])
-            yield 'movedBy ' + inner, lists([[numbers[0], numbers[2]], after])
+            yield 'moved_by ' + inner, lists([[numbers[0], numbers[2]], after])
 
 
 def spelled(xs):
@@ -139,7 +139,7 @@ def layout_cases(walks):
             ('last location left out', ts, (3, 4), 0), ('and an edge to it', ts, (3, 5), 1),
             ('damage past the counts', tables([(L, 3, 0, 9), (E, 4, 0, 9)]), (3, 4), 0), ('far past', ts, (4, 2 ** 63), 1)):
         if broken is None:
-            yield 'layout: ' + name, 'layoutOf ' + walks.tables_call(ts, counts), lists([[1]])
+            yield 'layout: ' + name, 'layout_of ' + walks.tables_call(ts, counts), lists([[1]])
             continue
         told, call, expected = walks.layout(ts, counts, 0, filled([1, 1]))
         if told != 20 * broken:

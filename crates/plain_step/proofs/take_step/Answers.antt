@@ -1,6 +1,6 @@
 -- `take_step` meets its contract: the entry is refused, a stop, a fault, or the step is made.
 use Rattle.image_checks.proofs.StepChecks.{checked_six, checked_wide}
-use Rattle.plain_step.proofs.StepLaws.{Checked, decoded_fields, step_faulted, ready, step_refused, step_stopped, step_went}
+use Rattle.plain_step.proofs.StepLaws.{Checked, decoded_fields, step_faulted, step_ready, step_refused, step_stopped, step_went}
 use Rattle.plain_step.proofs.take_step.Goals as goal
 use Rattle.plain_step.proofs.take_step.Goals.{After-decode-d}
 
@@ -41,7 +41,7 @@ pub run_statement-failed-requires : goal.run_statement-failed-requires
 run_statement-failed-requires c =
     let t = c in
     let e = t in
-    ready (checked (goal.at.run_statement-failed-requires c).After-decode-d) e.entry_ok.ensures t.if-not-entry_ok.false
+    step_ready (checked (goal.at.run_statement-failed-requires c).After-decode-d) e.entry_ok.ensures t.if-not-entry_ok.false
 
 pub returns-then-failed-ne0 : goal.returns-then-failed-ne0
 returns-then-failed-ne0 c =
