@@ -1,4 +1,4 @@
-// Links the proved library as `rt staticlib currantplane` wrote it.
+// Links the proved library as `./archive` made it.
 fn main() {
     let dir = concat!(env!("CARGO_MANIFEST_DIR"), "/../target/staticlib");
     println!("cargo:rustc-link-search=native={dir}");

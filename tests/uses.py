@@ -6,8 +6,8 @@ ROOT = pathlib.Path(__file__).resolve().parent.parent
 CRATES = ROOT / "crates"
 # the crate that Rust and C link
 LIBRARY = "currantplane"
-# the kit's libraries that lines of crates.txt may name: none; std is always there, and no line names it
-KIT = set()
+# the kit's library that lines of crates.txt may name, for a number's digits and for buffers; std is always there, and no line names it
+KIT = {"io"}
 
 # Rattle.NAME.specs.X, of the own crate too; the same with proofs
 MODULE = re.compile(r"(?<![\w.])Rattle\.(\w+)\.([\w.'-]*[\w'-])")

@@ -2,11 +2,12 @@
 // output.
 #![tactic(auto)]
 
-ghost use Rattle.std.specs.Prelude.{◌≡◌, ◌≤◌, length, take};
+ghost use Rattle.std.specs.Prelude.{◌≡◌, ◌<◌, ◌≤◌, IfOk, IfSome, OnOk, length, take};
+ghost use Rattle.std.specs.Io.KnownBytes.{Appends, Consumes, IsAtEnd};
 ghost use Rattle.io.specs.Counts.{IsPrefixLen};
 ghost use Rattle.translate.specs.Printed.{printed};
 
-use libc::{STDIN_FILENO, STDOUT_FILENO};
+use std::io::{Read, Result, Write};
 
 // A table for 1,024 locations.
 fn location_table() -> [u8; 32768]
@@ -34,10 +35,37 @@ fn write_answer(input: &[u8], n: usize, text: &mut [u8]) -> usize
     text::write_outcome(outcome, &locations, &edges, text)
 }
 
-fn main() {
+// Reads until the buffer is full or the input ends, however few bytes each read gives; answers how many.
+fn read_full<R: Read>(from: &mut R, buffer: &mut [u8]) -> Result<usize>
+    ensures prefix_len { IfOk result (λ n. IsPrefixLen n buffer.new) }
+    ensures read { IfOk result (λ n.
+        Consumes (R.remaining from.old) (R.remaining from.new) (take n buffer.new)) }
+    ensures whole { IfOk result (λ n. n < length buffer.new → IsAtEnd (R.remaining from.new)) }
+{
+    let mut done = 0;
+    while done < buffer.len() {
+        let n = from.read(&mut buffer[done..])?;
+        if n == 0 {
+            return Ok(done);
+        }
+        done += n;
+    }
+    Ok(done)
+}
+
+// Where the bytes that are read and those that are written are known, as in memory: without an error the whole text
+// for the input is written, and nothing else.
+fn answer<R: Read, W: Write>(from: &mut R, to: &mut W) -> Result<()>
+    ensures { OnOk result (IfSome (R.remaining from.old) (λ input.
+        Appends (W.contents to.old) (W.contents to.new) (printed input))) }
+{
     let mut input = io::buffer();
     let mut text = text_room();
-    let n = io::read_full(STDIN_FILENO, &mut input);
+    let n = read_full(from, &mut input)?;
     let end = write_answer(&input, n, &mut text);
-    io::write_all(STDOUT_FILENO, &text[..end]);
+    to.write_all(&text[..end])
+}
+
+fn main(rt: HostRuntime) -> Result<()> {
+    answer(&mut rt.stdin(), &mut rt.stdout())
 }

@@ -2,8 +2,7 @@
 use mathlib.Core.Path.{◌≡◌, refl}
 use mathlib.Core.Bool.{Bool, true, false, ◌||◌}
 use lib.Dec.{eqb}
-use Rattle.text.proofs.tells_node.Statement.{statement}
-use Rattle.text.proofs.tells_node.Tie as tie
+use Rattle.text.proofs.tells_node.Goals as goal
 
 or_three : (a b c : Bool) → (a || b) || c ≡ a || (b || (c || false))
 or_three true b c = refl
@@ -11,8 +10,5 @@ or_three false true c = refl
 or_three false false true = refl
 or_three false false false = refl
 
-returns : tie.Need-returns
+pub returns : goal.returns
 returns c = let n = c.args.number in or_three (eqb n 9) (eqb n 18) (eqb n 19)
-
-pub tells-node-spec : {M : Type 1} → statement M
-tells-node-spec = tie.close (tie.spec returns)

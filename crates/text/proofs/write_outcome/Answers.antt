@@ -1,0 +1,20 @@
+-- `write_outcome` meets its contract: the text of each case.
+use mathlib.Core.Path.{◌∙◌}
+use borrow.Author.Rules.{rules}
+use Rattle.text.proofs.Outcome.{listed_text, refused_text}
+use Rattle.text.proofs.write_outcome.Goals as goal
+
+pub write_tables-requires : goal.write_tables-requires
+write_tables-requires c = (rw c.in-Listed.is at c.requires.0, search rules)
+
+pub returns-in-Listed : goal.returns-in-Listed
+returns-in-Listed c =
+    let w = c.write_tables in
+    let a = c.args in
+    (w.ensures.0, w.ensures.1 ∙ listed_text a.locations.now a.edges.now c.in-Listed.is)
+
+pub returns-in-Refused : goal.returns-in-Refused
+returns-in-Refused c =
+    let w = c.write_refusal in
+    let a = c.args in
+    (search rules, w.ensures.1 ∙ refused_text a.locations.now a.edges.now c.in-Refused.is)
