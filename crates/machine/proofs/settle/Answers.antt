@@ -17,6 +17,5 @@ returns-then-keeps_all c =
 
 pub returns-else-keeps_all : goal.returns-else-keeps_all
 returns-else-keeps_all c =
-    let a = c.args in
-    let e = ne_eqb a.op 13 c.if-op-eq13.false in
+    let e = ne_eqb c.args.op 13 c.if-op-eq13.false in
     record { fault = rw (e, sym c.keeps_all.ensures, c.if-keeps_all.false); cells = rw e }
