@@ -1,11 +1,9 @@
 -- A run by its parts: the effect, and then what becomes of lost cells. Assumes nothing.
-use Prim.Native.Nat.{ℕ, zero, suc}
-use mathlib.Core.Path.{◌≡◌, refl, sym, ◌∙◌, ap}
+use Prim.Native.Nat.{ℕ}
+use mathlib.Core.Path.{◌≡◌, sym, ◌∙◌, ap}
 use mathlib.Core.Bool.{Bool, true, false, cond}
 use Rattle.model.specs.Heap.{Heap, kept}
-use Rattle.model.specs.Machine.{Op, at_null, at_undef, collect, collects, done, effect, fault, kind, leak, settle, carry_out}
-use Rattle.model.proofs.expansion.Collect.{settle_fault}
-use Rattle.effect.specs.Effect.{effect_of}
+use Rattle.model.specs.Machine.{Op, collect, collects, done, effect, fault, kind, leak, settle, carry_out}
 
 -- a finished effect, where lost cells are collected, and where they are a leak
 module _ (op : Op) (n : ℕ) (h g : Heap) (d : effect op n h ≡ done g) where

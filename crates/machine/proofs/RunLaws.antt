@@ -22,14 +22,13 @@ use Rattle.effect.proofs.Laws.{effect_closed, image_slots}
 use Rattle.visit.proofs.Whole.{kept_held}
 use Rattle.visit.proofs.Laws.{kept_marked, visited_length}
 use Rattle.visit.specs.Visit.{Held, VisitReady, Visited}
-use Rattle.machine.proofs.Laws.{run_collects, run_fault, run_keeps}
+use Rattle.machine.proofs.Laws.{run_collects, run_keeps}
 use Rattle.model.specs.Structs.{op_in}
 use Rattle.model.specs.declared.Decoded.{Decoded}
 use Rattle.std.specs.Prelude.{Result, Ok, Err}
 use Rattle.std.specs.Result.{IfOk}
-use Rattle.model.specs.Codes.{fault_in, fault_number, op_number}
+use Rattle.model.specs.Codes.{fault_in, op_number}
 use Rattle.model.specs.declared.codes.Fault.{Fault}
-use Rattle.model.specs.declared.codes.Fault.TheVariants as fault
 use Rattle.collection.specs.Left.{left_bytes}
 use Rattle.collection.proofs.Laws.{left_heap, left_held, left_length}
 use Rattle.machine.specs.Run.{Bytes, IsRun, RunDone, RunReady, Settled, all_marked, bytes, heap_in, kept_by}
