@@ -66,27 +66,21 @@ pub fn cut(order: &[u8], held: &[u8], node: &mut [u8], last: &mut [u8], size: &m
     ensures past { drop result size.new ≡ drop result size.old }
 {
     let mut k = 0;
-    let mut i = 0;
-    while i < order.len() {
-        k = put(order[i], k, held, node, last, size);
-        i += 1;
+    for c in order {
+        k = put(*c, k, held, node, last, size);
     }
     k
 }
 
-// The place of the first core cell from `from` on, or where the order ends: so far goes the segment that begins before.
-fn run_end(order: &[u8], held: &[u8], from: usize) -> usize
-    requires { Within order.now held.now }
-    ensures { result ≡ from + inner held.now (drop from order.now) }
+// How many of the cells come before the first core cell, or all: so far goes a segment that begins before them.
+fn run_length(cells: &[u8], held: &[u8]) -> usize
+    requires { Within cells.now held.now }
+    ensures { result ≡ inner held.now cells.now }
 {
-    let mut i = from;
-    while i < order.len() {
-        if 2 <= held[order[i] as usize] {
-            return i;
-        }
-        i += 1;
-    }
-    i
+    cells
+        .iter()
+        .position(|c| 2 <= held[*c as usize])
+        .unwrap_or(cells.len())
 }
 
 // Each of the cells gets the node.
@@ -94,10 +88,8 @@ fn name_cells(cells: &[u8], n: Node, node: &mut [u8])
     requires { Within cells.now node.old }
     ensures { node.new ≡ named cells.now n.0 node.old }
 {
-    let mut i = 0;
-    while i < cells.len() {
-        node[cells[i] as usize] = n.0;
-        i += 1;
+    for c in cells {
+        node[*c as usize] = n.0;
     }
 }
 
@@ -116,9 +108,10 @@ pub fn cut_long(
 {
     let mut k = 0;
     let mut i = 0;
+    // counts no index: each turn goes to the end of a segment
     while i < order.len() {
         let next = i + 1;
-        let end = run_end(order, held, next);
+        let end = next + run_length(&order[next..], held);
         name_cells(&order[i..end], Node(k as u8), node);
         last[k] = order[end - 1];
         size[k] = (end - i) as u32;
