@@ -4,8 +4,17 @@
 ghost use Rattle.std.specs.Prelude.{◌≡◌, ◌+◌, ◌-◌, ◌<◌, ◌≤◌, length, get_or, drop};
 ghost use Rattle.model.specs.Base.{most_cells};
 ghost use Rattle.segment.specs.Cut.{CutReady, Entered, IsCut, Put, PutReady, Within, held_core, inner, named, segs, cut_tables};
+ghost use Rattle.segment.specs.Lent.{SameTables, tables_in};
 
 use model::Node;
+
+// The tables that a cut fills: of each cell its segment's number, of each segment its last cell and its size.
+#[derive(Drop)]
+struct Tables<'a> {
+    node: &'a mut [u8],
+    last: &'a mut [u8],
+    size: &'a mut [u32],
+}
 
 // The node of the last of k segments.
 fn last_node(k: usize) -> Node
@@ -15,46 +24,34 @@ fn last_node(k: usize) -> Node
     Node((k - 1) as u8)
 }
 
-// The segment of node n begins with the cell.
-fn begin(head: u8, n: Node, node: &mut [u8], last: &mut [u8], size: &mut [u32])
-    requires { (head < length node.old) × (n.0 < length last.old) × (n.0 < length size.old) }
-    ensures { Entered head n.0 1
-        (cut_tables node.old last.old size.old)
-        (cut_tables node.new last.new size.new) }
-{
-    let j = n.0 as usize;
-    node[head as usize] = n.0;
-    last[j] = head;
-    size[j] = 1;
-}
-
-// The cell goes behind the segment of node n.
-fn extend(c: u8, n: Node, node: &mut [u8], last: &mut [u8], size: &mut [u32])
-    requires { (c < length node.old) × (n.0 < length last.old) × (n.0 < length size.old)
-        × (get_or size.old n.0 0 < most_cells) }
-    ensures { Entered c n.0 (get_or size.old n.0 0 + 1)
-        (cut_tables node.old last.old size.old)
-        (cut_tables node.new last.new size.new) }
-{
-    let j = n.0 as usize;
-    node[c as usize] = n.0;
-    last[j] = c;
-    size[j] += 1;
-}
-
-// One cell more, where k segments have begun: a core cell begins one, any other goes behind the last.
-fn put(c: u8, k: usize, held: &[u8], node: &mut [u8], last: &mut [u8], size: &mut [u32]) -> usize
-    requires { PutReady c k held.now (cut_tables node.old last.old size.old) }
-    ensures { Put (held_core held.now c) c k
-        (cut_tables node.old last.old size.old)
-        (cut_tables node.new last.new size.new) result }
-{
-    if 2 <= held[c as usize] {
-        begin(c, Node(k as u8), node, last, size);
-        return k + 1;
+impl Tables<'_> {
+    // The cell is the last so far of the segment of node n, which has so many cells with it.
+    fn enter(&mut self, c: u8, n: Node, count: u32)
+        requires { (c < length self.old.node.now) × (n.0 < length self.old.last.now) × (n.0 < length self.old.size.now) }
+        ensures entered { Entered c n.0 count (tables_in self.old) (tables_in self.new) }
+        ensures same { SameTables self.old self.new }
+    {
+        let j = n.0 as usize;
+        self.node[c as usize] = n.0;
+        self.last[j] = c;
+        self.size[j] = count;
     }
-    extend(c, last_node(k), node, last, size);
-    k
+
+    // One cell more, where k segments have begun: a core cell begins one, any other goes behind the last.
+    fn put(&mut self, c: u8, k: usize, held: &[u8]) -> usize
+        requires { PutReady c k held.now (tables_in self.old) }
+        ensures put { Put (held_core held.now c) c k (tables_in self.old) (tables_in self.new) result }
+        ensures same { SameTables self.old self.new }
+    {
+        if 2 <= held[c as usize] {
+            self.enter(c, Node(k as u8), 1);
+            return k + 1;
+        }
+        let n = last_node(k);
+        let count = self.size[n.0 as usize] + 1;
+        self.enter(c, n, count);
+        k
+    }
 }
 
 // Cuts the order before each core cell. Of each segment it keeps the last cell and the size, of each cell the number
@@ -65,9 +62,10 @@ pub fn cut(order: &[u8], held: &[u8], node: &mut [u8], last: &mut [u8], size: &m
         (cut_tables node.new last.new size.new) result }
     ensures past { drop result size.new ≡ drop result size.old }
 {
+    let mut tables = Tables { node, last, size };
     let mut k = 0;
     for c in order {
-        k = put(*c, k, held, node, last, size);
+        k = tables.put(*c, k, held);
     }
     k
 }
