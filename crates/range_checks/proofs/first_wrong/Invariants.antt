@@ -1,5 +1,5 @@
 -- `range_checks::first_wrong` meets its contract: the place found is the first counter with a range that is none.
-use Prim.Native.Nat.{ℕ, ◌-◌, ◌≤◌}
+use Prim.Native.Nat.{ℕ}
 use mathlib.Core.Bool.{Bool, not}
 use mathlib.Core.List.{List}
 use Rattle.model.specs.Ranges.{first_wrong, range_keeps}
@@ -10,7 +10,4 @@ abbrev pub wrong : List ℕ → ℕ → Bool
 wrong rs i = not (range_keeps rs i)
 
 abbrev pub invariant-loop-i : goal.invariant-loop-i
-invariant-loop-i l = (l.i ≤ l.k) × Found (wrong l.ranges) l.k (first_wrong l.k l.ranges) l.i
-
-abbrev pub decreases-loop-i : goal.decreases-loop-i
-decreases-loop-i l = l.k - l.i
+invariant-loop-i l = Found (wrong l.ranges) l.k (first_wrong l.k l.ranges) l.i
