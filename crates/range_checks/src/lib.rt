@@ -28,12 +28,7 @@ pub fn first_wrong(ranges: &[u32], k: usize) -> Option<usize>
     ensures { MatchOption result (first_wrong k ranges.now ≡ k)
         (λ i. (i < k) × (first_wrong k ranges.now ≡ i)) }
 {
-    for i in 0..k {
-        if !range_keeps(given(ranges, i), given(ranges, MOST_NODES + i)) {
-            return Some(i);
-        }
-    }
-    None
+    (0..k).find(|i| !range_keeps(given(ranges, *i), given(ranges, MOST_NODES + *i)))
 }
 
 // Whether an edge is in the table and leaves a location.
