@@ -9,7 +9,7 @@ ghost use Rattle.model.specs.Runs.{guards_of};
 ghost use Rattle.update_layout.specs.Kept.{codes_in};
 
 use layout::fields::all_zero;
-use model::{Guard, Guards, Node};
+use model::{Guard, Guards, Node, record_at};
 use update_layout::{guard_keeps, updates_keep};
 
 // The guards that an edge's record holds.
@@ -35,7 +35,7 @@ pub fn nodes_at(locations: &[u8], number: usize) -> u8
     requires { record_size * number + record_size ≤ length locations.now }
     ensures { result ≡ byte (record_at locations.now number) 3 }
 {
-    locations[model::RECORD * number + 3]
+    record_at(locations, number)[3]
 }
 
 // Whether a record whose ends are locations keeps the layout, where these have so many nodes.
