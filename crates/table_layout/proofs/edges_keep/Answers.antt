@@ -8,7 +8,7 @@ use Rattle.std.proofs.lemmas.Iterator.Search.{all_from_yields_List}
 use Rattle.model.specs.Layout.{edge_keeps_in}
 use Rattle.model.specs.Records.{record_at}
 use Rattle.model.specs.Structs.{tables_of}
-use Rattle.table_layout.proofs.Ranges.{all_range, record_whole}
+use Rattle.edge_layout.proofs.Ranges.{all_range, record_whole}
 use Rattle.table_layout.proofs.edges_keep.Goals as goal
 
 pub all-requires-clause-callable : goal.all-requires-clause-callable

@@ -7,7 +7,7 @@ use Rattle.std.proofs.lemmas.Iterator.{serves_from_Range, YieldsList-from_range}
 use Rattle.std.proofs.lemmas.Iterator.Search.{all_from_yields_List}
 use Rattle.model.specs.Layout.{location_keeps}
 use Rattle.model.specs.Records.{record_at}
-use Rattle.table_layout.proofs.Ranges.{all_range, record_whole}
+use Rattle.edge_layout.proofs.Ranges.{all_range, record_whole}
 use Rattle.table_layout.proofs.locations_keep.Goals as goal
 
 pub all-requires-clause-callable : goal.all-requires-clause-callable
