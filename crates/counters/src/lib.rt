@@ -33,5 +33,5 @@ pub fn counters_fit(k: usize, counters: &[u32], n: usize) -> bool
     requires { k ≤ most_nodes }
     ensures { result ≡ counters_fit k counters.now n }
 {
-    counters.len() == model::MOST_NODES && counters_of(k, counters) & (total(counters) <= n as u64)
+    counters.len() == model::MOST_NODES && counters_of(k, counters) && (total(counters) <= n as u64)
 }
