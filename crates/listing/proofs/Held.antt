@@ -131,20 +131,19 @@ module _ (t : Listing) (i : ℕ) (e : Edge) (ls es ix r us : List ℕ) (m : Edge
   still_distinct =
       subst (λ k. Distinct (grown i k e t).locs) (sym number_is) (extend_distinct i (e ∷ []) t H.distinct)
 
-  -- 11: no place for a new location
+  -- no place for a new location
   pub full_locations : places most_locations (length ls) ≤ j → GrownTo t i e ls es ix c (Err LocationsFull)
-  full_locations h =
-      let none = le-ltb j (places most_locations (length ls)) h in
-      rw (← number_is) (none, (λ z. absurd (omega arith)), omega arith, omega arith)
+  full_locations h = rw (← number_is) (le-ltb j (places most_locations (length ls)) h)
 
-  -- 12: no place for the edge
+  -- no place for the edge
   pub full_edges : j < places most_locations (length ls) → places most_edges (length es) ≤ c.edges
       → GrownTo t i e ls es ix c (Err EdgesFull)
   full_edges h k =
       let n = H.edge_number in
-      let full : ltb (length t.links) (places most_edges (length es)) ≡ false =
-      le-ltb (length t.links) (places most_edges (length es)) (omega arith) in
-      rw (← number_is) (lt-ltb j (places most_locations (length ls)) h, (λ z. full), omega arith, omega arith)
+      rw (← number_is) (
+        lt-ltb j (places most_locations (length ls)) h,
+        le-ltb (length t.links) (places most_edges (length es)) (omega arith),
+      )
 
   links_next : c.edges < places most_edges (length es)
       → LinksKept (length es) (grown i j e t).links

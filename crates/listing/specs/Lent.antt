@@ -1,5 +1,5 @@
 -- A listing as the code lends it: the two tables, the index and the counts. Assumes nothing.
-use Rattle.std.specs.Prelude.{ℕ, ◌≡◌, List, Result}
+use Rattle.std.specs.Prelude.{ℕ, ◌≡◌, List, Result, length}
 use Rattle.model.specs.declared.EdgeMade.{EdgeMade}
 use Rattle.model.specs.declared.codes.Reason.{Reason}
 use Rattle.index.specs.Index.{index_kept}
@@ -7,10 +7,14 @@ use Rattle.location_table.specs.Target.{count_kept, target_kept}
 use Rattle.listing.specs.Grow.{GrowReady, Grows}
 use Rattle.listing.specs.declared.Listing.{Listing}
 
--- it is lent in the same places, whatever is in them
-abbrev pub SamePlaces : Listing → Listing → Type 0
-SamePlaces l l' = (l'.locations.ghost_name ≡ l.locations.ghost_name) × (l'.edges.ghost_name ≡ l.edges.ghost_name)
-    × (l'.index.ghost_name ≡ l.index.ghost_name)
+-- it is lent in the same places, as long as they were, whatever is in them
+pub record SamePlaces (l l' : Listing) : Type 0 where
+  pub locations : l'.locations.ghost_name ≡ l.locations.ghost_name
+  pub edges : l'.edges.ghost_name ≡ l.edges.ghost_name
+  pub index : l'.index.ghost_name ≡ l.index.ghost_name
+  pub locations_length : length l'.locations.now ≡ length l.locations.now
+  pub edges_length : length l'.edges.now ≡ length l.edges.now
+  pub index_length : length l'.index.now ≡ length l.index.now
 
 -- an edge can be added
 abbrev pub Ready : Listing → ℕ → EdgeMade → List ℕ → List ℕ → Type 0
