@@ -9,8 +9,7 @@ use lib.ListN.{length}
 use borrow.Author.Tests.{eq-eqb, eqb-true, le-leb, lt-leb, ne_eqb}
 use Rattle.model.specs.Image.{check_counters, checks_unfold, counters_fit}
 use Rattle.model.specs.Records.{byte, checks_nodes, layout_h, shape_of, unless}
-use Rattle.model.specs.Structs.{Tells, failing}
-use Rattle.model.specs.declared.Failure.{Failure}
+use Rattle.model.specs.Structs.{Failed, Tells, failing}
 use Rattle.model.proofs.lists.Logic.{and_l, and_r}
 use Rattle.model.proofs.records.Checks.{given_tells, pass_tells, tells_after, tells_before, tells_past}
 use Rattle.model.proofs.records.ShapeBack.{layout_few}
@@ -53,7 +52,7 @@ module _ {r vs : List ℕ} {np nc : ℕ} where
   laid_few L = layout_few r L.wide L.layout
 
   -- what is told behind the lengths and the layout
-  past_layout : Laid r vs np nc → {f : Failure} → Tells (checks_nodes (shape_of r) ++ check_counters r vs nc ∷ []) f
+  past_layout : Laid r vs np nc → {f : Failed} → Tells (checks_nodes (shape_of r) ++ check_counters r vs nc ∷ []) f
       → Tells (checks_unfold r vs np nc) f
   past_layout L t =
       let nodes = checks_nodes (shape_of r) ++ check_counters r vs nc ∷ [] in
@@ -61,7 +60,7 @@ module _ {r vs : List ℕ} {np nc : ℕ} where
       tells_past (unless 13 (eqb np 6 && leb nc 240)) (layout ∷ nodes) (good_lengths L.sized)
       (tells_past layout nodes (rw (eq-eqb (length r) 32 L.wide) L.layout) t)
 
-  module _ (L : Laid r vs np nc) {f : Failure} (t : Tells (checks_nodes (shape_of r)) f) where
+  module _ (L : Laid r vs np nc) {f : Failed} (t : Tells (checks_nodes (shape_of r)) f) where
     pub tells_nodes : (f.number ≡ 0 → ⊥) → Tells (checks_unfold r vs np nc) f
     tells_nodes z = past_layout L (tells_before (checks_nodes (shape_of r)) (check_counters r vs nc ∷ []) z t)
 

@@ -10,13 +10,7 @@ ghost use Rattle.layout.specs.Checked.{head_h};
 pub fn all_zero(bytes: &[u8]) -> bool
     ensures { result ≡ all is_zero bytes.now }
 {
-    let mut met: u8 = 0;
-    let mut i = 0;
-    while i < bytes.len() {
-        met |= bytes[i];
-        i += 1;
-    }
-    met == 0
+    bytes.iter().fold(0, |met, b| met | *b) == 0
 }
 
 // Whether a byte is a node below k, null or undefined.
@@ -30,13 +24,7 @@ pub fn value_byte(k: u8, b: u8) -> bool
 pub fn all_values(bytes: &[u8], k: u8) -> bool
     ensures { result ≡ all (value_byte k) bytes.now }
 {
-    let mut good = true;
-    let mut i = 0;
-    while i < bytes.len() {
-        good = good & value_byte(k, bytes[i]);
-        i += 1;
-    }
-    good
+    bytes.iter().fold(true, |good, b| good & value_byte(k, *b))
 }
 
 // ---- S records: which fields an op uses, and what stands in them
@@ -44,13 +32,13 @@ pub fn all_values(bytes: &[u8], k: u8) -> bool
 pub fn uses_u(op: u8) -> bool
     ensures { result ≡ uses_u op }
 {
-    ((1 <= op) & (op <= 9)) | (op == 12) | (op == 13)
+    matches!(op, 1..=9 | 12 | 13)
 }
 
 pub fn uses_w(op: u8) -> bool
     ensures { result ≡ uses_w op }
 {
-    (op == 2) | (op == 3) | (op == 5) | (op == 9) | (op == 12)
+    matches!(op, 2 | 3 | 5 | 9 | 12)
 }
 
 pub fn uses_first(op: u8) -> bool
@@ -62,7 +50,7 @@ pub fn uses_first(op: u8) -> bool
 pub fn uses_second(op: u8) -> bool
     ensures { result ≡ uses_second op }
 {
-    (8 <= op) & (op <= 10)
+    matches!(op, 8..=10)
 }
 
 // A used pointer is below 6, an unused one zero.

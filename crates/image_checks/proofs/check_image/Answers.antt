@@ -49,17 +49,17 @@ nothing_lost-requires c =
     let w : length s.args.seen.now ≡ 240 = ap length s.requires.1 in
     omega (arith, few (goal.at.nothing_lost-requires c).Else-not-lengths_ok, v.visit-n.auto.seen)
 
-pub returns-then-nothing_lost : goal.returns-then-nothing_lost
-returns-then-nothing_lost c =
+pub returns : goal.returns
+returns c =
     let v = c in
-    check_done (good (goal.at.returns-then-nothing_lost c).Else-not-is_closed) v.visit-n.ensures
-    c.nothing_lost.ensures c.if-nothing_lost.true
+    check_done (good (goal.at.returns c).Else-not-is_closed) v.visit-n.ensures
+    c.nothing_lost.ensures c.if-not-nothing_lost.false
 
-pub returns-else-nothing_lost : goal.returns-else-nothing_lost
-returns-else-nothing_lost c =
+pub returns-then-not-nothing_lost : goal.returns-then-not-nothing_lost
+returns-then-not-nothing_lost c =
     let v = c in
-    check_lost (good (goal.at.returns-else-nothing_lost c).Else-not-is_closed) v.visit-n.ensures
-    c.nothing_lost.ensures c.if-nothing_lost.false
+    check_lost (good (goal.at.returns-then-not-nothing_lost c).Else-not-is_closed) v.visit-n.ensures
+    c.nothing_lost.ensures c.if-not-nothing_lost.true
 
 pub is_closed-requires : goal.is_closed-requires
 is_closed-requires c = few (goal.at.is_closed-requires c).Else-not-lengths_ok

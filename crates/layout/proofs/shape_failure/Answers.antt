@@ -6,7 +6,7 @@ use lib.ListN.{drop, length-drop}
 use lib.Seq.{length-take-le}
 use Rattle.model.specs.Heap.{closed}
 use Rattle.model.specs.Records.{byte, checks_nodes}
-use Rattle.model.specs.Structs.{Tells}
+use Rattle.model.specs.Structs.{Tells, failed_in}
 use Rattle.model.proofs.records.ShapeBack.{layout_closed, layout_few, shape_image}
 use Rattle.layout.proofs.shape_failure.Goals as goal
 
@@ -40,5 +40,5 @@ returns c =
     let s = c in
     let r = s.args.rec.now in
     let e : (10 + byte r 3) - 10 ≡ byte r 3 = omega arith in
-    subst (λ h. Tells (checks_nodes h) c.node_failure.result) (sym (shape_image r s.requires.0 s.requires.1))
+    subst (λ h. Tells (checks_nodes h) (failed_in c.node_failure.result)) (sym (shape_image r s.requires.0 s.requires.1))
     (rw e at c.node_failure.ensures)
