@@ -22,22 +22,16 @@ use Rattle.effect.proofs.Laws.{effect_closed, image_slots}
 use Rattle.visit.proofs.Whole.{kept_held}
 use Rattle.visit.proofs.Laws.{kept_marked, visited_length}
 use Rattle.visit.specs.Visit.{Held, VisitReady, Visited}
-use Rattle.machine.proofs.Laws.{run_collects, run_fault, run_keeps}
+use Rattle.machine.proofs.Laws.{run_collects, run_keeps}
 use Rattle.model.specs.Structs.{op_in}
 use Rattle.model.specs.declared.Decoded.{Decoded}
 use Rattle.std.specs.Prelude.{Result, Ok, Err}
 use Rattle.std.specs.Result.{IfOk}
-use Rattle.model.specs.Codes.{fault_in, fault_number, op_number}
+use Rattle.model.specs.Codes.{fault_in, op_number}
 use Rattle.model.specs.declared.codes.Fault.{Fault}
-use Rattle.model.specs.declared.codes.Fault.TheVariants as fault
 use Rattle.collection.specs.Left.{left_bytes}
 use Rattle.collection.proofs.Laws.{left_heap, left_held, left_length}
 use Rattle.machine.specs.Run.{Bytes, IsRun, RunDone, RunReady, Settled, all_marked, bytes, heap_in, kept_by}
-
-fault_some : (f : Fault) → fault_number f ≡ 0 → ⊥
-fault_some fault.Null e = absurd (omega arith)
-fault_some fault.Undefined e = absurd (omega arith)
-fault_some fault.Leak e = absurd (omega arith)
 
 -- what a run answers that visited n cells, by what becomes of those that it lost
 abbrev pub at_end : Result (Unit {0}) Fault → ℕ → Result ℕ Fault
@@ -55,15 +49,6 @@ end_done (Err f) n P h = tt
 -- ---- a run: r and the image afterwards are what the effect answers
 module _ {d : Decoded} {x : ℕ} {before : Bytes} {visit seen : List ℕ} (p : RunReady d x before visit seen)
     (after : Bytes) where
-  -- a fault
-  pub run_faults : {f : Fault}
-      → HasEffect (effect (op_in d) x) before.pointers before.cells (fault_number f) after.pointers after.cells
-      → (visit' seen' : List ℕ) → IsRun d x before after visit' seen' (Err f)
-  run_faults {f} has visit' seen' = record {
-    outcome = run_fault (op_in d) x (fault_number f) (heap_in before) (heap_in after) has.outcome (fault_some f);
-    done = tt;
-  }
-
   module _ (has : HasEffect (effect (op_in d) x) before.pointers before.cells 0 after.pointers after.cells) where
     is_done_lem : effect (op_in d) x (heap_in before) ≡ done (heap_in after)
     is_done_lem = sym has.outcome

@@ -5,7 +5,7 @@ ghost use Rattle.std.specs.Prelude.{◌≡◌, length};
 ghost use Rattle.model.specs.Base.{record_size};
 ghost use Rattle.model.specs.Codes.{op_number};
 ghost use Rattle.model.specs.Machine.{target};
-ghost use Rattle.model.specs.Structs.{cuts_at, decoded, stmt_in};
+ghost use Rattle.model.specs.Structs.{cuts_at, decoded, keeps_at, stmt_in};
 
 use model::{Decoded, Op, Pointer, Statement};
 
@@ -35,4 +35,11 @@ pub fn cuts_next(op: Op) -> bool
     ensures { result ≡ cuts_at (op_number op) }
 {
     matches!(op, Op::Clear | Op::Store | Op::Free | Op::Relink)
+}
+
+// Whether the op leaves the heap: stop, the tests, choose and skip.
+pub fn leaves_heap(op: Op) -> bool
+    ensures { result ≡ keeps_at (op_number op) }
+{
+    matches!(op, Op::Stop | Op::IsNull | Op::Same | Op::Choose | Op::Skip)
 }
