@@ -99,7 +99,7 @@ module _ (s : List ℕ) (n : ℕ) (ls es ix : List ℕ) (c : Counts) where
       fuel t H lt = let few = (fits t H).0 in let num = H.loc_number in omega arith
 
       -- no location is left
-      pub explores_end : c'.locations ≤ i → AllExplored s n ls es ix c ls' es' ix' c' (Ok tt)
+      pub explores_end : c'.locations ≤ i → AllExplored s n ls es ix c ls' es' ix' (Ok c')
       explores_end h sts t K H O =
           let L = X sts t K H O in
           let num = L.held.loc_number in
@@ -133,7 +133,7 @@ module _ (s : List ℕ) (n : ℕ) (ls es ix : List ℕ) (c : Counts) where
 
         -- no place for an edge of this location
         pub explores_full : (r : Reason) → LocationExplored s n ls' es' ix' c' i ls'' es'' ix'' a (Err r)
-            → AllExplored s n ls es ix c ls'' es'' ix'' a (Err (refusal_for r i))
+            → AllExplored s n ls es ix c ls'' es'' ix'' (Err (refusal_for r i))
         explores_full r T sts t K H O =
             let L = X sts t K H O in
             let u = L.list in
@@ -156,7 +156,7 @@ module _ (s : List ℕ) (n : ℕ) (ls es ix : List ℕ) (c : Counts) where
 
         pub goes_no_further : (x : Result (Unit {0}) Reason) (y : Refusal)
             → LocationExplored s n ls' es' ix' c' i ls'' es'' ix'' a x → placed_at i x ≡ Err y
-            → AllExplored s n ls es ix c ls'' es'' ix'' a (Err y)
+            → AllExplored s n ls es ix c ls'' es'' ix'' (Err y)
         goes_no_further (Ok v) y T e = absurd (cc)
         goes_no_further (Err r) y T e = let q : refusal_for r i ≡ y = cc in
-            subst (λ z. AllExplored s n ls es ix c ls'' es'' ix'' a (Err z)) q (explores_full r T)
+            subst (λ z. AllExplored s n ls es ix c ls'' es'' ix'' (Err z)) q (explores_full r T)

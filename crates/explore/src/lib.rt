@@ -8,7 +8,7 @@ ghost use Rattle.listing.specs.Lent.{SamePlaces};
 ghost use Rattle.explore.specs.Lent.{AllExplore, LocationExplores, Ready};
 
 use listing::Listing;
-use model::{Reason, Refusal};
+use model::{Counts, Reason, Refusal};
 
 // Copies the record of location i.
 fn copy_location(listing: &Listing, i: usize, rec: &mut [u8])
@@ -39,8 +39,8 @@ pub fn explore_location(
     location_edges::add_edges(d, &location, listing, i)
 }
 
-// Explores all locations, by number.
-pub fn explore_all(input: &[u8], n: usize, listing: &mut Listing) -> Result<(), Refusal>
+// Explores all locations, by number, and answers how many locations and edges there are then.
+pub fn explore_all(input: &[u8], n: usize, listing: &mut Listing) -> Result<Counts, Refusal>
     requires { Ready input.now n listing.old }
     ensures explored { AllExplore input.now n listing.old listing.new result }
     ensures same { SamePlaces listing.old listing.new }
@@ -51,5 +51,5 @@ pub fn explore_all(input: &[u8], n: usize, listing: &mut Listing) -> Result<(), 
         explore_location(input, n, listing, i).map_err(|reason| reason.at(i))?;
         i += 1;
     }
-    Ok(())
+    Ok(listing.counts)
 }
