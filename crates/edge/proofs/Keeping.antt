@@ -31,7 +31,7 @@ use Rattle.way.proofs.Through.{view_keeps}
 use Rattle.way.specs.Way.{way_in}
 use Rattle.way.specs.declared.Way.{Way}
 use Rattle.std.specs.Prelude.{None}
-use Rattle.model.specs.Codes.{fault_number, op_number}
+use Rattle.model.specs.Codes.{fault_code, op_number}
 use Rattle.model.specs.declared.codes.Fault.{Fault}
 use Rattle.model.specs.declared.codes.Fault.TheVariants as fault
 use Rattle.edge.specs.Edge.{Faults, KeepsShape, LeavesBy}
@@ -58,18 +58,18 @@ kept_run : (d : Decoded) (k : ℕ) (h : Heap) → Canon h → effect (op_in d) k
 kept_run d k h C e = ap (settle (collects (kind (op_in d)))) e ∙ settle_kept (collects (kind (op_in d))) h C.kept
 
 -- the fault that a test was answered is that of its run
-settled_fault : (f : Fault) (b : Bool) (g h : Heap) → effect_of (fault_number f) g
-    ≡ settle b (effect_of (fault_number f) h)
+settled_fault : (f : Fault) (b : Bool) (g h : Heap) → effect_of (fault_code f) g
+    ≡ settle b (effect_of (fault_code f) h)
 settled_fault fault.Null b g h = sym (settle_fault b _)
 settled_fault fault.Undefined b g h = sym (settle_fault b _)
 settled_fault fault.Leak b g h = sym (settle_fault b _)
 
 pub still_faults : {l : List ℕ} {d : Decoded} {y : Way} (f : Fault) → keeps_at (op_number d.op) ≡ true
-    → TestFault d (take 6 (drop 4 l)) (fault_number f) → Faults l d y f
+    → TestFault d (take 6 (drop 4 l)) (fault_code f) → Faults l d y f
 still_faults {l = l} {d = d} {y = y} f stays t s h R g =
     let k = length h.slots in
     let b = collects (kind (op_in d)) in
-    let e = subst (λ (x : Heap). effect_of (fault_number f) x ≡ effect (op_in d) k x) (shape_is_lem R)
+    let e = subst (λ (x : Heap). effect_of (fault_code f) x ≡ effect (op_in d) k x) (shape_is_lem R)
     (t k (shape_of l) refl) in
     settled_fault f b g h ∙ ap (settle b) e ∙ ap (carry_out (op_in d) k) (sym (still_heap R stays))
 

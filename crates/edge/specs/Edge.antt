@@ -2,7 +2,7 @@
 -- nothing.
 use Rattle.std.specs.Prelude.{ℕ, ◌≤◌, ◌≡◌, List, [], ◌∷◌, length, drop, Result, Ok, Err}
 use Rattle.model.specs.Base.{record_size}
-use Rattle.model.specs.Codes.{fault_number}
+use Rattle.model.specs.Codes.{fault_code}
 use Rattle.model.specs.Edges.{Edge, edge_by, step_by}
 use Rattle.model.specs.Heap.{Heap}
 use Rattle.model.specs.Machine.{carry_out, done, effect, target}
@@ -29,7 +29,7 @@ LeavesBy l d y t us r =
 abbrev pub Faults : List ℕ → Decoded → Way → Fault → Type 0
 Faults l d y f =
     (s : ℕ) (h : Heap) → WayReady l d s h y → (g : Heap)
-    → effect_of (fault_number f) g ≡ carry_out (op_in d) (length h.slots) (way_in y h).heap
+    → effect_of (fault_code f) g ≡ carry_out (op_in d) (length h.slots) (way_in y h).heap
 
 -- the edge, or the fault
 abbrev pub Leaves : List ℕ → Decoded → Way → List ℕ → List ℕ → Result EdgeMade Fault → Type 0

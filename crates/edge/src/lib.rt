@@ -4,7 +4,7 @@
 
 ghost use Rattle.std.specs.Prelude.{◌≡◌, true, ◌≤◌, length, set};
 ghost use Rattle.model.specs.Base.{most_nodes, record_size};
-ghost use Rattle.model.specs.Codes.{fault_number, op_number};
+ghost use Rattle.model.specs.Codes.{fault_code, op_number};
 ghost use Rattle.model.specs.Structs.{keeps_at};
 ghost use Rattle.edge.specs.Edge.{EdgeOn, EdgeReady, FaultMade, KeepsShape, Leaves, LeavesBy};
 
@@ -15,7 +15,7 @@ use way::Way;
 // The edge to a fault.
 fn fault_edge(location: &[u8], fault: Fault, guards: Guards, target: &mut [u8]) -> EdgeMade
     requires { (length location.now ≡ record_size) × (length target.old ≡ record_size) }
-    ensures { FaultMade location.now (fault_number fault) guards target.new result }
+    ensures { FaultMade location.now (fault_code fault) guards target.new result }
 {
     record::write_fault(target, Statement(location[1]), fault);
     EdgeMade {

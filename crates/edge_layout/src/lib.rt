@@ -6,7 +6,7 @@ ghost use Rattle.model.specs.Base.{most_nodes, record_size};
 ghost use Rattle.model.specs.Layout.{edge_keeps, edge_keeps_in, ends_keep};
 ghost use Rattle.model.specs.Records.{byte, record_at};
 ghost use Rattle.model.specs.Runs.{guards_of};
-ghost use Rattle.model.specs.Structs.{tables_of};
+ghost use Rattle.model.specs.Structs.{tables_lent};
 ghost use Rattle.update_layout.specs.Kept.{codes_in};
 
 use layout::fields::all_zero;
@@ -63,7 +63,7 @@ fn fields_keep(rec: &[u8], nodes: u8, new: u8) -> bool
 pub fn edge_keeps(tables: Tables, rec: &[u8]) -> bool
     requires { (length rec.now ≡ record_size) × (record_size * tables.counts.locations ≤ length tables.locations.now)
         × ((i : ℕ) → i < tables.counts.locations → byte (record_at tables.locations.now i) 3 ≤ most_nodes) }
-    ensures { result ≡ edge_keeps_in (tables_of tables.entry) rec.now }
+    ensures { result ≡ edge_keeps_in (tables_lent tables.entry) rec.now }
 {
     let from = word::two(rec, 2) as usize;
     let to = word::two(rec, 4) as usize;

@@ -1,7 +1,7 @@
 -- What the effect of a statement on a heap image needs and answers; ps are the pointers' bytes and cs the cells' bytes.
 use Rattle.std.specs.Prelude.{ℕ, zero, suc, ◌≤◌, ◌<◌, ◌≡◌, true, false, cond, List, map, eqb, length, get_or, Result, Ok, Err}
 use Rattle.model.specs.Base.{pointer_count, most_cells}
-use Rattle.model.specs.Codes.{fault_number, op_number}
+use Rattle.model.specs.Codes.{fault_code, op_number}
 use Rattle.model.specs.Heap.{Val, Heap, holds, next, closed}
 use Rattle.model.specs.Machine.{Effect, action, done, effect, fault, at_null, at_undef, leak, look, through, set_ptr, put_slot, held}
 use Rattle.model.specs.Records.{op_count, val_of}
@@ -39,7 +39,7 @@ Named cs b = (b ≡ 0xfe → ⊥) → (b ≡ 0xff → ⊥) → (b < length cs) �
 -- r is the cell that is read or written through the byte v, or the fault of doing so
 abbrev pub Access : ℕ → Result ℕ Fault → Type 0
 Access v (Ok c) = (c ≡ v) × (v ≡ 0xfe → ⊥) × (v ≡ 0xff → ⊥)
-Access v (Err f) = (h : Heap) (k : ℕ → Effect) → effect_of (fault_number f) h ≡ through (val_of v) k
+Access v (Err f) = (h : Heap) (k : ℕ → Effect) → effect_of (fault_code f) h ≡ through (val_of v) k
 
 -- r is the fault of comparing two values, 0 where there is none
 abbrev pub Compares : Val → Val → ℕ → Type 0

@@ -6,7 +6,7 @@ use Rattle.model.specs.Base.{most_nodes, record_size}
 use Rattle.model.specs.Records.{Refusal, refusal, refusal_at, Verdict, is_accepted, is_refused}
 use Rattle.model.specs.Translate.{Outcome}
 use Rattle.model.specs.Image.{Folding, Unfolding, StepAnswer, to_next, to_fault, to_stop, no_step, Stepping}
-use Rattle.model.specs.Codes.{fault_number, reason_node, reason_number}
+use Rattle.model.specs.Codes.{fault_code, reason_node, reason_number}
 use Rattle.model.specs.declared.Counts.{Counts}
 use Rattle.model.specs.declared.Folded.{Folded}
 use Rattle.model.specs.declared.Stepped.{Stepped}
@@ -55,7 +55,7 @@ unfolding_of u ps cs = record { verdict = verdict_of u; ptr_bytes = ps; cell_byt
 
 abbrev pub step_answer_of : Result Stepped declared.Refusal → StepAnswer
 step_answer_of (Ok (stepped.Went b n)) = to_next b n.0
-step_answer_of (Ok (stepped.Faulted f)) = to_fault (fault_number f)
+step_answer_of (Ok (stepped.Faulted f)) = to_fault (fault_code f)
 step_answer_of (Ok stepped.Stopped) = to_stop
 step_answer_of (Err r) = no_step (refusal_in r)
 

@@ -40,15 +40,15 @@ op_at n =
 
 -- ---- faults
 
-abbrev pub fault_number : Fault → ℕ
-fault_number fault.Null = 1
-fault_number fault.Undefined = 2
-fault_number fault.Leak = 3
+abbrev pub fault_code : Fault → ℕ
+fault_code fault.Null = 1
+fault_code fault.Undefined = 2
+fault_code fault.Leak = 3
 
 -- the fault that a run tells, 0 for none
 abbrev pub fault_in : {A : Type 0} → Result A Fault → ℕ
 fault_in (Ok _) = 0
-fault_in (Err f) = fault_number f
+fault_in (Err f) = fault_code f
 
 -- ---- refusals of calls on records and images
 

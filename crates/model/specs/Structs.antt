@@ -73,8 +73,8 @@ abbrev pub tables_in : List ℕ → List ℕ → Counts → Tables
 tables_in ls es c = record { loc_bytes = ls; edge_bytes = es; loc_count = c.locations; edge_count = c.edges }
 
 -- the same, lent together
-abbrev pub tables_of : LentTables → Tables
-tables_of t = tables_in t.locations.now t.edges.now t.counts
+abbrev pub tables_lent : LentTables → Tables
+tables_lent t = tables_in t.locations.now t.edges.now t.counts
 
 -- ---- guards
 

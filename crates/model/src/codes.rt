@@ -1,7 +1,7 @@
 // What is told in numbers: ops, faults and refusals, each by its name here.
 
 ghost use Rattle.std.specs.Prelude.{◌≡◌};
-ghost use Rattle.model.specs.Codes.{fault_number, move_refusal_number, no_record_number, node_told, op_at, range_refusal_number, range_refusal_place, reason_number, refusal_for};
+ghost use Rattle.model.specs.Codes.{fault_code, move_refusal_number, no_record_number, node_told, op_at, range_refusal_number, range_refusal_place, reason_number, refusal_for};
 
 use super::Node;
 
@@ -58,7 +58,7 @@ pub enum Fault {
 
 impl Fault {
     pub fn number(self) -> u8
-        ensures { result ≡ fault_number self }
+        ensures { result ≡ fault_code self }
     {
         self as u8
     }

@@ -15,10 +15,9 @@ pub struct Tables<'a> {
 }
 
 // Record n of a table, where it stands.
-pub fn record_at(table: &[u8], n: usize) -> &[u8]
+pub fn record_at(table: &[u8], n: usize) -> &[u8; RECORD]
     requires { record_size * n + record_size ≤ length table.now }
     ensures { result.now ≡ record_at table.now n }
 {
-    let at = RECORD * n;
-    &table[at..at + RECORD]
+    table[RECORD * n..].first_chunk().unwrap()
 }

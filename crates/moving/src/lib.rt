@@ -6,7 +6,7 @@ ghost use Rattle.model.specs.Base.{most_nodes, record_size};
 ghost use Rattle.model.specs.Notions.{In};
 ghost use Rattle.model.specs.Records.{GuardCode, byte, filled, record_at, word};
 ghost use Rattle.model.specs.Runs.{applied, guard_holds, guards_hold, guards_of, updates_of};
-ghost use Rattle.model.specs.Structs.{tables_of};
+ghost use Rattle.model.specs.Structs.{tables_lent};
 ghost use Rattle.model.specs.Walking.{in_counters, keeps, moved};
 ghost use Rattle.model.specs.declared.codes.MoveRefusal.TheVariants.{CounterTooLarge};
 ghost use Rattle.moving.specs.Advanced.{Carries, Ready, Replaced, advanced, moved_by, standing};
@@ -116,9 +116,9 @@ pub fn take_edge(
     counters: &mut [u32; 12],
     number: usize,
 ) -> Result<u32, MoveRefusal>
-    requires { keeps (tables_of tables) (standing location counters.old) ≡ true }
+    requires { keeps (tables_lent tables) (standing location counters.old) ≡ true }
     ensures { moved_by location result counters.new
-        ≡ moved (tables_of tables.entry) (standing location counters.old) number }
+        ≡ moved (tables_lent tables.entry) (standing location counters.old) number }
 {
     if tables.counts.edges <= number {
         return Err(MoveRefusal::NotMade);

@@ -4,7 +4,7 @@
 ghost use Rattle.std.specs.Prelude.{◌≡◌, IfOk};
 ghost use Rattle.model.specs.Answers.{refusal_of};
 ghost use Rattle.model.specs.Part.{answerable, meant, onward, part_bytes, record_part};
-ghost use Rattle.model.specs.Structs.{tables_of};
+ghost use Rattle.model.specs.Structs.{tables_lent};
 ghost use Rattle.answers.specs.Numbers.{told};
 ghost use Rattle.part.specs.Ended.{ended_by};
 
@@ -21,7 +21,7 @@ fn meant<T: Copy>(mark: usize, of_locations: T, of_edges: T) -> T
 
 // Whether there is such a record. Both counts are looked at, whichever table is meant.
 fn answerable(tables: Tables, mark: usize, number: usize) -> bool
-    ensures { result ≡ answerable (tables_of tables.entry) mark number }
+    ensures { result ≡ answerable (tables_lent tables.entry) mark number }
 {
     let counts = tables.counts;
     let fit = in_places(MOST_LOCATIONS, counts.locations, tables.locations.len())
@@ -32,11 +32,11 @@ fn answerable(tables: Tables, mark: usize, number: usize) -> bool
 // The record with a number, as a part of the table that the mark means: 0 for locations, 1 for edges. It is no copy:
 // it lies in that table, where the record begins.
 pub fn record_part<'a>(tables: Tables<'a>, mark: usize, number: usize) -> Result<&'a [u8], NoRecord>
-    ensures part { IfOk result (λ r. r.now ≡ part_bytes (tables_of tables.entry) mark number) }
+    ensures part { IfOk result (λ r. r.now ≡ part_bytes (tables_lent tables.entry) mark number) }
     ensures stands { IfOk result (λ r. r.ref_ptr
         ≡ onward (meant mark tables.entry.locations.ref_ptr tables.entry.edges.ref_ptr)
-        (record_part (tables_of tables.entry) mark number).begins) }
-    ensures ended { ended_by result ≡ (record_part (tables_of tables.entry) mark number).verdict }
+        (record_part (tables_lent tables.entry) mark number).begins) }
+    ensures ended { ended_by result ≡ (record_part (tables_lent tables.entry) mark number).verdict }
 {
     if !answerable(tables, mark, number) {
         return Err(NoRecord);
@@ -49,11 +49,11 @@ pub fn record_part<'a>(tables: Tables<'a>, mark: usize, number: usize) -> Result
 // The same in numbers: answers the refusal's number, 0 for none, and writes its place, where the record begins in its
 // table, and its length over the start of `answer`.
 pub fn tell_part(tables: Tables, mark: usize, number: usize, answer: &mut [usize]) -> u8
-    ensures number { result ≡ (refusal_of (record_part (tables_of tables.entry) mark number).verdict).number }
+    ensures number { result ≡ (refusal_of (record_part (tables_lent tables.entry) mark number).verdict).number }
     ensures tells { answer.new ≡ told answer.old
-        (refusal_of (record_part (tables_of tables.entry) mark number).verdict).place
-        (record_part (tables_of tables.entry) mark number).begins
-        (record_part (tables_of tables.entry) mark number).size }
+        (refusal_of (record_part (tables_lent tables.entry) mark number).verdict).place
+        (record_part (tables_lent tables.entry) mark number).begins
+        (record_part (tables_lent tables.entry) mark number).size }
 {
     match record_part(tables, mark, number) {
         Ok(part) => {

@@ -16,7 +16,7 @@ use Rattle.model.specs.Structs.{op_in}
 use Rattle.model.specs.declared.Decoded.{Decoded}
 use Rattle.machine.specs.Run.{IsRun, RunReady, bytes}
 use Rattle.std.specs.Prelude.{Ok, Err}
-use Rattle.model.specs.Codes.{fault_number, op_number}
+use Rattle.model.specs.Codes.{fault_code, op_number}
 use Rattle.model.specs.declared.codes.Fault.{Fault}
 use Rattle.model.specs.declared.codes.Fault.TheVariants as fault
 use Rattle.effect.specs.Effect.{effect_of}
@@ -114,8 +114,8 @@ module _ {l : List ℕ} {d : Decoded} {s : ℕ} {h : Heap} {y : Way} (R : WayRea
           → WayRan l d y (bytes qs (ds ++ drop c cs)) o t (Err f)
       way_faults {f} I g = any_heap f (heap_of qs ds) g (I.outcome ∙ same_run)
         where
-          any_heap : (f : Fault) (a b : Heap) {e : Effect} → effect_of (fault_number f) a ≡ e
-              → effect_of (fault_number f) b ≡ e
+          any_heap : (f : Fault) (a b : Heap) {e : Effect} → effect_of (fault_code f) a ≡ e
+              → effect_of (fault_code f) b ≡ e
           any_heap fault.Null a b q = q
           any_heap fault.Undefined a b q = q
           any_heap fault.Leak a b q = q

@@ -1,7 +1,7 @@
 -- The run by a way: what it asks and what it gives. Assumes nothing.
 use Rattle.std.specs.Prelude.{ℕ, ◌+◌, ◌≤◌, ◌≡◌, List, length, get_or, take, Result, Ok, Err}
 use Rattle.model.specs.Base.{pointer_count}
-use Rattle.model.specs.Codes.{fault_number}
+use Rattle.model.specs.Codes.{fault_code}
 use Rattle.model.specs.Heap.{Heap, IsHeap, order}
 use Rattle.model.specs.Image.{heap_of}
 use Rattle.model.specs.Machine.{branch, carry_out, done}
@@ -47,4 +47,4 @@ pub record WayDone (l : List ℕ) (d : Decoded) (y : Way) (image : Bytes) (visit
 abbrev pub WayRan : List ℕ → Decoded → Way → Bytes → List ℕ → List ℕ → Result Gone Fault → Type 0
 WayRan l d y image visit seen (Ok r) = WayDone l d y image visit seen r
 WayRan l d y image visit seen (Err f) =
-    (g : Heap) → effect_of (fault_number f) g ≡ carry_out (op_in d) (byte l 3) (way_in y (shape_of l)).heap
+    (g : Heap) → effect_of (fault_code f) g ≡ carry_out (op_in d) (byte l 3) (way_in y (shape_of l)).heap

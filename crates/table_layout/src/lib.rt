@@ -5,7 +5,7 @@ ghost use Rattle.std.specs.Prelude.{◌≡◌, ℕ, ◌*◌, ◌<◌, ◌≤◌,
 ghost use Rattle.model.specs.Base.{all, most_nodes, numbers, record_size};
 ghost use Rattle.model.specs.Layout.{edge_keeps_in, keeps_layout, location_keeps};
 ghost use Rattle.model.specs.Records.{byte, record_at};
-ghost use Rattle.model.specs.Structs.{tables_of};
+ghost use Rattle.model.specs.Structs.{tables_lent};
 
 use edge_layout::edge_keeps;
 use layout::fields::all_zero;
@@ -39,7 +39,7 @@ fn edges_keep(tables: Tables) -> bool
     requires { (record_size * tables.counts.locations ≤ length tables.locations.now)
         × (record_size * tables.counts.edges ≤ length tables.edges.now)
         × ((i : ℕ) → i < tables.counts.locations → byte (record_at tables.locations.now i) 3 ≤ most_nodes) }
-    ensures { let t = tables_of tables.entry in
+    ensures { let t = tables_lent tables.entry in
         result ≡ all (λ n. edge_keeps_in t (record_at t.edge_bytes n)) (numbers 0 t.edge_count) }
 {
     (0..tables.counts.edges).all(|n| edge_keeps(tables, record_at(tables.edges, n)))
@@ -47,7 +47,7 @@ fn edges_keep(tables: Tables) -> bool
 
 // Whether the two tables keep the layout.
 pub fn tables_keep(tables: Tables) -> bool
-    ensures { result ≡ keeps_layout (tables_of tables.entry) }
+    ensures { result ≡ keeps_layout (tables_lent tables.entry) }
 {
     let counts = tables.counts;
     if !(in_places(MOST_LOCATIONS, counts.locations, tables.locations.len())

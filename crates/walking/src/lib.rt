@@ -4,7 +4,7 @@
 
 ghost use Rattle.std.specs.Prelude.{◌≡◌, true};
 ghost use Rattle.model.specs.Layout.{keeps_layout};
-ghost use Rattle.model.specs.Structs.{tables_of};
+ghost use Rattle.model.specs.Structs.{tables_lent};
 ghost use Rattle.model.specs.Walking.{configuration_keeps, keeps, moved, moved_of, moves_along, walked, walked_of};
 
 use counters::counters_of;
@@ -15,8 +15,8 @@ use table_layout::tables_keep;
 
 // Whether a configuration keeps the layout, where the tables do.
 fn configuration_keeps(tables: Tables, configuration: Configuration) -> bool
-    requires { keeps_layout (tables_of tables) ≡ true }
-    ensures { result ≡ configuration_keeps (tables_of tables.entry) configuration }
+    requires { keeps_layout (tables_lent tables) ≡ true }
+    ensures { result ≡ configuration_keeps (tables_lent tables.entry) configuration }
 {
     let at = configuration.location as usize;
     if tables.counts.locations <= at {
@@ -30,7 +30,7 @@ fn configuration_keeps(tables: Tables, configuration: Configuration) -> bool
 
 // Whether the tables and the configuration keep the layout.
 fn keeps(tables: Tables, configuration: Configuration) -> bool
-    ensures { result ≡ keeps (tables_of tables.entry) configuration }
+    ensures { result ≡ keeps (tables_lent tables.entry) configuration }
 {
     tables_keep(tables) && configuration_keeps(tables, configuration)
 }
@@ -41,7 +41,7 @@ pub fn make_move(
     tables: Tables,
     number: usize,
 ) -> Result<Configuration, MoveRefusal>
-    ensures { moved_of configuration result ≡ moved (tables_of tables.entry) configuration number }
+    ensures { moved_of configuration result ≡ moved (tables_lent tables.entry) configuration number }
 {
     if !keeps(tables, configuration) {
         return Err(MoveRefusal::NotMade);
@@ -53,8 +53,8 @@ pub fn make_move(
 
 // What the single moves give one after the other, in tables and a configuration that keep the layout.
 fn walk_kept(configuration: Configuration, tables: Tables, path: &[u32]) -> Walked
-    requires { keeps (tables_of tables) configuration ≡ true }
-    ensures { walked_of result ≡ moves_along (tables_of tables.entry) 0 configuration path.now }
+    requires { keeps (tables_lent tables) configuration ≡ true }
+    ensures { walked_of result ≡ moves_along (tables_lent tables.entry) 0 configuration path.now }
 {
     let mut location = configuration.location;
     let mut counters = configuration.counters;
@@ -79,7 +79,7 @@ fn walk_kept(configuration: Configuration, tables: Tables, path: &[u32]) -> Walk
 
 // What a walk gives.
 pub fn make_walk(configuration: Configuration, tables: Tables, path: &[u32]) -> Walked
-    ensures { walked_of result ≡ walked (tables_of tables.entry) configuration path.now }
+    ensures { walked_of result ≡ walked (tables_lent tables.entry) configuration path.now }
 {
     if MOST_MOVES < path.len() || !keeps(tables, configuration) {
         return Walked {

@@ -11,7 +11,7 @@ use mathlib.Core.Bool.{false, true}
 use lib.Dec.{eqb}
 use lib.ListN.{drop, get_or}
 use Rattle.model.specs.Answers.{folding_of, found_numbers, found_of, outcome_of, refusal_in, step_answer_of, step_numbers, stepping_of, unfolding_of, verdict_of}
-use Rattle.model.specs.Codes.{fault_number, move_refusal_number, reason_node, reason_number}
+use Rattle.model.specs.Codes.{fault_code, move_refusal_number, reason_node, reason_number}
 use Rattle.model.specs.Image.{Folding, StepAnswer, Stepping, Unfolding, no_step, to_fault, to_next, to_stop}
 use Rattle.model.specs.Records.{is_accepted, is_refused}
 use Rattle.model.specs.Translate.{Outcome}
@@ -39,12 +39,12 @@ never e = absurd (omega arith)
 abbrev fault_by : ℕ → Fault
 fault_by n = get_or (fault.Null ∷ fault.Null ∷ fault.Undefined ∷ fault.Leak ∷ []) n fault.Null
 
-fault_back : (f : Fault) → fault_by (fault_number f) ≡ f
+fault_back : (f : Fault) → fault_by (fault_code f) ≡ f
 fault_back fault.Null = refl
 fault_back fault.Undefined = refl
 fault_back fault.Leak = refl
 
-pub fault_one : (f g : Fault) → fault_number f ≡ fault_number g → f ≡ g
+pub fault_one : (f g : Fault) → fault_code f ≡ fault_code g → f ≡ g
 fault_one f g e = sym (fault_back f) ∙ ap fault_by e ∙ fault_back g
 
 abbrev reason_by : ℕ → ℕ → Reason
@@ -112,7 +112,7 @@ step_one (Ok (stepped.Went b n)) (Ok stepped.Stopped) e = never (cc)
 step_one (Ok (stepped.Went b n)) (Err r) e = never (cc)
 step_one (Ok (stepped.Faulted f)) (Ok (stepped.Went c m)) e = never (cc)
 step_one (Ok (stepped.Faulted f)) (Ok (stepped.Faulted g)) e =
-    let x : fault_number f ≡ fault_number g = cc in ap (λ h. Ok (stepped.Faulted h)) (fault_one f g x)
+    let x : fault_code f ≡ fault_code g = cc in ap (λ h. Ok (stepped.Faulted h)) (fault_one f g x)
 step_one (Ok (stepped.Faulted f)) (Ok stepped.Stopped) e = never (cc)
 step_one (Ok (stepped.Faulted f)) (Err r) e = never (cc)
 step_one (Ok stepped.Stopped) (Ok (stepped.Went c m)) e = never (cc)

@@ -7,7 +7,7 @@ use Rattle.std.proofs.lemmas.Iterator.{serves_from_Range, YieldsList-from_range}
 use Rattle.std.proofs.lemmas.Iterator.Search.{all_from_yields_List}
 use Rattle.model.specs.Layout.{edge_keeps_in}
 use Rattle.model.specs.Records.{record_at}
-use Rattle.model.specs.Structs.{tables_of}
+use Rattle.model.specs.Structs.{tables_lent}
 use Rattle.edge_layout.proofs.Ranges.{all_range, record_whole}
 use Rattle.table_layout.proofs.edges_keep.Goals as goal
 
@@ -16,7 +16,7 @@ all-requires-clause-callable c = serves_from_Range (λ x q k. search rules) (λ 
 
 pub returns : goal.returns
 returns c =
-    let t = tables_of c.args.tables in
+    let t = tables_lent c.args.tables in
     let p = λ (n : _). edge_keeps_in t (record_at t.edge_bytes n) in
     all_range p t.edge_count (all_from_yields_List p _ _ c.all.result c.all.ensures.ran
     (YieldsList-from_range 0 t.edge_count t.edge_count refl (omega arith)) (λ x b q k. search (rules, tests)))

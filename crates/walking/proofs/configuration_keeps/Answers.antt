@@ -6,7 +6,7 @@ use borrow.Author.Rules.{rules}
 use borrow.Author.Tests.{le-ltb, lt-ltb}
 use Rattle.model.specs.Image.{counters_of}
 use Rattle.model.specs.Records.{byte, record_at}
-use Rattle.model.specs.Structs.{tables_of}
+use Rattle.model.specs.Structs.{tables_lent}
 use Rattle.model.proofs.records.LayoutFacts.{layout_nodes, layout_room}
 use Rattle.walking.proofs.configuration_keeps.Goals as goal
 
@@ -19,13 +19,13 @@ returns-then-tables-at c =
 
 pub nodes_at-requires : goal.nodes_at-requires
 nodes_at-requires c =
-    let r = layout_room (tables_of c.args.tables) c.requires in
+    let r = layout_room (tables_lent c.args.tables) c.requires in
     let lt = c.if-tables-at.false in
     omega arith
 
 pub counters_of-requires : goal.counters_of-requires
 counters_of-requires c =
-    let few = layout_nodes (tables_of c.args.tables) c.requires c.args.configuration.location c.if-tables-at.false in
+    let few = layout_nodes (tables_lent c.args.tables) c.requires c.args.configuration.location c.if-tables-at.false in
     let n = c.nodes_at.ensures in
     (omega arith, search rules)
 
