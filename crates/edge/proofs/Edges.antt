@@ -8,7 +8,7 @@ use lib.Seq.{length-take-le}
 use borrow.Author.Tests.{ne_eqb}
 use Rattle.model.specs.Edges.{Edge, Guard, Way, Weight, at, edge_by, failed, split_heap, step_by, update_of}
 use Rattle.model.specs.Heap.{Heap, next, unused}
-use Rattle.model.specs.Machine.{Answer, Fault, action, answer_of, at_null, at_undef, branch, branch_by, carry_out, done, entry, fault, fault_code, faulted, kind, leak, target, went}
+use Rattle.model.specs.Machine.{Answer, Fault, action, answer_of, at_null, at_undef, branch, branch_by, carry_out, done, entry, fault, fault_number, faulted, kind, leak, target, went}
 use Rattle.model.specs.Notions.{Used, Views}
 use Rattle.model.specs.Records.{byte, loc_record, shape_of, update_code}
 use Rattle.model.specs.Shape.{segments, shape}
@@ -70,7 +70,7 @@ fault_effect named.Null g = refl
 fault_effect named.Undefined g = refl
 fault_effect named.Leak g = refl
 
-fault_code : (f : declared_fault) → code f ≡ fault_code (fault_as f)
+fault_code : (f : declared_fault) → code f ≡ fault_number (fault_as f)
 fault_code named.Null = refl
 fault_code named.Undefined = refl
 fault_code named.Leak = refl
