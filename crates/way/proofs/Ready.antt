@@ -1,6 +1,6 @@
 -- What a ready way says of the bytes: the location's record holds the shape.
 use Prim.Native.Nat.{ℕ, ◌+◌, ◌≤◌, ◌<◌}
-use mathlib.Core.Path.{◌≡◌, sym, ap, subst, ◌∙◌}
+use mathlib.Core.Path.{◌≡◌, refl, sym, ap, subst, ◌∙◌}
 use mathlib.Core.Bool.{true}
 use mathlib.Core.List.{List}
 use native.Mathlib.Omega.{arith}
@@ -20,7 +20,7 @@ use Rattle.way.specs.Ready.{WayReady}
 use Rattle.way.specs.declared.Way.{Way}
 use Rattle.model.specs.declared.Decoded.{Decoded}
 use Rattle.model.specs.declared.Node.{Node}
-use Rattle.std.specs.Prelude.{Some}
+use Rattle.std.specs.Prelude.{Option, None, Some}
 use Rattle.model.specs.Machine.{action}
 use Rattle.model.specs.Structs.{op_in}
 
@@ -65,3 +65,8 @@ module _ {l : List ℕ} {d : Decoded} {s : ℕ} {h : Heap} {y : Way} (R : WayRea
     room = room;
     is_node = node_below;
   }
+
+-- whether a node is split
+pub split-case {ℓ} : {C : Type ℓ} (sp : Option Node) → ((n : Node) → sp ≡ Some n → C) → (sp ≡ None → C) → C
+split-case (Some n) f g = f n refl
+split-case None f g = g refl
