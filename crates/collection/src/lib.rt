@@ -16,9 +16,7 @@ pub fn collect(cells: &mut [u8], seen: &[u8])
     requires { length cells.old ≤ length seen.now }
     ensures { cells.new ≡ left_bytes seen.now 0 cells.old }
 {
-    let mut i = 0;
-    while i < cells.len() {
-        cells[i] = left_byte(seen[i], cells[i]);
-        i += 1;
+    for (i, cell) in cells.iter_mut().enumerate() {
+        *cell = left_byte(seen[i], *cell);
     }
 }
