@@ -1,11 +1,13 @@
 -- Location i of a listing that is held in the tables: its record, its statement's record, and its edges.
 use Prim.Native.Nat.{ℕ, ◌+◌, ◌-◌, ◌*◌, ◌≤◌, ◌<◌}
 use mathlib.Core.Path.{◌≡◌, refl, ap, sym, ◌∙◌}
-use mathlib.Core.List.{List, [], map}
+use mathlib.Core.List.{List, [], ◌++◌, append-nil, map}
 use native.Mathlib.Omega.{arith}
-use lib.ListN.{drop, length, length-drop, length-map, take}
-use lib.Seq.{take_all}
+use lib.ListN.{drop, length, length-drop, length-map, replicate, take}
+use lib.Seq.{length-take-le, take_all}
+use Rattle.std.specs.Prelude.{Result, Ok, Err}
 use Rattle.model.specs.Base.{most_locations}
+use Rattle.model.specs.declared.codes.Reason.{Reason}
 use Rattle.model.specs.Heap.{Heap}
 use Rattle.model.specs.Machine.{Stmt, leak}
 use Rattle.model.specs.Edges.{Loc, at, edges_at, edges_of, failed, stmt_at}
@@ -20,8 +22,6 @@ use Rattle.model.specs.Structs.{decoded, stmt_in}
 use Rattle.model.specs.declared.Counts.{Counts}
 use Rattle.model.specs.declared.Decoded.{Decoded}
 use Rattle.listing.specs.Grow.{Holds}
-use Rattle.listing.specs.declared.Grown.{Grown}
-use Rattle.listing.specs.declared.Grown.TheVariants.{Added}
 use Rattle.listing.proofs.Kept.{place_within}
 use Rattle.explore.specs.Explore.{ExploreReady, StatementOk, StatementsOk}
 use Rattle.location_edges.specs.Added.{AddedTo, LocOk, LocsOk, added_in}
@@ -65,7 +65,7 @@ module _ (t : Listing) (ls es ix : List ℕ) (c : Counts) (i : ℕ) (H : Holds t
 
   -- a fault
   pub fault_added : (n : ℕ) (sts : List Stmt) (l : List ℕ) → LocsOk n t → l ≡ record_at ls i → (byte l 2 ≡ 0 → ⊥)
-      → AddedTo n i (added_in ls es i (edges_of sts (loc_at t.locs i)) t) ls es ix (Added c)
+      → AddedTo n i (added_in ls es i (edges_of sts (loc_at t.locs i)) t) ls es ix c (Ok tt)
   fault_added n sts l O e non =
       rw (fault_edges sts (loc_at t.locs i) (λ z. non (ap (λ x. byte x 2) (e ∙ record_is) ∙ z))) (H, O)
 
@@ -141,9 +141,10 @@ module _ (t : Listing) (ls es ix : List ℕ) (c : Counts) (i : ℕ) (H : Holds t
           low = omega (arith, low);
         }
 
-    pub shape_added : (ls' es' ix' : List ℕ) (x : Grown) → EdgesAdded l d ls es ix c i ls' es' ix' x
-        → AddedTo n i (added_in ls es i (edges_of sts (loc_at t.locs i)) t) ls' es' ix' x
-    shape_added ls' es' ix' x X =
+    pub shape_added : (ls' es' ix' : List ℕ) (c' : Counts) (x : Result (Unit {0}) Reason)
+        → EdgesAdded l d ls es ix c i ls' es' ix' c' x
+        → AddedTo n i (added_in ls es i (edges_of sts (loc_at t.locs i)) t) ls' es' ix' c' x
+    shape_added ls' es' ix' c' x X =
         let F = found in
         let p : edges_of sts (loc_at t.locs i) ≡ edges_at F.number (stmt_in d) F.shape =
         ap (edges_of sts) F.is_location ∙ ap (λ y. edges_at F.number y F.shape) F.is_statement in
@@ -156,8 +157,9 @@ pub statement_within : (s : List ℕ) (n : ℕ) (ls es ix : List ℕ) (c : Count
 statement_within s n ls es ix c i R lt l e z =
     omega (arith, statement_low R.list ls es ix c i R.held lt n l R.fine e z, R.readable.room)
 
-pub part_is : (s : List ℕ) (b start : ℕ) → start ≡ 32 * b → take ((start + 32) - start) (drop start s) ≡ record_at s b
-part_is s b start q = let e : (start + 32) - start ≡ 32 = omega arith in rw (e, q)
-
-pub rest_is : (t : List ℕ) (i : ℕ) → take 32 (take (length t - 32 * i) (drop (32 * i) t)) ≡ record_at t i
-rest_is t i = ap (take 32) (take_all (length t - 32 * i) (drop (32 * i) t) (simp length-drop (omega arith)))
+-- the record copied over one of zeros
+pub copied : (t : List ℕ) (i : ℕ) → 32 * i + 32 ≤ length t
+    → take 32 (record_at t i) ++ drop 32 (replicate 32 0) ≡ record_at t i
+copied t i h =
+    let n = length-take-le 32 (drop (32 * i) t) (omega (arith, length-drop (32 * i) t)) in
+    append-nil _ ∙ take_all 32 (record_at t i) (omega arith)
