@@ -1,23 +1,28 @@
 -- Location i of a listing that is held in the tables: its record, its statement's record, and its edges.
 use Prim.Native.Nat.{ℕ, ◌+◌, ◌-◌, ◌*◌, ◌≤◌, ◌<◌}
-use mathlib.Core.Path.{◌≡◌, refl, ap, sym, ◌∙◌}
-use mathlib.Core.List.{List, [], ◌++◌, append-nil, map}
+use mathlib.Core.Path.{◌≡◌, refl, ap, subst, sym, ◌∙◌}
+use mathlib.Core.List.{List, [], ◌∷◌, ◌++◌, append-nil, map}
+use native.Mathlib.Nat.{zero-add}
 use native.Mathlib.Omega.{arith}
-use lib.ListN.{drop, length, length-drop, length-map, replicate, take}
+use lib.ListN.{drop, drop_of_length-le, get_or-map, length, length-drop, length-map, replicate, take}
 use lib.Seq.{length-take-le, take_all}
 use Rattle.std.specs.Prelude.{Result, Ok, Err}
+use Rattle.model.specs.Codes.{op_at, op_number}
+use Rattle.model.specs.declared.codes.Op.{Op}
+use Rattle.model.specs.declared.codes.Op.TheVariants as op
 use Rattle.model.specs.Base.{most_locations}
 use Rattle.model.specs.declared.codes.Reason.{Reason}
 use Rattle.model.specs.Heap.{Heap}
 use Rattle.model.specs.Machine.{Stmt, leak}
 use Rattle.model.specs.Edges.{Loc, at, edges_at, edges_of, failed, stmt_at}
-use Rattle.model.specs.Records.{byte, loc_record, record_at}
+use Rattle.model.specs.Records.{byte, loc_record, op_count, op_of, record_at, stmt_of}
 use Rattle.model.specs.Translate.{Listing}
 use Rattle.model.proofs.records.Bytes.{records_wide, table_record}
 use Rattle.model.specs.Listings.{loc_at}
+use Rattle.model.proofs.lists.Numbers.{at_number}
 use Rattle.model.proofs.lists.Lists.{get_or_in_lem, get_or_map}
 use Rattle.model.proofs.records.ReadBack.{fault_positive, record_length}
-use Rattle.model.proofs.records.Statements.{leads, statement_fields}
+use Rattle.model.proofs.records.Statements.{Leads, leads, statement_fields}
 use Rattle.model.specs.Structs.{decoded, stmt_in}
 use Rattle.model.specs.declared.Counts.{Counts}
 use Rattle.model.specs.declared.Decoded.{Decoded}
@@ -38,11 +43,32 @@ shape_case : (n : ℕ) (l : Loc) → byte (loc_record l) 2 ≡ 0 → LocOk n l
 shape_case n (at s h) e k = (s, h, refl, k)
 shape_case n (failed s f) e k = absurd (omega (arith, fault_positive f))
 
+-- an op by its number has that number
+abbrev ops : List Op
+ops =
+    op.Stop ∷ op.SetNull ∷ op.Copy ∷ op.Load ∷ op.Clear ∷ op.Store ∷ op.New ∷ op.Free ∷ op.IsNull ∷ op.Same ∷ op.Choose
+    ∷ op.Skip ∷ op.Relink ∷ op.LetGo ∷ []
+
+numbered : (k : ℕ) → k < op_count → op_number (op_at k) ≡ k
+numbered k h = sym (get_or-map op_number ops k op.Stop) ∙ at_number 0 op_count k 0 h ∙ zero-add k
+
 -- an accepted record, decoded
+decoded_is : (n : ℕ) (r : List ℕ) → StatementOk r n → stmt_in (decoded r) ≡ stmt_of r
+decoded_is n r S =
+    ap (λ k. record {
+      op = op_of k (byte r 2) (byte r 3);
+      first_target = byte r 4;
+      second_target = byte r 5;
+    }) (numbered (byte r 1) (statement_fields n r S.accepted).0)
+
 among : (n : ℕ) (r : List ℕ) → StatementOk r n → Among (decoded r) n
 among n r S =
     let f = statement_fields n r S.accepted in
-    record { fields = record { known = f.0; is_u = f.1; is_w = f.2 }; leads = leads n r S.accepted; few = S.few }
+    record {
+      fields = record { known = rw (numbered (byte r 1) f.0) f.0; is_u = f.1; is_w = f.2 };
+      leads = subst (Leads n) (sym (decoded_is n r S)) (leads n r S.accepted);
+      few = S.few;
+    }
 
 module _ (t : Listing) (ls es ix : List ℕ) (c : Counts) (i : ℕ) (H : Holds t ls es ix c) (lt : i < c.locations) where
   below : i < length t.locs
@@ -124,7 +150,7 @@ module _ (t : Listing) (ls es ix : List ℕ) (c : Counts) (i : ℕ) (H : Holds t
             statement = rw p (among n (record_at s S.0) (K.each S.0 low));
             low = low;
           };
-          is_statement = K.read S.0 low ∙ ap stmt_in (sym p);
+          is_statement = K.read S.0 low ∙ sym (decoded_is n (record_at s S.0) (K.each S.0 low)) ∙ ap stmt_in (sym p);
         }
 
     -- it is given, and its edges are added
@@ -157,9 +183,13 @@ pub statement_within : (s : List ℕ) (n : ℕ) (ls es ix : List ℕ) (c : Count
 statement_within s n ls es ix c i R lt l e z =
     omega (arith, statement_low R.list ls es ix c i R.held lt n l R.fine e z, R.readable.room)
 
--- the record copied over one of zeros
-pub copied : (t : List ℕ) (i : ℕ) → 32 * i + 32 ≤ length t
-    → take 32 (record_at t i) ++ drop 32 (replicate 32 0) ≡ record_at t i
-copied t i h =
-    let n = length-take-le 32 (drop (32 * i) t) (omega (arith, length-drop (32 * i) t)) in
-    append-nil _ ∙ take_all 32 (record_at t i) (omega arith)
+-- a record within a table is whole, and copied over another it is that record
+pub record_wide : (t : List ℕ) (i : ℕ) → 32 * i + 32 ≤ length t → length (record_at t i) ≡ 32
+record_wide t i h = length-take-le 32 (drop (32 * i) t) (omega (arith, length-drop (32 * i) t))
+
+pub copied : (t : List ℕ) (i : ℕ) (r : List ℕ) → 32 * i + 32 ≤ length t → length r ≡ 32
+    → take 32 (record_at t i) ++ drop 32 r ≡ record_at t i
+copied t i r h n =
+    let w = record_wide t i h in
+    ap (λ l. take 32 (record_at t i) ++ l) (drop_of_length-le r {i = 32} (omega arith)) ∙ append-nil _
+    ∙ take_all 32 (record_at t i) (omega arith)

@@ -28,11 +28,11 @@ pub record StatementsOk (s : List ℕ) (n : ℕ) (sts : List Stmt) : Type 0 wher
   pub read : (i : ℕ) → i < n → stmt_at sts i ≡ stmt_of (record_at s i)
 
 -- the tables hold what an exploration gives; or it found no place
-abbrev pub ExploredTo : ℕ → Explored → List ℕ → List ℕ → List ℕ → Counts → Result (Unit {0}) Refusal → Type 0
-ExploredTo n (listed t) ls es ix c (Ok _) = Holds t ls es ix c × LocsOk n t
-ExploredTo n (listed t) ls es ix c (Err y) = ⊥
-ExploredTo n (full x) ls es ix c (Ok _) = ⊥
-ExploredTo n (full x) ls es ix c (Err y) = x ≡ refusal_in y
+abbrev pub ExploredTo : ℕ → Explored → List ℕ → List ℕ → List ℕ → Result Counts Refusal → Type 0
+ExploredTo n (listed t) ls es ix (Ok c) = Holds t ls es ix c × LocsOk n t
+ExploredTo n (listed t) ls es ix (Err y) = ⊥
+ExploredTo n (full x) ls es ix (Ok c) = ⊥
+ExploredTo n (full x) ls es ix (Err y) = x ≡ refusal_in y
 
 -- some statements and some listing are given
 pub record ExploreReady (s : List ℕ) (n : ℕ) (ls es ix : List ℕ) (c : Counts) : Type 0 where
@@ -56,8 +56,8 @@ LocationExplored s n ls es ix c i ls' es' ix' c' x =
     → AddedTo n i (added_in ls es i (edges_of sts (loc_at t.locs i)) t) ls' es' ix' c' x
 
 -- the same for all locations
-abbrev pub AllExplored : List ℕ → ℕ → List ℕ → List ℕ → List ℕ → Counts → List ℕ → List ℕ → List ℕ → Counts
-    → Result (Unit {0}) Refusal → Type 0
-AllExplored s n ls es ix c ls' es' ix' c' x =
+abbrev pub AllExplored : List ℕ → ℕ → List ℕ → List ℕ → List ℕ → Counts → List ℕ → List ℕ → List ℕ
+    → Result Counts Refusal → Type 0
+AllExplored s n ls es ix c ls' es' ix' x =
     (sts : List Stmt) (t : Listing) → StatementsOk s n sts → Holds t ls es ix c → LocsOk n t
-    → ExploredTo n (explored_in ls es sts t) ls' es' ix' c' x
+    → ExploredTo n (explored_in ls es sts t) ls' es' ix' x

@@ -1,5 +1,6 @@
 -- What exploring asks of a listing that the code lends, and what is left of it. Assumes nothing.
 use Rattle.std.specs.Prelude.{ℕ, List, Result}
+use Rattle.model.specs.declared.Counts.{Counts}
 use Rattle.model.specs.declared.codes.Reason.{Reason}
 use Rattle.model.specs.declared.codes.Refusal.{Refusal}
 use Rattle.listing.specs.declared.Listing.{Listing}
@@ -13,7 +14,6 @@ LocationExplores s n t i t' x =
     LocationExplored s n t.locations.now t.edges.now t.index.now t.counts i t'.locations.now t'.edges.now t'.index.now
     t'.counts x
 
-abbrev pub AllExplore : List ℕ → ℕ → Listing → Listing → Result (Unit {0}) Refusal → Type 0
+abbrev pub AllExplore : List ℕ → ℕ → Listing → Listing → Result Counts Refusal → Type 0
 AllExplore s n t t' x =
-    AllExplored s n t.locations.now t.edges.now t.index.now t.counts t'.locations.now t'.edges.now t'.index.now
-    t'.counts x
+    AllExplored s n t.locations.now t.edges.now t.index.now t.counts t'.locations.now t'.edges.now t'.index.now x

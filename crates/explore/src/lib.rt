@@ -1,12 +1,22 @@
 // The exploration: each location in turn, by number, with its statement decoded; its edges go into the listing.
 #![tactic(auto)]
 
-ghost use Rattle.std.specs.Prelude.{◌<◌};
+ghost use Rattle.std.specs.Prelude.{◌≡◌, ◌+◌, ◌*◌, ◌<◌, ◌≤◌, length};
+ghost use Rattle.model.specs.Base.{record_size};
+ghost use Rattle.model.specs.Records.{record_at};
 ghost use Rattle.listing.specs.Lent.{SamePlaces};
 ghost use Rattle.explore.specs.Lent.{AllExplore, LocationExplores, Ready};
 
 use listing::Listing;
-use model::{Reason, Refusal};
+use model::{Counts, Reason, Refusal};
+
+// Copies the record of location i.
+fn copy_location(listing: &Listing, i: usize, rec: &mut [u8])
+    requires { (record_size * i + record_size ≤ length listing.now.locations.now) × (length rec.old ≡ record_size) }
+    ensures { rec.new ≡ record_at listing.now.locations.now i }
+{
+    word::copy_record(model::record_at(listing.locations, i), rec);
+}
 
 // Adds the edges of location i; a fault has none.
 pub fn explore_location(
@@ -21,7 +31,7 @@ pub fn explore_location(
 {
     // a copy: the table that the record stands in grows while the location is explored
     let mut location = [0u8; model::RECORD];
-    word::copy_record(model::record_at(listing.locations, i), &mut location);
+    copy_location(listing, i, &mut location);
     if location[2] != 0 {
         return Ok(());
     }
@@ -29,8 +39,8 @@ pub fn explore_location(
     location_edges::add_edges(d, &location, listing, i)
 }
 
-// Explores all locations, by number.
-pub fn explore_all(input: &[u8], n: usize, listing: &mut Listing) -> Result<(), Refusal>
+// Explores all locations, by number, and answers how many locations and edges there are then.
+pub fn explore_all(input: &[u8], n: usize, listing: &mut Listing) -> Result<Counts, Refusal>
     requires { Ready input.now n listing.old }
     ensures explored { AllExplore input.now n listing.old listing.new result }
     ensures same { SamePlaces listing.old listing.new }
@@ -38,10 +48,8 @@ pub fn explore_all(input: &[u8], n: usize, listing: &mut Listing) -> Result<(), 
     let mut i = 0;
     // no range: each turn may add locations, which are explored too
     while i < listing.counts.locations {
-        if let Err(reason) = explore_location(input, n, listing, i) {
-            return Err(reason.at(i));
-        }
+        explore_location(input, n, listing, i).map_err(|reason| reason.at(i))?;
         i += 1;
     }
-    Ok(())
+    Ok(listing.counts)
 }
