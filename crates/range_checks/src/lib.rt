@@ -4,7 +4,7 @@
 ghost use Rattle.std.specs.Prelude.{◌≡◌, ◌&&◌, ◌+◌, ◌*◌, ◌<◌, ◌≤◌, MatchOption, MatchResult, eqb, leb, ltb, get_or, length};
 ghost use Rattle.model.specs.Base.{most_nodes, record_size};
 ghost use Rattle.model.specs.Ranges.{first_wrong, in_limits, led_to, linked, linked_part, reached};
-ghost use Rattle.model.specs.Structs.{tables_of};
+ghost use Rattle.model.specs.Structs.{tables_lent};
 ghost use Rattle.model.specs.declared.codes.RangeRefusal.TheVariants.{Path};
 
 use model::{MOST_NODES, RangeRefusal, Tables, record_at};
@@ -35,7 +35,7 @@ pub fn first_wrong(ranges: &[u32], k: usize) -> Option<usize>
 // Whether an edge is in the table and leaves a location.
 fn is_linked(tables: Tables, location: usize, n: usize) -> bool
     requires { record_size * tables.counts.edges ≤ length tables.edges.now }
-    ensures { result ≡ linked (tables_of tables.entry) location n }
+    ensures { result ≡ linked (tables_lent tables.entry) location n }
 {
     n < tables.counts.edges && word::two(record_at(tables.edges, n), 2) as usize == location
 }
@@ -43,9 +43,9 @@ fn is_linked(tables: Tables, location: usize, n: usize) -> bool
 // Goes along a path, guards aside, to the location reached; or the refusal at the first edge that does not lead on.
 pub fn go_along(tables: Tables, start: usize, path: &[u32]) -> Result<usize, RangeRefusal>
     requires { record_size * tables.counts.edges ≤ length tables.edges.now }
-    ensures { let part = linked_part (tables_of tables.entry) start path.now in
+    ensures { let part = linked_part (tables_lent tables.entry) start path.now in
         MatchResult result
-        (λ l. (part ≡ length path.now) × (l ≡ reached (tables_of tables.entry) start path.now))
+        (λ l. (part ≡ length path.now) × (l ≡ reached (tables_lent tables.entry) start path.now))
         (λ r. (part < length path.now) × (r ≡ Path part)) }
 {
     let mut location = start;

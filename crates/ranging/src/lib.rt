@@ -7,7 +7,7 @@ ghost use Rattle.model.specs.Base.{most_nodes, numbers};
 ghost use Rattle.model.specs.Ranges.{along, askable, ranged_of, ranging, start_box};
 ghost use Rattle.model.specs.Records.{filled};
 ghost use Rattle.model.specs.Runs.{nodes_at};
-ghost use Rattle.model.specs.Structs.{tables_of};
+ghost use Rattle.model.specs.Structs.{tables_lent};
 ghost use Rattle.ranging.specs.Follow.{FollowReady, IsFollowed};
 
 use edge_layout::nodes_at;
@@ -31,8 +31,8 @@ fn read_ends(ranges: &[u32], from: usize, k: usize) -> [u32; 12]
 // Follows a path that leads on, from ranges that are some: the final ranges, or the first position of the path where no
 // start goes on.
 fn follow(tables: Tables, start: usize, ranges: &[u32], path: &[u32]) -> Result<Ranges, usize>
-    requires { FollowReady (tables_of tables) start ranges.now path.now }
-    ensures { let t = tables_of tables.entry in
+    requires { FollowReady (tables_lent tables) start ranges.now path.now }
+    ensures { let t = tables_lent tables.entry in
         IsFollowed (along t 0 start (start_box (nodes_at t start) ranges.now) path.now) result }
 {
     let k = nodes_at(tables.locations, start) as usize;
@@ -49,7 +49,7 @@ fn follow(tables: Tables, start: usize, ranges: &[u32], path: &[u32]) -> Result<
 
 // Whether there is something to follow: tables that keep the layout, a start in them and a path that is not too long.
 fn is_askable(tables: Tables, start: usize, path: &[u32]) -> bool
-    ensures { result ≡ askable (tables_of tables.entry) start path.now }
+    ensures { result ≡ askable (tables_lent tables.entry) start path.now }
 {
     tables_keep(tables) && (start < tables.counts.locations) & (path.len() <= MOST_MOVES)
 }
@@ -61,7 +61,7 @@ pub fn follow_ranges(
     ranges: &[u32],
     path: &[u32],
 ) -> Result<Ranged, RangeRefusal>
-    ensures { result ≡ ranged_of (ranging (tables_of tables.entry) start ranges.now path.now) }
+    ensures { result ≡ ranged_of (ranging (tables_lent tables.entry) start ranges.now path.now) }
 {
     if !is_askable(tables, start, path) {
         return Err(RangeRefusal::Path { position: 0 });

@@ -12,7 +12,7 @@ use Rattle.model.specs.Layout.{keeps_layout}
 use Rattle.model.specs.Ranges.{start_box}
 use Rattle.model.specs.Records.{filled, record_at}
 use Rattle.model.specs.Runs.{nodes_at}
-use Rattle.model.specs.Structs.{tables_of}
+use Rattle.model.specs.Structs.{tables_lent}
 use Rattle.model.specs.Translate.{Tables}
 use Rattle.model.proofs.records.LayoutFacts.{layout_nodes, layout_room}
 use Rattle.model.proofs.runs.Ranged.{asked_layout, asked_length, asked_start}
@@ -41,7 +41,7 @@ module _ (t : Tables) (start : ℕ) (rs ns : List ℕ) (R : FollowReady t start 
 pub nodes_at-k-requires : goal.nodes_at-k-requires
 nodes_at-k-requires c =
     let a = c.args in
-    let t = tables_of a.tables in
+    let t = tables_lent a.tables in
     omega (
       arith,
       layout_room t (layout t a.start a.ranges.now a.path.now c.requires),
@@ -51,20 +51,20 @@ nodes_at-k-requires c =
 pub read_ends-requires : goal.read_ends-requires
 read_ends-requires c =
     let a = c.args in
-    let few = nodes_few (tables_of a.tables) a.start a.ranges.now a.path.now c.requires in
+    let few = nodes_few (tables_lent a.tables) a.start a.ranges.now a.path.now c.requires in
     (omega (arith, c.nodes_at-k.ensures, few), omega arith)
 
 pub read_ends-requires-2 : goal.read_ends-requires-2
 read_ends-requires-2 c =
     let a = c.args in
-    let few = nodes_few (tables_of a.tables) a.start a.ranges.now a.path.now c.requires in
+    let few = nodes_few (tables_lent a.tables) a.start a.ranges.now a.path.now c.requires in
     (omega (arith, c.nodes_at-k.ensures, few), omega arith)
 
 pub loop-i-init : goal.loop-i-init
 loop-i-init c =
     let a = c.args in
     let rs = a.ranges.now in
-    begin_going (tables_of a.tables) a.start rs a.path.now _ c.requires
+    begin_going (tables_lent a.tables) a.start rs a.path.now _ c.requires
     (c.read_ends.ensures ∙ ap (filled 12) (lows_read rs c.nodes_at-k.result)
     ∙ ap (λ j. filled 12 (start_box j rs).lows) c.nodes_at-k.ensures)
     (c.read_ends-2.ensures ∙ ap (λ j. filled 12 (start_box j rs).highs) c.nodes_at-k.ensures)
@@ -74,14 +74,14 @@ loop-i-init c =
 pub record_at-rec-requires : goal.record_at-rec-requires
 record_at-rec-requires c =
     let a = c.args in
-    let t = tables_of a.tables in
+    let t = tables_lent a.tables in
     in_bytes t (layout t a.start a.ranges.now a.path.now c.requires) a.start
     (start_box (nodes_at t a.start) a.ranges.now) a.path.now c.loop-i.i c.loop-i.left c.loop-i.invariant (search rules)
 
 pub follow_one-requires : goal.follow_one-requires
 follow_one-requires c =
     let a = c.args in
-    let t = tables_of a.tables in
+    let t = tables_lent a.tables in
     subst (λ r. EdgeReady r a.tables.locations.now) (sym c.record_at-rec.ensures)
     (ready t (layout t a.start a.ranges.now a.path.now c.requires) a.start
     (start_box (nodes_at t a.start) a.ranges.now) a.path.now c.loop-i.i c.loop-i.left c.loop-i.invariant (search rules))
@@ -99,7 +99,7 @@ none_from (Some x) i e h = (cc, cc)
 pub returns-in_err-left : goal.returns-in_err-left
 returns-in_err-left c =
     let a = c.args in
-    let t = tables_of a.tables in
+    let t = tables_lent a.tables in
     let l = c.loop-i in
     let h = none_from c.follow_one.result l.i c.in_err-left.field-0.0 c.in_err-left.ensures.value in
     let p = err_from_is_err_and c.from_residual.result c.from_residual.ensures.1 in
@@ -111,7 +111,7 @@ returns-in_err-left c =
 pub loop-i-preserved : goal.loop-i-preserved
 loop-i-preserved c =
     let a = c.args in
-    let t = tables_of a.tables in
+    let t = tables_lent a.tables in
     let l = c.loop-i in
     goes_on t (layout t a.start a.ranges.now a.path.now c.requires) a.start (start_box (nodes_at t a.start) a.ranges.now)
     a.path.now l.i l.left l.invariant (search rules) c.follow_one.result
@@ -121,6 +121,6 @@ loop-i-preserved c =
 pub returns : goal.returns
 returns c =
     let a = c.args in
-    let t = tables_of a.tables in
+    let t = tables_lent a.tables in
     is_followed t a.start (start_box (nodes_at t a.start) a.ranges.now) a.path.now c.loop-i.i c.loop-i.left
     c.loop-i.invariant (search rules)
