@@ -11,7 +11,7 @@ use Rattle.model.specs.Heap.{Heap}
 use Rattle.model.specs.Machine.{Answer, Stmt, accepts, answer_of, branch, kind, carry_out, target, step, entry, is_stop, action, stopped}
 use Rattle.model.specs.Records.{byte, stmt_of, Row, first_failed, refusal, unless, op_count}
 use Rattle.model.specs.Image.{Stepping, answered, cell_slot, heap_of, past_end, stays, step_image, checks_statement, checks_step, entry_fits, no_step, to_fault, to_next, to_stop}
-use Rattle.model.specs.Codes.{fault_number, op_number}
+use Rattle.model.specs.Codes.{fault_code, op_number}
 use Rattle.model.specs.declared.Decoded.{Decoded}
 use Rattle.model.specs.declared.codes.Fault.{Fault}
 use Rattle.model.specs.declared.codes.Fault.TheVariants as fault
@@ -32,12 +32,12 @@ use Rattle.model.proofs.ways.Picks.{room_accept}
 -- ---- the answer
 
 fault_answer : (st : Stmt) (b : ℕ) (f : Fault) (g : Heap) (ps cs : List ℕ)
-    → stays (to_fault (fault_number f)) ps cs ≡ answered (answer_of st b (effect_of (fault_number f) g)) ps cs
+    → stays (to_fault (fault_code f)) ps cs ≡ answered (answer_of st b (effect_of (fault_code f) g)) ps cs
 fault_answer st b fault.Null g ps cs = refl
 fault_answer st b fault.Undefined g ps cs = refl
 fault_answer st b fault.Leak g ps cs = refl
 
-fault_some : (f : Fault) → fault_number f ≡ 0 → ⊥
+fault_some : (f : Fault) → fault_code f ≡ 0 → ⊥
 fault_some fault.Null e = absurd (omega arith)
 fault_some fault.Undefined e = absurd (omega arith)
 fault_some fault.Leak e = absurd (omega arith)
@@ -162,13 +162,13 @@ module _ {r : List ℕ} {p c : ℕ} {ps cs : List ℕ} {d : Decoded} (C : Checke
             (w ∙ ap (λ g. answered (answer_of st (branch (op_in d) p (heap_of ps cs)) g) ps cs) R.ran.outcome
             ∙ ap (λ b. answered (cond b stopped (ran_answer st p c ps cs)) ps cs) (sym goes))
 
-        pub step_faulted : (f : Fault) {qs ds : List ℕ} → Finished d c ps cs (fault_number f) qs ds
-            → stays (to_fault (fault_number f)) qs ds ≡ step_image r p c ps cs
+        pub step_faulted : (f : Fault) {qs ds : List ℕ} → Finished d c ps cs (fault_code f) qs ds
+            → stays (to_fault (fault_code f)) qs ds ≡ step_image r p c ps cs
         step_faulted f {qs} {ds} R =
             let s = R.stays (fault_some f) in
             let b = branch (op_in d) p (heap_of ps cs) in
-            ap₂ (stays (to_fault (fault_number f))) s.0 s.1
-            ∙ ran R (stays (to_fault (fault_number f)) ps cs) (fault_answer (stmt_in d) b f (heap_of qs ds) ps cs)
+            ap₂ (stays (to_fault (fault_code f))) s.0 s.1
+            ∙ ran R (stays (to_fault (fault_code f)) ps cs) (fault_answer (stmt_in d) b f (heap_of qs ds) ps cs)
 
         pub step_went : {qs ds : List ℕ} → Finished d c ps cs 0 qs ds
             → {b : ℕ} → ((zs : List ℕ) → b ≡ branch (op_in d) p (heap_of ps zs)) → {m : ℕ}
