@@ -2,21 +2,21 @@
 // in a row is one move of the processor, and is read at once as eight bytes; what was written byte by byte is not.
 #![tactic(auto)]
 
-ghost use Rattle.std.specs.Prelude.{◌≡◌, ◌++◌, ◌+◌, ◌≤◌, drop, length, take};
+ghost use Rattle.std.specs.Prelude.{◌≡◌, ◌++◌, ◌+◌, ◌<◌, ◌≤◌, drop, length, take};
 ghost use Rattle.model.specs.Base.{record_size};
 ghost use Rattle.model.specs.Records.{word};
 ghost use Rattle.word.specs.Words.{bytes_of, eight_at, four_at};
 
 use model::RECORD;
 
-// The N bytes at a place; the compiler makes one load of them.
-fn bytes<const N: usize>(t: &[u8], at: usize) -> [u8; N]
-    requires { at + N ≤ length t.now }
+// The N bytes at a place; the compiler makes one load of them. (A copy over an array of zeros looks first whether the two
+// overlap.)
+pub fn bytes<const N: usize>(t: &[u8], at: usize) -> [u8; N]
+    requires { (0 < N) × (at + N ≤ length t.now) }
     ensures { result ≡ take N (drop at t.now) }
 {
-    let mut part = [0; N];
-    part.copy_from_slice(&t[at..at + N]);
-    part
+    let (chunks, _) = t[at..].as_chunks();
+    chunks[0]
 }
 
 // Two bytes as a number.
