@@ -28,7 +28,7 @@ pub fn branch_of(d: Decoded, pick: u8, pointers: &[u8]) -> u8
     let i = d.u.0 as usize;
     let j = d.w.0 as usize;
     match d.op {
-        Op::IsNull => test_branch(pointers[i], 0xfe),
+        Op::IsNull => test_branch(pointers[i], model::NULL),
         Op::Same => test_branch(pointers[i], pointers[j]),
         Op::Choose => pick,
         _ => 0,

@@ -14,7 +14,7 @@ fn is_named(cells: &[u8], v: u8) -> bool
     ensures { result ≡ named (slot_at cells.now) (val_of v) }
 {
     let c = v as usize;
-    v == 0xfe || v == 0xff || (c < cells.len() && cells[c] != 0xfd)
+    v == model::NULL || v == model::UNDEFINED || (c < cells.len() && cells[c] != model::UNUSED)
 }
 
 fn pointers_named(pointers: &[u8], cells: &[u8]) -> bool
@@ -31,7 +31,7 @@ fn tell_used(cells: &[u8], fine: &mut [bool])
         ++ drop (length cells.now) fine.old }
 {
     for (i, b) in cells.iter().enumerate() {
-        fine[i] = *b != 0xfd;
+        fine[i] = *b != model::UNUSED;
     }
 }
 
@@ -51,9 +51,9 @@ fn cells_named(cells: &[u8]) -> bool
 {
     let mut fine = [false; 256];
     tell_used(cells, &mut fine);
-    fine[0xfd] = true;
-    fine[0xfe] = true;
-    fine[0xff] = true;
+    fine[model::UNUSED as usize] = true;
+    fine[model::NULL as usize] = true;
+    fine[model::UNDEFINED as usize] = true;
     all_fine(cells, &fine)
 }
 

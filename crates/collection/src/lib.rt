@@ -8,7 +8,7 @@ ghost use Rattle.collection.specs.Left.{left_byte, left_bytes};
 fn left_byte(mark: u8, b: u8) -> u8
     ensures { result ≡ left_byte mark b }
 {
-    if mark == 0 { 0xfd } else { b }
+    if mark == 0 { model::UNUSED } else { b }
 }
 
 // Every cell without a mark goes.

@@ -31,7 +31,7 @@ fn edge_on(d: Decoded, branch: u8, guards: Guards, nodes: usize, target: &mut [u
     requires { (length target.old ≡ record_size) × (nodes ≤ most_nodes) }
     ensures { EdgeOn d branch guards nodes target.old target.new result }
 {
-    record::write_head(target, 0x4c, statement::next_of(d, branch), nodes);
+    record::write_head(target, b'L', statement::next_of(d, branch), nodes);
     EdgeMade {
         branch,
         guards,

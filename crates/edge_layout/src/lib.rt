@@ -45,7 +45,7 @@ fn fields_keep(rec: &[u8], nodes: u8, new: u8) -> bool
     ensures { (n : ℕ) → ends_keep n rec.now ≡ true
         → result ≡ edge_keeps n nodes new rec.now }
 {
-    if (rec[0] != 0x45) | (0x80 <= rec[1]) {
+    if (rec[0] != b'E') | (0x80 <= rec[1]) {
         return false;
     }
     let guards = guards_of(rec);

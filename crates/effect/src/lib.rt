@@ -17,8 +17,8 @@ fn cell_at(v: u8) -> Result<usize, Fault>
     ensures { Access v result }
 {
     match v {
-        0xfe => Err(Fault::Null),
-        0xff => Err(Fault::Undefined),
+        model::NULL => Err(Fault::Null),
+        model::UNDEFINED => Err(Fault::Undefined),
         _ => Ok(v as usize),
     }
 }
@@ -71,7 +71,7 @@ fn new_cell(u: Pointer, x: usize, pointers: &mut [u8], cells: &mut [u8])
     requires { (u.0 < length pointers.old) × (x < length cells.old) × (length cells.old ≤ most_cells) }
     ensures { (pointers.new ≡ set pointers.old u.0 x) × (cells.new ≡ set cells.old x 0xff) }
 {
-    cells[x] = 0xff;
+    cells[x] = model::UNDEFINED;
     set_pointer(u, x as u8, pointers);
 }
 
@@ -80,7 +80,7 @@ fn wipe_holders(c: u8, list: &mut [u8])
     ensures { list.new ≡ map (wipe_byte c) list.old }
 {
     for b in list.iter_mut() {
-        *b = if *b == c { 0xff } else { *b };
+        *b = if *b == c { model::UNDEFINED } else { *b };
     }
 }
 
@@ -90,16 +90,16 @@ fn free_at(at: u8, pointers: &mut [u8], cells: &mut [u8]) -> Result<(), Fault>
     ensures { HasEffect (free_val (val_of at)) pointers.old cells.old
         (fault_in result) pointers.new cells.new }
 {
-    if at == 0xfe {
+    if at == model::NULL {
         return Ok(());
     }
-    if at == 0xff {
+    if at == model::UNDEFINED {
         return Err(Fault::Undefined);
     }
     wipe_holders(at, pointers);
     wipe_holders(at, cells);
     let c = at as usize;
-    cells[c] = 0xfd;
+    cells[c] = model::UNUSED;
     Ok(())
 }
 
@@ -107,7 +107,7 @@ fn free_at(at: u8, pointers: &mut [u8], cells: &mut [u8]) -> Result<(), Fault>
 fn compared(a: u8, b: u8) -> Result<(), Fault>
     ensures { Compares (val_of a) (val_of b) (fault_in result) }
 {
-    if (a == 0xff) | (b == 0xff) {
+    if (a == model::UNDEFINED) | (b == model::UNDEFINED) {
         Err(Fault::Undefined)
     } else {
         Ok(())
@@ -122,7 +122,7 @@ pub fn test_fault(d: Decoded, pointers: &[u8]) -> Result<(), Fault>
     let i = d.u.0 as usize;
     let j = d.w.0 as usize;
     match d.op {
-        Op::IsNull => compared(pointers[i], 0xfe),
+        Op::IsNull => compared(pointers[i], model::NULL),
         Op::Same => compared(pointers[i], pointers[j]),
         _ => Ok(()),
     }
@@ -139,10 +139,10 @@ pub fn run_effect(d: Decoded, x: usize, pointers: &mut [u8], cells: &mut [u8]) -
     let at = pointers[i];
     let v = pointers[j];
     match d.op {
-        Op::SetNull | Op::LetGo => set_pointer(d.u, 0xfe, pointers),
+        Op::SetNull | Op::LetGo => set_pointer(d.u, model::NULL, pointers),
         Op::Copy => set_pointer(d.u, v, pointers),
         Op::Load => load_through(d.u, v, pointers, &cells[..])?,
-        Op::Clear => store_through(at, 0xfe, cells)?,
+        Op::Clear => store_through(at, model::NULL, cells)?,
         Op::Store => store_through(at, v, cells)?,
         Op::New => new_cell(d.u, x, pointers, cells),
         Op::Free => free_at(at, pointers, cells)?,

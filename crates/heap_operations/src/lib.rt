@@ -23,7 +23,7 @@ fn fold_heap(pointers: &[u8], cells: &[u8], order: &[u8], held: &[u8]) -> Folded
     let mut shape = [0u8; model::RECORD];
     let k = segment::cut_long(order, held, &mut node, &mut last, &mut size);
     folding::fold_shape(pointers, cells, &last[..k], &node, &mut shape[4..]);
-    record::write_head(&mut shape, 0x48, Statement(0), k);
+    record::write_head(&mut shape, b'H', Statement(0), k);
     Folded {
         ended: Ended::Accepted,
         shape: shape,

@@ -88,7 +88,7 @@ pub fn step_refusal(rec: &[u8], pointers: &[u8], cells: &[u8]) -> Result<(), Rea
     if rec.len() != model::RECORD {
         return Err(Reason::RecordKind);
     }
-    if rec[0] != 0x53 {
+    if rec[0] != b'S' {
         return Err(Reason::RecordKind);
     }
     layout::statement_refusal(rec, model::MOST_STATEMENTS)
@@ -100,7 +100,7 @@ pub fn entry_ok(op: Op, pick: u8, cell: usize, cells: &[u8]) -> bool
 {
     match op {
         Op::Choose => pick <= 1,
-        Op::New => cell < cells.len() && cells[cell] == 0xfd,
+        Op::New => cell < cells.len() && cells[cell] == model::UNUSED,
         _ => true,
     }
 }

@@ -18,8 +18,8 @@ fn next_at(at: u8, cells: &[u8]) -> u8
     requires { Named cells.now at }
     ensures { val_of result ≡ next_at (map cell_slot cells.now) (val_of at) }
 {
-    if 0xfd < at {
-        return 0xfe;
+    if model::UNUSED < at {
+        return model::NULL;
     }
     let c = at as usize;
     cells[c]
@@ -32,7 +32,7 @@ fn taken(d: Decoded, pointers: &[u8], cells: &[u8]) -> u8
     ensures { val_of result ≡ takes (action (op_in d)) (heap_of pointers.now cells.now) }
 {
     if statement::leaves_heap(d.op) {
-        return 0xfe;
+        return model::NULL;
     }
     let i = d.u.0 as usize;
     let v = pointers[i];
@@ -47,7 +47,7 @@ fn taken(d: Decoded, pointers: &[u8], cells: &[u8]) -> u8
 fn surely_kept(v: u8, pointers: &[u8]) -> bool
     ensures { result ≡ true → Stands (val_of v) (map val_of pointers.now) }
 {
-    0xfd < v || pointers.contains(&v)
+    model::UNUSED < v || pointers.contains(&v)
 }
 
 // Runs a statement on the image. These are the steps of `machine::run`: with a second caller, the compiler would no

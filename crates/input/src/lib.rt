@@ -29,7 +29,7 @@ pub struct Routine {
 fn kind_fits(after: bool, tag: u8) -> bool
     ensures { result ≡ kind_fits after tag }
 {
-    (tag == 0x48) | ((tag == 0x53) & !after)
+    (tag == b'H') | ((tag == b'S') & !after)
 }
 
 // The first record of a wrong kind.
@@ -43,7 +43,7 @@ fn wrong_kind(input: &[u8], records: usize) -> Option<usize>
         if !kind_fits(after, tag) {
             return Some(i);
         }
-        after = tag == 0x48;
+        after = tag == b'H';
     }
     None
 }
@@ -55,7 +55,7 @@ fn count_statements(input: &[u8], records: usize) -> usize
 {
     let mut n = 0;
     for i in 0..records {
-        if input[model::RECORD * i] == 0x53 {
+        if input[model::RECORD * i] == b'S' {
             n += 1;
         }
     }
@@ -93,7 +93,7 @@ fn record_refusal(input: &[u8], i: usize, statements: usize) -> Result<(), Reaso
     ensures { Tells (record_checks statements input.now i) (failed_in result) }
 {
     let rec = model::record_at(input, i);
-    if rec[0] == 0x53 {
+    if rec[0] == b'S' {
         return statement_refusal(rec, statements);
     }
     shape_refusal(input, i, rec)

@@ -17,7 +17,7 @@ pub fn all_zero(bytes: &[u8]) -> bool
 pub fn value_byte(k: u8, b: u8) -> bool
     ensures { result ≡ value_byte k b }
 {
-    (b < k) | (b == 0xfe) | (b == 0xff)
+    (b < k) | (b == model::NULL) | (b == model::UNDEFINED)
 }
 
 // Whether all bytes are values in a shape of k nodes, without a branch for each.
@@ -99,5 +99,5 @@ pub fn targets_ok(n: usize, rec: &[u8]) -> bool
 pub fn head_ok(tag: u8, statement: u8, fault: u8) -> bool
     ensures { result ≡ head_h tag statement fault }
 {
-    (tag == 0x48) & (statement == 0) & (fault == 0)
+    (tag == b'H') & (statement == 0) & (fault == 0)
 }

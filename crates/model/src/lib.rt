@@ -29,6 +29,14 @@ pub const MOST_MOVES: usize = 4096;
 
 pub const OPS: u8 = 14;
 
+// The bytes of values that name no node or cell, and of a cell that is not in use: bytes, since images and records are
+// lent by callers in C.
+pub const UNUSED: u8 = 0xfd;
+
+pub const NULL: u8 = 0xfe;
+
+pub const UNDEFINED: u8 = 0xff;
+
 // A pointer's number, 0 to 5.
 #[derive(Clone, Copy, PartialEq, Eq)]
 pub struct Pointer(pub u8);

@@ -36,7 +36,7 @@ pub fn write_fault(part: &mut [u8], statement: Statement, fault: Fault)
     // the first eight bytes at once, since they are read as words soon after
     word::put_eight(
         part,
-        0x4c + 0x100 * (statement.0 as u64) + 0x1_0000 * (fault.number() as u64),
+        b'L' as u64 + 0x100 * (statement.0 as u64) + 0x1_0000 * (fault.number() as u64),
     );
 }
 
@@ -48,7 +48,7 @@ pub fn write_location(part: &mut [u8], statement: Statement, fault: u8, rec: &[u
         ++ drop record_size part.old }
 {
     part[..model::RECORD].copy_from_slice(rec);
-    part[..3].copy_from_slice(&[0x4c, statement.0, fault]);
+    part[..3].copy_from_slice(&[b'L', statement.0, fault]);
 }
 
 // The first k updates, two bytes each, the low byte first, from byte 8 on.
@@ -82,7 +82,7 @@ pub fn write_edge(part: &mut [u8], fields: EdgeFields, updates: &[u16])
     let first = fields.guards.first;
     blank(part);
     part[..8].copy_from_slice(&[
-        0x45,
+        b'E',
         head,
         from[0],
         from[1],

@@ -17,7 +17,7 @@ fn location_keeps(rec: &[u8]) -> bool
     requires { length rec.now ≡ record_size }
     ensures { result ≡ location_keeps rec.now }
 {
-    if (rec[0] != 0x4c) | (64 <= rec[1]) | (3 < rec[2]) {
+    if (rec[0] != b'L') | (64 <= rec[1]) | (3 < rec[2]) {
         return false;
     }
     if rec[2] == 0 {

@@ -75,7 +75,7 @@ fn write_cells(firsts: &[u8], successors: &[u8], counters: &[u32], cells: &mut [
         (strands_bytes firsts.now 0 successors.now counters.now) }
 {
     let count = write_strands(firsts, successors, counters, cells);
-    cells[count..].fill(0xfd);
+    cells[count..].fill(model::UNUSED);
 }
 
 // Writes the image of the shape in rec, unfolded by the counters.

@@ -58,7 +58,7 @@ pub fn visit(pointers: &[u8], cells: &[u8], order: &mut [u8], seen: &mut [u8]) -
 fn kept_too(before: bool, b: u8, mark: u8) -> bool
     ensures { result ≡ not (lost_at b mark) && before }
 {
-    before & ((b == 0xfd) | (mark != 0))
+    before & ((b == model::UNUSED) | (mark != 0))
 }
 
 // Whether every cell in use has a mark. All cells are looked at: that is quicker than to stop at the first that is

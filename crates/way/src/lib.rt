@@ -44,7 +44,7 @@ fn held_by(u: Pointer, pointers: &[u8]) -> u8
 fn one(a: u8) -> Looked
     ensures { view_in result ≡ view_val (val_of a) }
 {
-    if a < 0xfe {
+    if a < model::NULL {
         Looked::One(Node(a))
     } else {
         Looked::Nothing
@@ -55,7 +55,7 @@ fn one(a: u8) -> Looked
 fn both(a: u8, b: u8) -> Looked
     ensures { view_in result ≡ view_pair (val_of a) (val_of b) }
 {
-    if (a < 0xfe) & (b < 0xfe) & (a != b) {
+    if (a < model::NULL) & (b < model::NULL) & (a != b) {
         Looked::Two(Node(a), Node(b))
     } else {
         Looked::Nothing
@@ -172,7 +172,7 @@ fn open_cells(cells: &mut [u8], k: usize, op: Op, split: Option<Node>) -> usize
         return k + 1;
     }
     if op == Op::New {
-        cells[k] = 0xfd;
+        cells[k] = model::UNUSED;
         return k + 1;
     }
     k
