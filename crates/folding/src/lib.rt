@@ -12,7 +12,11 @@ pub fn fold_byte(b: u8, node: &[u8]) -> u8
     requires { b < 0xfd → b < length node.now }
     ensures { result ≡ fold_byte node.now b }
 {
-    if b < model::UNUSED { node[b as usize] } else { b }
+    if b < model::UNUSED {
+        node[b as usize]
+    } else {
+        b
+    }
 }
 
 // What is found at each of the places, in terms of nodes, over the front of a slice.
