@@ -11,7 +11,7 @@ use Rattle.model.specs.Heap.{Heap}
 use Rattle.model.specs.Machine.{Answer, Stmt, accepts, answer_of, branch, kind, carry_out, target, step, entry, is_stop, action, stopped}
 use Rattle.model.specs.Records.{byte, stmt_of, Row, first_failed, refusal, refusal_at, unless, op_count}
 use Rattle.model.specs.Image.{Stepping, answered, cell_slot, heap_of, past_end, stays, step_image, checks_statement, checks_step, entry_fits, no_step, to_fault, to_next, to_stop}
-use Rattle.model.specs.Codes.{fault_number, op_number, reason_number, refusal_for}
+use Rattle.model.specs.Codes.{fault_code, op_number, reason_number, refusal_for}
 use Rattle.model.specs.declared.Decoded.{Decoded}
 use Rattle.model.specs.declared.codes.Fault.{Fault}
 use Rattle.model.specs.declared.codes.Fault.TheVariants as fault
