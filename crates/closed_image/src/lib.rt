@@ -35,7 +35,8 @@ fn tell_used(cells: &[u8], fine: &mut [bool])
     }
 }
 
-// Whether each cell's byte is fine by the table. All are looked at: that is quicker than to stop at the first that is not.
+// Whether each cell's byte is fine by the table. All are looked at: that is quicker than to stop at the first that is
+// not.
 fn all_fine(cells: &[u8], fine: &[bool; 256]) -> bool
     ensures { result ≡ all (λ b. get_or fine.now b false) cells.now }
 {

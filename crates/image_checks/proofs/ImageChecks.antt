@@ -55,7 +55,8 @@ module _ {ps cs o m : List ℕ} where
       pub check_lost : x ≡ false → ImageChecked ps cs o m (Err LostCell)
       check_lost f =
           let lost = sym (kept_marked d) ∙ sym w ∙ f in
-          refused_with_lem LostCell (ap (λ k. failing k 0) (sym (given_failed (checks_image ps cs) 14 0 (inr (good, inl (refl, refl, lost)))).0))
+          let told = (given_failed (checks_image ps cs) 14 0 (inr (good, inl (refl, refl, lost)))).0 in
+          refused_with_lem LostCell (ap (λ k. failing k 0) (sym told))
 
       pub check_done : x ≡ true → ImageChecked ps cs o m (Ok n)
       check_done f =

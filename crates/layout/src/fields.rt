@@ -1,5 +1,4 @@
-// Tests of bytes and of single fields of S and H records. Those of single bytes are joined by & and |, without
-// branches.
+// Tests of bytes and of single fields of S and H records. Tests in a row are joined by & and |, without branches.
 ghost use Rattle.std.specs.Prelude.{◌≡◌, length};
 ghost use Rattle.model.specs.Base.{all, record_size};
 ghost use Rattle.model.specs.Records.{is_zero, uses_u, uses_w, uses_first, uses_second, value_byte};
@@ -27,7 +26,7 @@ pub fn all_values(bytes: &[u8], k: u8) -> bool
     bytes.iter().fold(true, |good, b| good & value_byte(k, *b))
 }
 
-// ---- S records: which fields an op uses, and what stands in them
+// ---- S records: which fields an op uses, and what stands in them. The op is its byte, which is still to be checked.
 
 pub fn uses_u(op: u8) -> bool
     ensures { result ≡ uses_u op }

@@ -14,4 +14,5 @@ loop-i-preserved c =
     let l = c.loop-i in
     let h : l.i < length a.cells.now = omega arith in
     let k : l.i < length a.fine.now = omega arith in
-    map_fill used_cell a.cells.now a.fine.now l.fine 0 l.i _ h k l.invariant (sym (used_byte (get_or a.cells.now l.i 0)))
+    map_fill used_cell a.cells.now a.fine.now l.fine 0 l.i _ h k l.invariant
+    (sym (used_byte (get_or a.cells.now l.i 0)))

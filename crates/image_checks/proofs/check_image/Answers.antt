@@ -22,7 +22,8 @@ visit-n-requires c =
 
 pub returns : goal.returns
 returns c =
-    check_done (good (goal.at.returns c).Else-not-is_closed) c.visit-n.ensures c.nothing_lost.ensures c.if-not-nothing_lost.false
+    check_done (good (goal.at.returns c).Else-not-is_closed) c.visit-n.ensures c.nothing_lost.ensures
+    c.if-not-nothing_lost.false
 
 pub returns-then-not-nothing_lost : goal.returns-then-not-nothing_lost
 returns-then-not-nothing_lost c =

@@ -1,4 +1,5 @@
--- `check` meets its contract: the length first, then the kinds, the numbers of statements and of shapes, and the records.
+-- `check` meets its contract: the length first, then the kinds, the numbers of statements and of shapes, and the
+-- records.
 use Prim.Native.Nat.{◌-◌, ◌/◌}
 use mathlib.Core.Path.{◌≡◌, ◌∙◌, ap, sym}
 use mathlib.Core.Bool.{false, true}
@@ -49,8 +50,8 @@ shape_count c =
 
 pub returns-in-Some-clause-outcome : goal.returns-in-Some-clause-outcome
 returns-in-Some-clause-outcome c =
-    rw c.at-in-Some.ensures (bad_kind c.args.input.now (whole (goal.at.returns-in-Some-clause-outcome c).Else-length-ne0)
-    (sym c.in-Some.ensures))
+    let at = goal.at.returns-in-Some-clause-outcome c in
+    rw c.at-in-Some.ensures (bad_kind c.args.input.now (whole at.Else-length-ne0) (sym c.in-Some.ensures))
 
 pub returns-then-not-within-clause-outcome : goal.returns-then-not-within-clause-outcome
 returns-then-not-within-clause-outcome c =
@@ -62,7 +63,8 @@ pub overflow_sub-shapes : goal.overflow_sub-shapes
 overflow_sub-shapes c =
     let at = goal.at.overflow_sub-shapes c in
     let s = c.args.input.now in
-    omega (arith, counts_whole s (length s / 32) (length_even (length s) (whole at.Else-length-ne0)) (kinds at.In_default))
+    let w = length_even (length s) (whole at.Else-length-ne0) in
+    omega (arith, counts_whole s (length s / 32) w (kinds at.In_default))
 
 pub returns-then-not-within-2-clause-outcome : goal.returns-then-not-within-2-clause-outcome
 returns-then-not-within-2-clause-outcome c =

@@ -31,13 +31,15 @@ returns-in_err-map_err-clause-known c =
     let m = mapped_err _ c.record_refusal.result c.map_err.result c.map_err.ensures.cases c.in_err-map_err.was in
     let x : c.in_err-map_err.field-0.0 ≡ refusal_for m.0 i = search rules in
     let t = rw m.1 at c.record_refusal.ensures in
-    rw (p.1, p.2, x) (number_known a.routine.statements (earlier a.input.now i) (record_at a.input.now i) t (no_zero m.0))
+    rw (p.1, p.2, x) (number_known a.routine.statements (earlier a.input.now i) (record_at a.input.now i) t
+    (no_zero m.0))
 
 pub returns-clause-first : goal.returns-clause-first
 returns-clause-first c =
     let a = c.args in
     let l = c.loop-i in
-    sym (l.invariant ∙ records_pass_end a.input.now (a.routine.statements + a.routine.shapes) c.requires.4 a.routine.statements l.i-counter
+    sym (l.invariant ∙ records_pass_end a.input.now (a.routine.statements + a.routine.shapes) c.requires.4
+    a.routine.statements l.i-counter
     (omega arith))
 
 pub loop-i-preserved : goal.loop-i-preserved

@@ -9,4 +9,5 @@ use Rattle.input.proofs.check_records.Given as goal
 
 abbrev pub invariant-loop-i : goal.invariant-loop-i
 invariant-loop-i l = first_bad_record l.routine.statements 0 [] (records_of l.input)
-    ≡ first_bad_record l.routine.statements l.i-counter (earlier l.input l.i-counter) (drop l.i-counter (records_of l.input))
+    ≡ first_bad_record l.routine.statements l.i-counter (earlier l.input l.i-counter)
+    (drop l.i-counter (records_of l.input))

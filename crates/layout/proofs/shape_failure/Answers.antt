@@ -23,5 +23,6 @@ pub returns : goal.returns
 returns c =
     let r = c.args.rec.now in
     let e : (10 + byte r 3) - 10 ≡ byte r 3 = omega arith in
-    subst (λ h. Tells (checks_nodes h) (failed_in c.node_failure.result)) (sym (shape_image r c.requires.0 c.requires.1))
+    subst (λ h. Tells (checks_nodes h) (failed_in c.node_failure.result))
+    (sym (shape_image r c.requires.0 c.requires.1))
     (rw e at c.node_failure.ensures)
