@@ -10,7 +10,8 @@ use Rattle.hex_lines.specs.Lines.{lines_of}
 use Rattle.text.specs.Text.{refusal_line, text_of}
 
 module _ (ls es : List ℕ) {o : Result Counts Refusal} where
-  pub listed_text : {c : Counts} → o ≡ Ok c → lines_of c.locations ls ++ lines_of c.edges es ≡ text_of (outcome_of o ls es)
+  pub listed_text : {c : Counts} → o ≡ Ok c
+      → lines_of c.locations ls ++ lines_of c.edges es ≡ text_of (outcome_of o ls es)
   unfolding text_of
   listed_text q = ap (λ x. text_of (outcome_of x ls es)) (sym q)
 

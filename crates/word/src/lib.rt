@@ -9,8 +9,8 @@ ghost use Rattle.word.specs.Words.{bytes_of, eight_at, four_at};
 
 use model::RECORD;
 
-// The N bytes at a place; the compiler makes one load of them. (A copy over an array of zeros looks first whether the two
-// overlap.)
+// The N bytes at a place; the compiler makes one load of them. (A copy over an array of zeros looks first whether the
+// two overlap.)
 pub fn bytes<const N: usize>(t: &[u8], at: usize) -> [u8; N]
     requires { (0 < N) × (at + N ≤ length t.now) }
     ensures { result ≡ take N (drop at t.now) }

@@ -29,6 +29,7 @@ returns c =
     let a = c.args in
     let r = a.rec.now in
     let e : l.i ≡ 32 = omega arith in
-    let w = l.invariant ∙ ap₂ (λ x i. joined (map byte_of x) ++ drop (2 * i) a.line.now) (take_all l.i r (omega arith)) e in
+    let w = l.invariant
+    ∙ ap₂ (λ x i. joined (map byte_of x) ++ drop (2 * i) a.line.now) (take_all l.i r (omega arith)) e in
     set_split l.line 64 10 (omega arith)
     ∙ put_next a.line.now l.line (joined (map byte_of r)) (10 ∷ []) 64 1 l.auto.line (omega arith) w

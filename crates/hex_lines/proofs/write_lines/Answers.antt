@@ -13,8 +13,10 @@ use Rattle.hex_lines.proofs.write_lines.Goals as goal
 
 pub write_line-requires : goal.write_line-requires
 write_line-requires c =
-    let i = c.loop-i-test.true in
-    (ap length c.record_at.ensures ∙ simp (length-take, length-drop) (omega arith), simp (length-take, length-drop) (omega (arith, c.loop-i.auto.text)))
+    let i = c.loop-i-test.true in (
+      ap length c.record_at.ensures ∙ simp (length-take, length-drop) (omega arith),
+      simp (length-take, length-drop) (omega (arith, c.loop-i.auto.text)),
+    )
 
 pub loop-i-preserved : goal.loop-i-preserved
 loop-i-preserved c =

@@ -23,6 +23,7 @@ loop-j-preserved c =
     let l = b.loop-j in
     let t = b.args.table.now in
     let i = c.loop-j-test.true in
+    let e = c.enter.ensures ∙ ap (entered l.index l.j) (c.hash.ensures.0 ∙ ap hash_of c.record_at.ensures) in
     λ rs q w n.
     let X = entered_next t rs q w (omega (arith, b.requires.few)) l.j l.index (omega arith) (l.invariant rs q w n) in
-    subst (Indexed _) (sym (c.enter.ensures ∙ ap (entered l.index l.j) (c.hash.ensures.0 ∙ ap hash_of c.record_at.ensures))) X
+    subst (Indexed _) (sym e) X

@@ -26,6 +26,7 @@ returns c =
     n.ensures.1 ∙ ap (λ x. word ++ decimal_of x) c.number-number.ensures in
     let s_is : space ≡ number ++ 0x20 ∷ [] = s.ensures.1 in
     let p_is : place ≡ space ++ decimal_of a.refusal.place = p.ensures.1 in
-    let v_is : node ≡ place ++ node_part (reason_number a.refusal.reason) (reason_node a.refusal.reason) = v.ensures.1 in
+    let x = a.refusal.reason in
+    let v_is : node ≡ place ++ node_part (reason_number x) (reason_node x) = v.ensures.1 in
     let l_is : take l.result l.new.text ≡ node ++ 10 ∷ [] = l.ensures.1 in
     (search rules, rw (l_is, v_is, p_is, s_is, n_is, w_is))
