@@ -41,7 +41,7 @@ pub fn write_fault(part: &mut [u8], statement: Statement, fault: Fault)
 }
 
 // An L record with the shape that the record rec has: the part is that of the location table from 32 times its number
-// on.
+// on. The fault is a byte of a record and no `Fault`: callers copy it, and it may be none.
 pub fn write_location(part: &mut [u8], statement: Statement, fault: u8, rec: &[u8])
     requires { (record_size ≤ length part.old) × (length rec.now ≡ record_size) }
     ensures { part.new ≡ location_bytes statement.0 fault rec.now
@@ -51,13 +51,13 @@ pub fn write_location(part: &mut [u8], statement: Statement, fault: u8, rec: &[u
     part[..3].copy_from_slice(&[b'L', statement.0, fault]);
 }
 
-// The first k updates, two bytes each, the low byte first, from byte 8 on.
-fn write_updates(part: &mut [u8], updates: &[u16], k: usize)
-    requires { (8 + 2 * k ≤ length part.old) × (k ≤ length updates.now) }
+// The updates, two bytes each, the low byte first, from byte 8 on.
+fn write_updates(part: &mut [u8], updates: &[u16])
+    requires { 8 + 2 * length updates.now ≤ length part.old }
     ensures { part.new ≡ take 8 part.old
-        ++ (update_bytes updates.now k ++ drop (8 + 2 * k) part.old) }
+        ++ (update_bytes updates.now (length updates.now) ++ drop (8 + 2 * length updates.now) part.old) }
 {
-    for (j, update) in updates[..k].iter().enumerate() {
+    for (j, update) in updates.iter().enumerate() {
         part[8 + 2 * j..10 + 2 * j].copy_from_slice(&update.to_le_bytes());
     }
 }
@@ -91,7 +91,7 @@ pub fn write_edge(part: &mut [u8], fields: EdgeFields, updates: &[u16])
         first.test,
         first.node.0,
     ]);
-    write_updates(part, updates, fields.nodes);
+    write_updates(part, &updates[..fields.nodes]);
 }
 
 // An E record in its place: the part of the table from 32 times the record number on is lent to the writer.

@@ -3,11 +3,11 @@ use Prim.Native.Nat.{ℕ, zero, suc, ◌+◌, ◌≤◌, ◌<◌}
 use mathlib.Core.Bool.{Bool, true, ◌||◌}
 use Rattle.std.specs.Prelude.{Option, Some, None}
 use Rattle.model.specs.declared.Node.{Node}
-use mathlib.Core.List.{List, [], ◌∷◌, ◌++◌, append-nil, map, map-append}
+use mathlib.Core.List.{List, [], ◌∷◌, ◌++◌, map, map-append}
 use mathlib.Core.Path.{◌≡◌, refl, ap, ap₂, sym, ◌∙◌}
 use native.Mathlib.Omega.{arith}
 use lib.Dec.{eqb, ltb}
-use lib.ListN.{drop, drop_of_length-le, get_or, length, length-drop, length-map, set, take}
+use lib.ListN.{drop, get_or, length, length-drop, length-map, set, take}
 use lib.Seq.{drop-drop, length-take-le, take-add, take-append-le, take-take}
 use borrow.Author.Tests.{eqb-true, ltb-true, ne_eqb}
 use Rattle.model.specs.Base.{all}
@@ -109,23 +109,14 @@ all_after q (x ∷ l) m h = all_after q l m (and_r (q x) (all q (l ++ m)) h)
 
 -- a ready record: what stands after the copies, and the opened heap
 module _ (r p c : List ℕ) (op : ℕ) (sp : Option Node) (R : OpenReady r p c sp) where
-  pub ready_pointers : take 6 (drop 4 r) ++ drop (length (take 6 (drop 4 r))) p ≡ take 6 (drop 4 r)
-  ready_pointers =
-      let len : length (take 6 (drop 4 r)) ≡ 6 =
-      length-take-le 6 (drop 4 r) (omega (arith, R.wide, length-drop 4 r)) in
-      let most : length p ≤ length (take 6 (drop 4 r)) = omega (arith, R.six) in
-      ap (λ l. take 6 (drop 4 r) ++ l) (drop_of_length-le p most) ∙ append-nil (take 6 (drop 4 r))
-
   successors_length : length (take (byte r 3) (drop 10 r)) ≡ byte r 3
   successors_length = length-take-le (byte r 3) (drop 10 r) (omega (arith, R.wide, R.few, length-drop 10 r))
 
-  pub ready_cells : take (byte r 3) (take 12 (drop 10 r) ++ drop (length (take 12 (drop 10 r))) c)
-      ≡ take (byte r 3) (drop 10 r)
-  ready_cells =
+  pub ready_cells : (z : List ℕ) → take (byte r 3) (take 12 (drop 10 r) ++ z) ≡ take (byte r 3) (drop 10 r)
+  ready_cells z =
       let f = take 12 (drop 10 r) in
       let all : length f ≡ 12 = length-take-le 12 (drop 10 r) (omega (arith, R.wide, length-drop 10 r)) in
-      take-append-le (byte r 3) f (drop (length f) c) (omega (arith, R.few))
-      ∙ take-take (byte r 3) 12 (drop 10 r) (omega (arith, R.few))
+      take-append-le (byte r 3) f z (omega (arith, R.few)) ∙ take-take (byte r 3) 12 (drop 10 r) (omega (arith, R.few))
 
   successors_values : all (value_byte (byte r 3)) (take (byte r 3) (drop 10 r)) ≡ true
   successors_values =

@@ -188,8 +188,8 @@ pub fn open_way(rec: &[u8], op: Op, way: Way, pointers: &mut [u8], cells: &mut [
         ≡ opened_heap way.split (op_number op) (shape_of rec.now) }
 {
     let k = rec[3] as usize;
-    fill::copy(&rec[4..10], pointers);
+    pointers.copy_from_slice(&rec[4..10]);
     // all twelve successors, of which the first k count: a copy of one length is quicker
-    fill::copy(&rec[10..22], cells);
+    cells[..12].copy_from_slice(&rec[10..22]);
     open_cells(cells, k, op, way.split)
 }
