@@ -107,8 +107,9 @@ module _ (s : List ℕ) (a b : ℕ) where
               ∙ translate_full_lem (refusal_in y) (listing_starts room ∙ e ∙ ap full Y)
 
 -- the automaton of an outcome is the routine
-pub outcome_automaton : (s : List ℕ) (a b : ℕ) (o : Result Counts declared.Refusal) (ls es : List ℕ) → outcome_of o ls es ≡ translate s a b
-    → (outcome_of o ls es).verdict ≡ is_accepted → IsRoutineOf s (outcome_of o ls es).tables
+pub outcome_automaton : (s : List ℕ) (a b : ℕ) (o : Result Counts declared.Refusal) (ls es : List ℕ)
+    → outcome_of o ls es ≡ translate s a b → (outcome_of o ls es).verdict ≡ is_accepted
+    → IsRoutineOf s (outcome_of o ls es).tables
 unfolding Demand3
 outcome_automaton s a b o ls es e z =
     subst (λ x. IsRoutineOf s x.tables) (sym e) (demand_three s a b (sym (ap (λ x. x.verdict) e) ∙ z))

@@ -149,7 +149,8 @@ module _ (s : List ℕ) (n : ℕ) (ls es ix : List ℕ) (c : Counts) where
             rw o refl
 
         -- the same by what is answered, where a reason gets the location's number as its place
-        pub goes_on : (x : Result (Unit {0}) Reason) (u : Unit {0}) → LocationExplored s n ls' es' ix' c' i ls'' es'' ix'' a x
+        pub goes_on : (x : Result (Unit {0}) Reason) (u : Unit {0})
+            → LocationExplored s n ls' es' ix' c' i ls'' es'' ix'' a x
             → placed_at i x ≡ Ok u → Explores ls'' es'' ix'' a (i + 1)
         goes_on (Ok v) u T e = explores_next T
         goes_on (Err r) u T e = absurd (cc)

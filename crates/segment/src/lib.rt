@@ -27,7 +27,8 @@ fn last_node(k: usize) -> Node
 impl Tables<'_> {
     // The cell is the last so far of the segment of node n, which has so many cells with it.
     fn enter(&mut self, c: u8, n: Node, count: u32)
-        requires { (c < length self.old.node.now) × (n.0 < length self.old.last.now) × (n.0 < length self.old.size.now) }
+        requires { (c < length self.old.node.now) × (n.0 < length self.old.last.now)
+            × (n.0 < length self.old.size.now) }
         ensures entered { Entered c n.0 count (tables_in self.old) (tables_in self.new) }
         ensures same { SameTables self.old self.new }
     {

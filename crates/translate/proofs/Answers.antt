@@ -20,7 +20,8 @@ use Rattle.model.proofs.listings.Outcomes.{fitting}
 use Rattle.text.specs.Text.{Stands, text_of}
 use Rattle.translate.specs.Printed.{printed}
 
-module _ (s : List ℕ) (a b : ℕ) (o : Result Counts Refusal) (ls es : List ℕ) (e : outcome_of o ls es ≡ translate s a b) where
+module _ (s : List ℕ) (a b : ℕ) (o : Result Counts Refusal) (ls es : List ℕ)
+    (e : outcome_of o ls es ≡ translate s a b) where
   pub counts_stand : length ls ≡ a → length es ≡ b → Stands o ls es
   counts_stand p q =
       let l = ap (λ x. x.tables.loc_count) e in

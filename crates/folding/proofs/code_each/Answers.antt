@@ -22,13 +22,15 @@ pub overflow_mul-code : goal.overflow_mul-code
 overflow_mul-code g c =
     let l = c.loop-i in
     let v = l.invariant in
-    record { fits = omega (arith, small l.code l.i _ _ c.args.places.now v.0 c.requires.few c.loop-i-test.true v.1 v.2) }
+    let low = small l.code l.i _ _ c.args.places.now v.0 c.requires.few c.loop-i-test.true v.1 v.2 in
+    record { fits = omega arith }
 
 pub overflow_add-code : goal.overflow_add-code
 overflow_add-code g c =
     let l = c.loop-i in
     let v = l.invariant in
-    record { fits = omega (arith, small l.code l.i _ _ c.args.places.now v.0 c.requires.few c.loop-i-test.true v.1 v.2) }
+    let low = small l.code l.i _ _ c.args.places.now v.0 c.requires.few c.loop-i-test.true v.1 v.2 in
+    record { fits = omega arith }
 
 pub loop-i-preserved : goal.loop-i-preserved
 loop-i-preserved g c =
@@ -48,4 +50,9 @@ returns g c =
       AllZip-long _ _ _ v.1,
       length-drop c.loop-i.i c.args.places.now,
       c.requires.few,
-    ) in (v.0, found_from _ c.args.places.now v.0 c.loop-i.i (omega arith) v.1, v.2.is_code, coded_below _ _ _ 6 v.2 few)
+    ) in (
+      v.0,
+      found_from _ c.args.places.now v.0 c.loop-i.i (omega arith) v.1,
+      v.2.is_code,
+      coded_below _ _ _ 6 v.2 few,
+    )

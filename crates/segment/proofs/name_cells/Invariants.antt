@@ -1,4 +1,5 @@
--- `segment::name_cells` meets its contract: with the cells from the turn's on named, the table is the one with all named.
+-- `segment::name_cells` meets its contract: with the cells from the turn's on named, the table is the one with all
+-- named.
 use mathlib.Core.Path.{◌≡◌}
 use lib.ListN.{drop}
 use Rattle.segment.specs.Cut.{named}
