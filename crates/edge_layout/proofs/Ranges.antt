@@ -14,7 +14,8 @@ use Rattle.model.proofs.lists.Chains.{all_is}
 use Rattle.model.proofs.lists.Lists.{all_in}
 use Rattle.model.proofs.lists.Numbers.{numbers_in}
 
-pub record_whole : (t : List ℕ) (n : ℕ) → record_size * n + record_size ≤ length t → length (record_at t n) ≡ record_size
+pub record_whole : (t : List ℕ) (n : ℕ) → record_size * n + record_size ≤ length t
+    → length (record_at t n) ≡ record_size
 record_whole t n h = omega (arith, length-take {A = ℕ}, length-drop {A = ℕ})
 
 numbers_range : (a n : ℕ) → numbers a n ≡ range_with_len a n
@@ -26,4 +27,5 @@ all_range p n e = e ∙ sym (ap (list_all p) (numbers_range 0 n)) ∙ sym (all_i
 
 -- what passes for all passes for each
 pub each_in_range : (p : ℕ → Bool) (n : ℕ) → list_all p (range_with_len 0 n) ≡ true → (i : ℕ) → i < n → p i ≡ true
-each_in_range p n e i lt = all_in p (numbers 0 n) i (sym (all_range p n (sym e))) (numbers_in 0 n i (omega arith) (omega arith))
+each_in_range p n e i lt =
+    all_in p (numbers 0 n) i (sym (all_range p n (sym e))) (numbers_in 0 n i (omega arith) (omega arith))

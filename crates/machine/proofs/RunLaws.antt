@@ -112,7 +112,10 @@ module _ {d : Decoded} {x : ℕ} {before : Bytes} {visit seen : List ℕ} (p : R
 
         ended : effect_of (fault_in r) (heap_in image) ≡ carry_out (op_in d) x (heap_in before)
             → (fault_in r ≡ 0 → RunDone image order' marks n) → Run
-        ended o h = record { outcome = ap (λ f. effect_of f (heap_in image)) (end_fault r n) ∙ o; done = end_done r n _ h }
+        ended o h = record {
+          outcome = ap (λ f. effect_of f (heap_in image)) (end_fault r n) ∙ o;
+          done = end_done r n _ h;
+        }
 
         -- the fault and the cells, where it is known whether lost cells are collected
         by_op : (b : Bool) → eqb (op_number d.op) 13 ≡ b → (fault_in r ≡ cond (b || kept_by after.cells marks n) 0 3)

@@ -1,7 +1,7 @@
 -- What each case of an answer says, in 01's numbers. The contracts go by these: no two answers say the same. Assumes
 -- nothing.
 use Rattle.std.specs.Prelude.{ℕ, List, [], ◌∷◌, replicate, Option, Some, None, Result, Ok, Err}
-use Rattle.std.proofs.Math.Option as math
+use Rattle.std.proofs.Math.Option.{Option as MathOption, none, some}
 use Rattle.model.specs.Base.{most_nodes, record_size}
 use Rattle.model.specs.Records.{Refusal, refusal, refusal_at, Verdict, is_accepted, is_refused}
 use Rattle.model.specs.Translate.{Outcome}
@@ -64,9 +64,9 @@ abbrev pub stepping_of : Result Stepped declared.Refusal → List ℕ → List �
 stepping_of s ps cs = record { answer = step_answer_of s; ptr_bytes = ps; cell_bytes = cs }
 
 -- the answer of a search: "the highest number .. whose record is equal, or none"
-abbrev pub found_of : Option ℕ → math.Option ℕ
-found_of (Some n) = math.some n
-found_of None = math.none
+abbrev pub found_of : Option ℕ → MathOption ℕ
+found_of (Some n) = some n
+found_of None = none
 
 -- ---- in numbers alone, as the calls for Rust and C tell them: "A part of an answer with nothing to tell is 0."
 
@@ -82,6 +82,6 @@ step_numbers to_stop = 0 ∷ 1 ∷ 0 ∷ 0 ∷ []
 step_numbers (no_step x) = 0 ∷ 0 ∷ 0 ∷ 0 ∷ []
 
 -- of a search 1 and the number, or 0 for none, and 0
-abbrev pub found_numbers : math.Option ℕ → ℕ × ℕ
-found_numbers (math.some n) = (1, n)
-found_numbers math.none = (0, 0)
+abbrev pub found_numbers : MathOption ℕ → ℕ × ℕ
+found_numbers (some n) = (1, n)
+found_numbers none = (0, 0)

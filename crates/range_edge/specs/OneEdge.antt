@@ -1,6 +1,6 @@
 -- One edge followed with ranges, whose ends are kept in two lists of twelve, 0 past the last. Assumes nothing.
 use Rattle.std.specs.Prelude.{ℕ, ◌+◌, ◌*◌, ◌≤◌, ◌<◌, ◌≡◌, true, List, length, Option, None, MatchOption}
-use Rattle.std.proofs.Math.Option as math
+use Rattle.std.proofs.Math.Option.{Option as MathOption, none, some}
 use Rattle.model.specs.Base.{most_nodes, record_size}
 use Rattle.model.specs.Notions.{In}
 use Rattle.model.specs.Ranges.{Box, cut_by, image_of}
@@ -28,9 +28,9 @@ pub record Moved (b : Box) (r : Ranges) : Type 0 where
   pub highs_are : in_counters b.highs ≡ true → r.highs ≡ filled most_nodes b.highs
 
 -- whether values pass the guards, and how these are moved
-abbrev pub PassedTo : List ℕ → math.Option Box → Option Ranges → Type 0
-PassedTo us math.none r = r ≡ None
-PassedTo us (math.some c) r = MatchOption r ⊥ (Moved (image_of us c))
+abbrev pub PassedTo : List ℕ → MathOption Box → Option Ranges → Type 0
+PassedTo us none r = r ≡ None
+PassedTo us (some c) r = MatchOption r ⊥ (Moved (image_of us c))
 
 abbrev pub OneFollowed : List ℕ → List ℕ → Ranges → Option Ranges → Type 0
 OneFollowed r ls before after =

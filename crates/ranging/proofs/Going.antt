@@ -32,7 +32,8 @@ use Rattle.range_edge.specs.declared.Ranges.{Ranges as Kept}
 use Rattle.ranging.specs.Follow.{FollowReady, IsFollowed}
 use Rattle.ranging.proofs.Twelve.{cut_by_twelve, image_twelve, twelve_of}
 
--- after i edges from l₀ with the ranges b₀ the path stands here with the ranges of the box, kept in two lists of twelve; the
+-- after i edges from l₀ with the ranges b₀ the path stands here with the ranges of the box, kept in two lists of
+-- twelve; the
 -- rest leads on and decides, and the highest values add up to so little that each has 32 bits
 pub record Going (t : Tables) (l₀ : ℕ) (b₀ : Box) (ns : List ℕ) (i : ℕ) (m : Kept) : Type 0 where
   pub here : ℕ
@@ -138,7 +139,9 @@ module _ (t : Tables) (k : keeps_layout t ≡ true) (l₀ : ℕ) (b₀ : Box) (n
     told = subst (λ c. PassedTo us c o) cut_is P
 
     pub stops : o ≡ None → along t 0 l₀ b₀ ns ≡ ends_at i
-    stops e = by (cut_by (guards_of rec) G.box) refl (subst (PassedTo us (twelve_of (cut_by (guards_of rec) G.box))) e told)
+    stops e =
+        by (cut_by (guards_of rec) G.box) refl
+        (subst (PassedTo us (twelve_of (cut_by (guards_of rec) G.box))) e told)
       where
         by : (b : math.Option Box) → cut_by (guards_of rec) G.box ≡ b → PassedTo us (twelve_of b) None
             → along t 0 l₀ b₀ ns ≡ ends_at i

@@ -56,7 +56,8 @@ pub low_high : (u : ℕ) → u < 65536 → u % 256 ∷ u / 256 % 256 ∷ [] ≡ 
 low_high u h = let e : u / 256 % 256 ≡ u / 256 = omega arith in ap (λ b. u % 256 ∷ b ∷ []) e
 
 -- one update more
-pub updates_turn : (p us b : List ℕ) (j : ℕ) → 8 + 2 * (j + 1) ≤ length p → j < length us → b ≡ two_bytes (get_or us j 0)
+pub updates_turn : (p us b : List ℕ) (j : ℕ) → 8 + 2 * (j + 1) ≤ length p → j < length us
+    → b ≡ two_bytes (get_or us j 0)
     → put_mid (8 + 2 * j) (10 + 2 * j - (8 + 2 * j)) (with_updates p us j) b ≡ with_updates p us (j + 1)
 updates_turn p us b j h k e =
     let u = get_or us j 0 in
@@ -72,7 +73,8 @@ updates_turn p us b j h k e =
     let more : update_bytes us (j + 1) ≡ update_bytes us j ++ two_bytes u = joined_next two_bytes us j k in
     ap (λ (z : List ℕ). put_mid n (10 + 2 * j - n) z b) (sym (append_assoc (take 8 p) (update_bytes us j) (drop n p)))
     ∙ ap₂ (λ (m : ℕ) (y : List ℕ). put_mid n m x y) two e
-    ∙ ap (λ z. take n x ++ (two_bytes u ++ z)) (drop-drop 2 n x) ∙ put_next p x pre (two_bytes u) n 2 lw (omega arith) refl
+    ∙ ap (λ z. take n x ++ (two_bytes u ++ z)) (drop-drop 2 n x)
+    ∙ put_next p x pre (two_bytes u) n 2 lw (omega arith) refl
     ∙ ap (λ m. (pre ++ two_bytes u) ++ drop m p) next ∙ rw more (simp append_assoc)
 
 -- the first eight bytes of an edge's record

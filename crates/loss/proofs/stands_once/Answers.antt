@@ -24,7 +24,8 @@ returns c e i a b q =
     let counted : c.count.result ≡ count_by p places = search rules in
     let long : length places ≡ n = length-take-le n (drop 4 l) (omega (arith, length-drop 4 l)) in
     let here : (j : ℕ) → 4 ≤ j → j < byte l 3 + 10 → get_or places (j - 4) 0 ≡ byte l j =
-    λ j lo hi. get_or-take n (drop 4 l) (j - 4) 0 (omega arith) ∙ get_or-drop 4 l (j - 4) 0 ∙ ap (byte l) (omega arith) in
+    λ j lo hi. get_or-take n (drop 4 l) (j - 4) 0 (omega arith) ∙ get_or-drop 4 l (j - 4) 0
+    ∙ ap (byte l) (omega arith) in
     let same = one_place p places (i - 4) (at - 4) (omega arith) (omega arith)
     (eq-eqb _ _ (here i a b ∙ q)) (eq-eqb _ _ (here at (omega arith) (omega arith)))
     (count_is p places ∙ sym counted ∙ eqb-true _ _ e) in

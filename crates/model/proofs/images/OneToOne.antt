@@ -180,8 +180,8 @@ outcome_edges : (x : Result Counts DeclaredRefusal) (ls es : List ℕ) → (outc
 outcome_edges (Ok c) ls es = refl
 outcome_edges (Err r) ls es = refl
 
-pub outcomes_one : (x y : Result Counts DeclaredRefusal) (ls es ms fs : List ℕ) → outcome_of x ls es ≡ outcome_of y ms fs
-    → (x ≡ y) × (ls ≡ ms) × (es ≡ fs)
+pub outcomes_one : (x y : Result Counts DeclaredRefusal) (ls es ms fs : List ℕ)
+    → outcome_of x ls es ≡ outcome_of y ms fs → (x ≡ y) × (ls ≡ ms) × (es ≡ fs)
 outcomes_one x y ls es ms fs e =
     let l = sym (outcome_locations x ls es) ∙ ap (λ (o : Outcome). o.tables.loc_bytes) e ∙ outcome_locations y ms fs in
     let d = sym (outcome_edges x ls es) ∙ ap (λ (o : Outcome). o.tables.edge_bytes) e ∙ outcome_edges y ms fs in
@@ -193,16 +193,16 @@ folded_one (Ok f) (Err r) e = not_both is_accepted (refusal_in r) refl (ap (λ (
 folded_one (Err r) (Ok f) e = not_both is_accepted (refusal_in r) refl (sym (ap (λ (f : Folding). f.verdict) e))
 folded_one (Err r) (Err s) e = ap Err (refusal_one r s (refused_inj (ap (λ (f : Folding). f.verdict) e)))
 
-pub unfoldings_one : (x y : Result (Unit {0}) DeclaredRefusal) (ps cs qs ds : List ℕ) → unfolding_of x ps cs ≡ unfolding_of y qs ds
-    → (x ≡ y) × (ps ≡ qs) × (cs ≡ ds)
+pub unfoldings_one : (x y : Result (Unit {0}) DeclaredRefusal) (ps cs qs ds : List ℕ)
+    → unfolding_of x ps cs ≡ unfolding_of y qs ds → (x ≡ y) × (ps ≡ qs) × (cs ≡ ds)
 unfoldings_one x y ps cs qs ds e = (
   verdict_one x y (ap (λ (u : Unfolding). u.verdict) e),
   ap (λ (u : Unfolding). u.ptr_bytes) e,
   ap (λ (u : Unfolding). u.cell_bytes) e,
 )
 
-pub steppings_one : (x y : Result Stepped DeclaredRefusal) (ps cs qs ds : List ℕ) → stepping_of x ps cs ≡ stepping_of y qs ds
-    → (x ≡ y) × (ps ≡ qs) × (cs ≡ ds)
+pub steppings_one : (x y : Result Stepped DeclaredRefusal) (ps cs qs ds : List ℕ)
+    → stepping_of x ps cs ≡ stepping_of y qs ds → (x ≡ y) × (ps ≡ qs) × (cs ≡ ds)
 steppings_one x y ps cs qs ds e = (
   step_one x y (ap (λ (s : Stepping). s.answer) e),
   ap (λ (s : Stepping). s.ptr_bytes) e,

@@ -66,7 +66,8 @@ returns-in_err-replace_counters c =
     let e = c.in_err-replace_counters.ensures in
     let p = err_from_is_err_and c.from_residual.result c.from_residual.ensures.1 in
     rw (p.1, p.2, e.0) (ap (λ cs. stays_with 21 (standing a.location cs)) e.2
-    ∙ advanced_over a.rec.now (byte (record_at a.locations.now (word a.rec.now 4)) 3) (standing a.location a.counters.now)
+    ∙ advanced_over a.rec.now (byte (record_at a.locations.now (word a.rec.now 4)) 3)
+    (standing a.location a.counters.now)
     (ap in_counters (sym (vs_are (goal.at.returns-in_err-replace_counters c).After-nodes_at-nodes)) ∙ e.1))
 
 pub returns : goal.returns

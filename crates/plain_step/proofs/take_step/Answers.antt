@@ -18,7 +18,8 @@ returns-then-not-entry_ok c =
 
 pub returns-then-eq : goal.returns-then-eq
 returns-then-eq c =
-    step_stopped (checked (goal.at.returns-then-eq c).After-decode-d) c.entry_ok.ensures c.if-not-entry_ok.false (search rules)
+    step_stopped (checked (goal.at.returns-then-eq c).After-decode-d) c.entry_ok.ensures c.if-not-entry_ok.false
+    (search rules)
 
 pub branch_of-branch-requires : goal.branch_of-branch-requires
 branch_of-branch-requires c =

@@ -113,7 +113,8 @@ loop-i-preserved c =
     let a = c.args in
     let t = tables_lent a.tables in
     let l = c.loop-i in
-    goes_on t (layout t a.start a.ranges.now a.path.now c.requires) a.start (start_box (nodes_at t a.start) a.ranges.now)
+    goes_on t (layout t a.start a.ranges.now a.path.now c.requires) a.start
+    (start_box (nodes_at t a.start) a.ranges.now)
     a.path.now l.i l.left l.invariant (search rules) c.follow_one.result
     (told (goal.at.loop-i-preserved c).After-follow_one) (short t a.start a.ranges.now a.path.now c.requires)
     c.in_ok-left.left c.in_ok-left.ensures.ok_part

@@ -32,7 +32,8 @@ begins : (c : Else-not-is_askable) → c.args.start < c.args.tables.counts.locat
 begins c = asked_start (tables_lent c.args.tables) c.args.start c.args.ranges.now c.args.path.now (yes c)
 
 pub go_along-requires : goal.go_along-requires
-go_along-requires c = (layout_room (tables_lent c.args.tables) (layout (goal.at.go_along-requires c).Else-not-is_askable)).1
+go_along-requires c =
+    (layout_room (tables_lent c.args.tables) (layout (goal.at.go_along-requires c).Else-not-is_askable)).1
 
 -- ---- how far the edges lead on
 
@@ -83,7 +84,8 @@ follow-requires c =
 pub returns-in-Ok : goal.returns-in-Ok
 returns-in-Ok c =
     let a = c.args in
-    is_reached (tables_lent a.tables) a.start a.ranges.now a.path.now (yes (goal.at.returns-in-Ok c).Else-not-is_askable)
+    is_reached (tables_lent a.tables) a.start a.ranges.now a.path.now
+    (yes (goal.at.returns-in-Ok c).Else-not-is_askable)
     c.in_ok-location.ensures.0 (sound (goal.at.returns-in-Ok c).In_default) c.in-Ok.left c.in-Ok.ensures
     c.in_ok-location.location c.in_ok-location.ensures.1
 

@@ -16,7 +16,8 @@ returns c =
     let e = a.fields in
     let us = a.updates.now in
     let g = e.guards.first in
-    let from : c.to_le_bytes-from.result ≡ two_bytes e.from = c.to_le_bytes-from.ensures ∙ low_high e.from (omega arith) in
+    let from : c.to_le_bytes-from.result ≡ two_bytes e.from =
+    c.to_le_bytes-from.ensures ∙ low_high e.from (omega arith) in
     let to : c.to_le_bytes-to.result ≡ two_bytes e.to = c.to_le_bytes-to.ensures ∙ low_high e.to (omega arith) in
     let head : c.copy_from_slice.new.self ≡ edge_head e =
     c.copy_from_slice.ensures.after

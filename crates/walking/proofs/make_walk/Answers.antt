@@ -12,7 +12,8 @@ returns-then-path-gt-MOST_MOVES c =
       | then-path-gt-MOST_MOVES-via-then-path-gt-MOST_MOVES w ↦
           sym (walk_long (tables_lent a.tables) a.configuration a.path.now w.if-path-gt-MOST_MOVES.true)
       | then-path-gt-MOST_MOVES-via-else-path-gt-MOST_MOVES+then-not-keeps w ↦
-          sym (walk_broken (tables_lent a.tables) a.configuration a.path.now (sym w.keeps.ensures ∙ w.if-not-keeps.true))
+          sym (walk_broken (tables_lent a.tables) a.configuration a.path.now
+          (sym w.keeps.ensures ∙ w.if-not-keeps.true))
     ]
 
 pub returns : goal.returns

@@ -17,4 +17,5 @@ returns-in-Clear c cs =
 
 pub returns-in-Relink : goal.returns-in-Relink
 returns-in-Relink c cs =
-    rw c.in-Relink.is (c.both.ensures ∙ ap₂ view_pair (c.held_by-in-Relink.ensures cs) (c.held_by-in-Relink-2.ensures cs))
+    rw c.in-Relink.is
+    (c.both.ensures ∙ ap₂ view_pair (c.held_by-in-Relink.ensures cs) (c.held_by-in-Relink-2.ensures cs))
