@@ -33,8 +33,7 @@ use Rattle.ranging.specs.Follow.{FollowReady, IsFollowed}
 use Rattle.ranging.proofs.Twelve.{cut_by_twelve, image_twelve, twelve_of}
 
 -- after i edges from l₀ with the ranges b₀ the path stands here with the ranges of the box, kept in two lists of
--- twelve; the
--- rest leads on and decides, and the highest values add up to so little that each has 32 bits
+-- twelve; the rest leads on and decides, and the highest values add up to so little that each has 32 bits
 pub record Going (t : Tables) (l₀ : ℕ) (b₀ : Box) (ns : List ℕ) (i : ℕ) (m : Kept) : Type 0 where
   pub here : ℕ
   pub box : Box
