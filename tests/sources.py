@@ -12,7 +12,7 @@ NAME = r"[^\W\d][\w'?-]*"
 # what declares a name, by the ending of the file, and what is a comment there
 DECLARES = {
     "antt": rf"^ *(?:(?:pub|abbrev|unfoldable|record|data) )*({NAME}) (?:: |[({{].* : )|^(?:pub )?mod ({NAME})",
-    "rt": r"\b(?:fn|struct|enum|const|mod|requires|ensures) (\w+)|^\s+(?:pub )?(\w+)(?:: |,$| \{)|\bu\d+::(\w+)",
+    "rt": r"\b(?:fn|struct|enum|const|mod|requires|ensures) (\w+)|^\s+(?:pub )?(\w+)(?:: |,$| \{|\(\w+\),$)|\bu\d+::(\w+)",
     "rs": r"\b(?:fn|struct|enum|const|static|mod|trait|type) (\w+)",
     "c": r"\b(\w+)\(|\benum (\w+)|\b([A-Z_]{3,})\b",
     "h": r"\b(\w+)\(|\benum (\w+)|\b([A-Z_]{3,})\b",
