@@ -17,8 +17,8 @@ fn clear_both(locations: &mut [u8], edges: &mut [u8])
     ensures { (locations.new ≡ replicate (length locations.old) 0)
         × (edges.new ≡ replicate (length edges.old) 0) }
 {
-    locations.fill(0);
-    edges.fill(0);
+    fill::fill(locations, 0);
+    fill::fill(edges, 0);
 }
 
 // The listing of a checked input, in cleared tables that have a place for each starting shape.

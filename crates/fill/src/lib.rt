@@ -3,7 +3,8 @@
 
 ghost use Rattle.std.specs.Prelude.{◌≡◌, ◌++◌, ◌≤◌, drop, length, replicate, take};
 
-// The library's `fill`, which callers use as it is; it stays since wrong versions of it are tried here (must-fail/).
+// The library's `fill`, where a table is cleared: under a name of its own, since wrong versions of that are tried here
+// (must-fail/).
 pub fn fill(part: &mut [u8], value: u8)
     ensures { part.new ≡ replicate (length part.old) value }
 {

@@ -36,7 +36,7 @@ fn exclude(guards: Guards) -> bool
 {
     let a = guards.first;
     let b = guards.second;
-    (((a.test == 1) & (b.test == 2)) | ((a.test == 2) & (b.test == 1))) & (a.node.0 == b.node.0)
+    (((a.test == 1) & (b.test == 2)) | ((a.test == 2) & (b.test == 1))) & (a.node == b.node)
 }
 
 // Whether an update could give less than 1: the least counters that pass the guards are 1 and 2.
