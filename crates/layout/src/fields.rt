@@ -1,4 +1,5 @@
-// Tests of bytes and of single fields of S and H records. Most tests in a row are joined by & and |, so that no branch is taken.
+// Tests of bytes and of single fields of S and H records. Most tests in a row are joined by & and |, so that no branch
+// is taken.
 ghost use Rattle.std.specs.Prelude.{◌≡◌, length};
 ghost use Rattle.model.specs.Base.{all, record_size};
 ghost use Rattle.model.specs.Records.{is_zero, uses_u, uses_w, uses_first, uses_second, value_byte};
