@@ -13,7 +13,7 @@ use Rattle.model.specs.Image.{cell_slot, heap_of, lengths, refusal_image, checks
 use Rattle.std.specs.Prelude.{Ok, Err}
 use Rattle.model.specs.Structs.{failed_in, failing}
 use Rattle.model.specs.declared.codes.Reason.{Reason}
-use Rattle.model.specs.declared.codes.Reason.TheVariants.{Image, LostCell}
+use Rattle.model.specs.declared.codes.Reason.TheVariants.{LostCell}
 use Rattle.model.proofs.lists.Logic.{and_l, and_r}
 use Rattle.model.proofs.records.Checks.{given_failed, pass_none}
 use Rattle.visit.proofs.Whole.{kept_held}
@@ -27,7 +27,7 @@ refused_with_lem : {ps cs o m : List ℕ} (r : Reason) → failed_in {A = ℕ} (
 refused_with_lem r e = record { refusal = e; visited = tt; few = tt; held = tt }
 
 module _ (ps cs : List ℕ) {b : Bool} (e : b ≡ lengths ps cs) (t : b ≡ true) where
-  pub lengths_few : length cs ≤ 240
+  lengths_few : length cs ≤ 240
   lengths_few = leb-true (length cs) 240 (and_r (eqb (length ps) 6) (leb (length cs) 240) (sym e ∙ t))
 
   pub values_good : {k : Bool} → k ≡ closed (heap_of ps cs) → k ≡ true → lengths ps cs && closed (heap_of ps cs) ≡ true
@@ -36,17 +36,6 @@ module _ (ps cs : List ℕ) {b : Bool} (e : b ≡ lengths ps cs) (t : b ≡ true
       rw long (sym q ∙ u)
 
 module _ {ps cs o m : List ℕ} where
-  pub check_lengths : {b : Bool} → b ≡ lengths ps cs → b ≡ false → ImageChecked ps cs o m (Err Image)
-  check_lengths e f =
-      let bad = ap (λ x. x && closed (heap_of ps cs)) (sym e ∙ f) in
-      refused_with_lem Image (ap (λ k. failing k 0) (sym (given_failed (checks_image ps cs) 13 0 (inl (refl, refl, bad))).0))
-
-  pub check_open : {b k : Bool} → b ≡ lengths ps cs → b ≡ true → k ≡ closed (heap_of ps cs) → k ≡ false
-      → ImageChecked ps cs o m (Err Image)
-  check_open e t q f =
-      let long : lengths ps cs ≡ true = sym e ∙ t in
-      refused_with_lem Image (ap (λ k. failing k 0) (sym (given_failed (checks_image ps cs) 13 0 (inl (refl, refl, rw long (sym q ∙ f)))).0))
-
   -- lengths and values are right
   module _ (good : lengths ps cs && closed (heap_of ps cs) ≡ true) where
     pub check_ready : length o ≡ 240 → m ≡ replicate 240 0 → VisitReady ps cs o m

@@ -1,19 +1,15 @@
--- What a fold over bytes gathers; and the refusals of an S record r among n statements in the order of its tests.
+-- What a fold over bytes gathers.
 use Prim.Native.Nat.{ℕ}
 use mathlib.Core.Path.{◌≡◌, ◌∙◌, refl, sym, ap}
 use mathlib.Core.Bool.{Bool, true, false, ◌&&◌}
 use mathlib.Core.List.{List, [], ◌∷◌}
-use mathlib.Core.Logic.{inl, inr}
 use native.Mathlib.Omega.{arith}
 use lib.Bits.{and_le_l, and_le_r, bit_or, or_add_and}
-use lib.Dec.{ltb}
 use borrow.Author.Tests.{eq-eqb, eqb-true}
 use Rattle.std.specs.List.{fold}
 use Rattle.model.specs.Base.{all}
-use Rattle.model.specs.Records.{byte, checks_s, fields_s, is_zero, op_count, targets_s}
-use Rattle.model.specs.Structs.{Tells, failing}
+use Rattle.model.specs.Records.{is_zero}
 use Rattle.model.proofs.lists.Logic.{and_both, and_l, and_r, and_true, bool_ext}
-use Rattle.model.proofs.records.Checks.{given_tells, pass_tells}
 
 regroup : (a b c : Bool) → a && b && c ≡ a && (b && c)
 regroup true b c = refl
@@ -42,20 +38,3 @@ gathered m (b ∷ bs) = gathered (bit_or m b) bs ∙ ap (λ z. z && all is_zero 
 pub all_gathered : (p : ℕ → Bool) (a : Bool) (bs : List ℕ) → fold (λ good b. good && p b) a bs ≡ a && all p bs
 all_gathered p a [] = sym (and_true a)
 all_gathered p a (b ∷ bs) = all_gathered p (a && p b) bs ∙ regroup a (p b) (all p bs)
-
--- ---- refusals
-
-module _ (n : ℕ) (r : List ℕ) where
-  pub refusal_5 : ltb (byte r 1) op_count ≡ false → Tells (checks_s n r) (failing 5 0)
-  refusal_5 o = given_tells (checks_s n r) 5 0 (inl (refl, refl, o))
-
-  pub refusal_6 : ltb (byte r 1) op_count ≡ true → fields_s r ≡ false → Tells (checks_s n r) (failing 6 0)
-  refusal_6 o f = given_tells (checks_s n r) 6 0 (inr (o, inl (refl, refl, f)))
-
-  pub refusal_7 : ltb (byte r 1) op_count ≡ true → fields_s r ≡ true → targets_s n r ≡ false
-      → Tells (checks_s n r) (failing 7 0)
-  refusal_7 o f t = given_tells (checks_s n r) 7 0 (inr (o, inr (f, inl (refl, refl, t))))
-
-  pub refusal_none : ltb (byte r 1) op_count ≡ true → fields_s r ≡ true → targets_s n r ≡ true
-      → Tells (checks_s n r) (failing 0 0)
-  refusal_none o f t = pass_tells (checks_s n r) (o, (f, (t, tt)))

@@ -2,11 +2,11 @@
 use native.Mathlib.Omega.{arith}
 use mathlib.Core.Path.{ap, ◌∙◌}
 use lib.ListN.{length}
-use borrow.Author.Tests.{eq-eqb, ne_eqb}
+use borrow.Author.Tests.{ne_eqb}
 use Rattle.model.specs.Records.{record_at}
 use Rattle.input.specs.RecordChecks.{earlier}
 use Rattle.input.proofs.Records.{record_wide}
-use Rattle.input.proofs.Shapes.{tells_by_h, tells_by_s}
+use Rattle.input.proofs.Shapes.{tells_by_h}
 use Rattle.input.proofs.record_refusal.Goals as goal
 
 pub statement_refusal-requires : goal.statement_refusal-requires
@@ -15,13 +15,6 @@ statement_refusal-requires c = ap length c.record_at-rec.ensures ∙ record_wide
 pub shape_refusal-requires : goal.shape_refusal-requires
 shape_refusal-requires c =
     (omega arith, ap length c.record_at-rec.ensures ∙ record_wide c.args.input.now c.args.i c.requires)
-
-pub returns-then-rec-eq83 : goal.returns-then-rec-eq83
-returns-then-rec-eq83 c =
-    let a = c.args in
-    let e = c.record_at-rec.ensures in
-    tells_by_s (earlier a.input.now a.i) (record_at a.input.now a.i) a.statements
-    (eq-eqb _ _ (rw e at c.if-rec-eq83.true)) (rw e at c.statement_refusal.ensures)
 
 pub returns : goal.returns
 returns c =
