@@ -1,12 +1,12 @@
 -- Location i of a listing that is held in the tables: its record, its statement's record, and its edges.
-use Prim.Native.Nat.{ℕ, ◌+◌, ◌-◌, ◌*◌, ◌≤◌, ◌<◌}
+use Prim.Native.Nat.{ℕ, ◌+◌, ◌*◌, ◌≤◌, ◌<◌}
 use mathlib.Core.Path.{◌≡◌, refl, ap, subst, sym, ◌∙◌}
 use mathlib.Core.List.{List, [], ◌∷◌, ◌++◌, append-nil, map}
 use native.Mathlib.Nat.{zero-add}
 use native.Mathlib.Omega.{arith}
-use lib.ListN.{drop, drop_of_length-le, get_or-map, length, length-drop, length-map, replicate, take}
+use lib.ListN.{drop, drop_of_length-le, get_or-map, length, length-drop, length-map, take}
 use lib.Seq.{length-take-le, take_all}
-use Rattle.std.specs.Prelude.{Result, Ok, Err}
+use Rattle.std.specs.Prelude.{Result, Ok}
 use Rattle.model.specs.Codes.{op_at, op_number}
 use Rattle.model.specs.declared.codes.Op.{Op}
 use Rattle.model.specs.declared.codes.Op.TheVariants as op

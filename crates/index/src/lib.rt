@@ -50,7 +50,8 @@ pub fn keep(index: &mut [u16], n: usize, j: usize, h: usize)
     }
 }
 
-// The location that stands in the index at n.
+// The location that stands in the index at n: as the number after it, in two bytes of fixed memory, and 0 for none, so
+// that an index of zeros is that of no location.
 fn entry(index: &[u16], n: usize) -> Option<usize>
     requires { n < length index.now }
     ensures { after (found_of result) ≡ get_or index.now n 0 }

@@ -1,14 +1,11 @@
 -- One edge more in a listing: the next of the edges to be added, and the locations stay good.
 use Prim.Native.Nat.{ℕ}
-use mathlib.Core.Path.{◌≡◌, ap, subst, sym, ◌∙◌}
-use mathlib.Core.Bool.{true, false}
+use mathlib.Core.Path.{◌≡◌, subst, sym}
 use mathlib.Core.List.{List, [], ◌∷◌}
-use native.Mathlib.Omega.{arith}
-use lib.Dec.{eqb, ltb}
+use lib.Dec.{ltb}
 use lib.ListN.{length}
-use borrow.Author.Tests.{eqb-false, eqb-true}
 use Rattle.model.specs.Base.{most_edges, most_locations, place_of}
-use Rattle.model.specs.Edges.{Edge, at, same_loc}
+use Rattle.model.specs.Edges.{Edge, same_loc}
 use Rattle.std.specs.Prelude.{Ok, Err}
 use Rattle.model.specs.Answers.{refusal_in}
 use Rattle.model.specs.Codes.{refusal_for}

@@ -1,6 +1,6 @@
 -- The edges of a location added way by way: what is left of them gives the whole, and at the end nothing is left.
 use Prim.Native.Nat.{ℕ, ◌+◌, ◌≤◌, ◌<◌}
-use mathlib.Core.Path.{◌≡◌, refl, ap, subst, ◌∙◌}
+use mathlib.Core.Path.{◌≡◌, refl, ap, ◌∙◌}
 use mathlib.Core.List.{List, ◌∷◌}
 use lib.ListN.{length}
 use Rattle.model.specs.Base.{most_edges, most_locations}
@@ -75,35 +75,35 @@ module _ (l : List ℕ) (d : Decoded) (ls es ix : List ℕ) (c : Counts) (i : �
           }
 
       module _ (ls'' es'' ix'' : List ℕ) (c'' : Counts) (p : length ls'' ≡ length ls) (q : length es'' ≡ length es)
-          where
-        -- no place for the edge of way j
-        pub adds_full : (r : Reason) → WayAdded l d y ls' es' ix' c' i ls'' es'' ix'' c'' (Err r)
-            → EdgesAdded l d ls es ix c i ls'' es'' ix'' c'' (Err r)
-        adds_full r F n s h t A H O =
-            let L = X n s h t A H in
-            let N = next_way A v count (ways n s h A) j lt y Y in
-            let E = N.edge in
-            let u = L.list in
-            let rest = edges_from s d h (j + 1) in
-            let G = F s h E u N.is_edge L.held in
-            let none : add_edges cl ce i (E ∷ rest) u ≡ full (refusal_in (refusal_for r i)) =
-            rw (p, q) at (add_full u i E rest ls'' es'' ix'' c'' r G) in
-            rw (L.rest ∙ ap (λ z. add_edges cl ce i z u) N.rest ∙ none) refl
+        where
+          -- no place for the edge of way j
+          pub adds_full : (r : Reason) → WayAdded l d y ls' es' ix' c' i ls'' es'' ix'' c'' (Err r)
+              → EdgesAdded l d ls es ix c i ls'' es'' ix'' c'' (Err r)
+          adds_full r F n s h t A H O =
+              let L = X n s h t A H in
+              let N = next_way A v count (ways n s h A) j lt y Y in
+              let E = N.edge in
+              let u = L.list in
+              let rest = edges_from s d h (j + 1) in
+              let G = F s h E u N.is_edge L.held in
+              let none : add_edges cl ce i (E ∷ rest) u ≡ full (refusal_in (refusal_for r i)) =
+              rw (p, q) at (add_full u i E rest ls'' es'' ix'' c'' r G) in
+              rw (L.rest ∙ ap (λ z. add_edges cl ce i z u) N.rest ∙ none) refl
 
-        -- the next way
-        pub adds_next : WayAdded l d y ls' es' ix' c' i ls'' es'' ix'' c'' (Ok tt) → Adds ls'' es'' ix'' c'' (j + 1)
-        adds_next F n s h t A H =
-            let L = X n s h t A H in
-            let N = next_way A v count (ways n s h A) j lt y Y in
-            let E = N.edge in
-            let u = L.list in
-            let rest = edges_from s d h (j + 1) in
-            let G = F s h E u N.is_edge L.held in
-            let step : add_edges cl ce i (E ∷ rest) u ≡ add_edges cl ce i rest (more i E u) =
-            rw (p, q) at (add_step u i E rest ls'' es'' ix'' c'' G) in
-            record {
-              list = more i E u;
-              held = G.2;
-              fine = λ O. more_fine n i E u (L.fine O) N.fine;
-              rest = L.rest ∙ ap (λ z. add_edges cl ce i z u) N.rest ∙ step;
-            }
+          -- the next way
+          pub adds_next : WayAdded l d y ls' es' ix' c' i ls'' es'' ix'' c'' (Ok tt) → Adds ls'' es'' ix'' c'' (j + 1)
+          adds_next F n s h t A H =
+              let L = X n s h t A H in
+              let N = next_way A v count (ways n s h A) j lt y Y in
+              let E = N.edge in
+              let u = L.list in
+              let rest = edges_from s d h (j + 1) in
+              let G = F s h E u N.is_edge L.held in
+              let step : add_edges cl ce i (E ∷ rest) u ≡ add_edges cl ce i rest (more i E u) =
+              rw (p, q) at (add_step u i E rest ls'' es'' ix'' c'' G) in
+              record {
+                list = more i E u;
+                held = G.2;
+                fine = λ O. more_fine n i E u (L.fine O) N.fine;
+                rest = L.rest ∙ ap (λ z. add_edges cl ce i z u) N.rest ∙ step;
+              }

@@ -27,12 +27,7 @@ fn add_way(
 }
 
 // Adds the edges of a location with a shape, way by way. One call for all of them, which the compiler then inlines.
-pub fn add_edges(
-    d: Decoded,
-    location: &[u8],
-    listing: &mut Listing,
-    i: usize,
-) -> Result<(), Reason>
+pub fn add_edges(d: Decoded, location: &[u8], listing: &mut Listing, i: usize) -> Result<(), Reason>
     requires { ShapeReady location.now d listing.old i }
     ensures added { EdgesAdd location.now d listing.old i listing.new result }
     ensures same { SamePlaces listing.old listing.new }

@@ -11,8 +11,8 @@ ghost use Rattle.part.specs.Ended.{ended_by};
 use location_table::in_places;
 use model::{MOST_EDGES, MOST_LOCATIONS, NoRecord, RECORD, Tables};
 
-// Of two things, the one that the mark means. The mark is a number, and no enum: one above 1 is given to the call too,
-// and refused there (docs/DECISIONS.md, 13).
+// Of two things, the one that the mark means. The mark is a number, and no enum: one above 1 may be given to the call,
+// which docs/DECISIONS.md names, and is refused there.
 fn meant<T: Copy>(mark: usize, of_locations: T, of_edges: T) -> T
     ensures { result ≡ meant mark of_locations of_edges }
 {

@@ -8,7 +8,8 @@ ghost use Rattle.text.specs.Text.{decimal_of, node_part, refusal_line, text_of, 
 
 use model::{Counts, Reason, Refusal};
 
-// Puts bytes behind the first `at` of the text; answers where they end.
+// Puts bytes behind the first `at` of the text; answers where they end. (The text and its end are no struct: one that
+// lends the text would say in each contract here that it is the same text still.)
 fn put(from: &[u8], text: &mut [u8], at: usize) -> usize
     requires { at + length from.now ≤ length text.old }
     ensures { (result ≡ at + length from.now)

@@ -11,7 +11,7 @@ use model::RECORD;
 
 // The N bytes at a place; the compiler makes one load of them. (A copy over an array of zeros looks first whether the two
 // overlap.)
-fn bytes<const N: usize>(t: &[u8], at: usize) -> [u8; N]
+pub fn bytes<const N: usize>(t: &[u8], at: usize) -> [u8; N]
     requires { (0 < N) × (at + N ≤ length t.now) }
     ensures { result ≡ take N (drop at t.now) }
 {

@@ -1,6 +1,5 @@
 -- `explore_location` meets its contract: the location's record is read, then its statement's.
 use mathlib.Core.Path.{◌≡◌, refl, ap, ◌∙◌}
-use native.Mathlib.Omega.{arith}
 use lib.ListN.{length}
 use borrow.Author.Rules.{rules}
 use Rattle.model.specs.Records.{byte}

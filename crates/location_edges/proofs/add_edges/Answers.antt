@@ -1,6 +1,5 @@
 -- `add_edges` meets its contract: the op and the value that it looks at tell how many ways there are, and the edges by
 -- the ways from j on are left to be added.
-use mathlib.Core.Path.{◌∙◌}
 use native.Mathlib.Omega.{arith}
 use borrow.Author.Rules.{rules}
 use Rattle.std.proofs.lemmas.Result.{err_from_is_err_and}
