@@ -9,9 +9,9 @@ use lib.ListN.{length, length-map}
 use borrow.Author.Tests.{not-true, eq-eqb}
 use Rattle.model.specs.Heap.{Heap}
 use Rattle.model.specs.Machine.{Answer, Stmt, accepts, answer_of, branch, kind, carry_out, target, step, entry, is_stop, action, stopped}
-use Rattle.model.specs.Records.{byte, stmt_of, Row, first_failed, refusal, unless, op_count}
+use Rattle.model.specs.Records.{byte, stmt_of, Row, first_failed, refusal, refusal_at, unless, op_count}
 use Rattle.model.specs.Image.{Stepping, answered, cell_slot, heap_of, past_end, stays, step_image, checks_statement, checks_step, entry_fits, no_step, to_fault, to_next, to_stop}
-use Rattle.model.specs.Codes.{fault_number, op_number}
+use Rattle.model.specs.Codes.{fault_number, op_number, reason_number, refusal_for}
 use Rattle.model.specs.declared.Decoded.{Decoded}
 use Rattle.model.specs.declared.codes.Fault.{Fault}
 use Rattle.model.specs.declared.codes.Fault.TheVariants as fault
@@ -26,7 +26,11 @@ use Rattle.image_checks.specs.Checked.{EntryChecked}
 use Rattle.image_checks.proofs.StepChecks.{checked_fields, checked_image}
 use Rattle.statement.proofs.Numbers.{decoded_is, number_stop, numbered}
 use Rattle.image_run.specs.Run.{Finished, StepReady}
-use Rattle.model.specs.Structs.{decoded, op_in, stmt_in}
+use Rattle.std.specs.Prelude.{Err}
+use Rattle.model.specs.Answers.{stepping_of}
+use Rattle.model.specs.declared.codes.Reason.{Reason}
+use Rattle.layout.proofs.Reasons.{no_zero}
+use Rattle.model.specs.Structs.{Failed, failed_in, failing, decoded, op_in, stmt_in}
 use Rattle.model.proofs.ways.Picks.{room_accept}
 
 -- ---- the answer
@@ -72,12 +76,16 @@ unfolding step_image
 image_answered r p c ps cs e = rw (e, step_image)
 
 -- the checks of image and record refuse
-pub step_unchecked : (r : List ℕ) (p c : ℕ) (ps cs : List ℕ) {n : ℕ} → n ≡ first_failed (checks_statement r ps cs)
-    → (n ≡ 0 → ⊥) → stays (no_step (refusal n 0)) ps cs ≡ step_image r p c ps cs
-step_unchecked r p c ps cs {n} e z = number-case n (λ q. absurd (z q))
-    (λ m q. ap (λ i. stays (no_step (refusal i 0)) ps cs) q
+pub step_unchecked : (r : List ℕ) (p c : ℕ) (ps cs : List ℕ) (x : Reason)
+    → failed_in {A = Unit {0}} (Err x) ≡ failing (first_failed (checks_statement r ps cs)) 0
+    → stepping_of (Err (refusal_for x 0)) ps cs ≡ step_image r p c ps cs
+step_unchecked r p c ps cs x e =
+    let n = ap (λ (f : Failed). f.number) e in
+    let node = ap (λ (f : Failed). f.node) e in
+    number-case (reason_number x) (λ q. absurd (no_zero x q))
+    (λ m q. (λ i. stays (no_step (refusal_at (q i) 0 (node i))) ps cs)
     ∙ image_refused r p c ps cs m
-    (failed_before (checks_statement r ps cs) (entry_check r p c ps cs ∷ []) m (sym e ∙ q)))
+    (failed_before (checks_statement r ps cs) (entry_check r p c ps cs ∷ []) m (sym n ∙ q)))
 
 -- a step of record r, which d is decoded from, with pick p and cell c on the image ps, cs: these checks are passed
 pub record Checked (r : List ℕ) (p c : ℕ) (ps cs : List ℕ) (d : Decoded) : Type 0 where

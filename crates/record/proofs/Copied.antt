@@ -1,16 +1,11 @@
--- What a copy leaves: a list over another of its length, and the record of a location.
+-- What a copy leaves: the record of a location.
 use Prim.Native.Nat.{ℕ, ◌≤◌}
-use mathlib.Core.Path.{◌≡◌, ap, ap₂, sym, ◌∙◌}
-use mathlib.Core.List.{List, [], ◌∷◌, ◌++◌, append-nil}
+use mathlib.Core.Path.{◌≡◌, ap, sym, ◌∙◌}
+use mathlib.Core.List.{List, [], ◌∷◌, ◌++◌}
 use native.Mathlib.Omega.{arith}
-use lib.ListN.{drop, drop_of_length-le, length, take}
-use lib.Seq.{take-length}
+use lib.ListN.{length}
 use Rattle.model.specs.Records.{byte}
 use Rattle.record.specs.Written.{location_bytes}
-
-pub copied_whole : (from to : List ℕ) → length to ≤ length from → take (length from) from ++ drop (length from) to
-    ≡ from
-copied_whole from to h = ap₂ ◌++◌ (take-length from) (drop_of_length-le to h) ∙ append-nil from
 
 -- an L record with its own statement and fault is itself
 location_same : (r : List ℕ) → 3 ≤ length r → byte r 0 ≡ 0x4c → location_bytes (byte r 1) (byte r 2) r ≡ r
