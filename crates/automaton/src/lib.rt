@@ -54,11 +54,7 @@ fn list(
 
 // For every input and any tables: the answer and every byte of both tables are what the definition says, and the
 // automaton that stands in the tables, with the counts answered, is the routine (demand 3).
-pub fn translate(
-    input: &[u8],
-    locations: &mut [u8],
-    edges: &mut [u8],
-) -> Result<Counts, Refusal>
+pub fn translate(input: &[u8], locations: &mut [u8], edges: &mut [u8]) -> Result<Counts, Refusal>
     ensures outcome { outcome_of result locations.new edges.new
         ≡ translate input.now (length locations.old) (length edges.old) }
     ensures automaton { (outcome_of result locations.new edges.new).verdict ≡ is_accepted
