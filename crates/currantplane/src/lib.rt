@@ -12,7 +12,7 @@ ghost use Rattle.model.specs.Image.{fold_image, step_image, unfold_image};
 ghost use Rattle.model.specs.Part.{record_part};
 ghost use Rattle.model.specs.Ranges.{ranged_to, ranging};
 ghost use Rattle.model.specs.Search.{searched};
-ghost use Rattle.model.specs.Structs.{tables_in, tables_of};
+ghost use Rattle.model.specs.Structs.{tables_in, tables_lent};
 ghost use Rattle.model.specs.Walking.{moved, walked};
 ghost use Rattle.currantplane.specs.Calls.{IsFolded, IsRanged, IsRecord, IsStepped, IsTranslated, IsUnfolded};
 
@@ -29,7 +29,7 @@ fn lent<'a>(
     location_count: usize,
     edge_count: usize,
 ) -> Tables<'a>
-    ensures { tables_of result ≡ tables_in locations.now edges.now
+    ensures { tables_lent result ≡ tables_in locations.now edges.now
         (record { locations = location_count; edges = edge_count }) }
 {
     Tables {
