@@ -21,7 +21,7 @@ fn splits_at(location: &[u8], u: Pointer, way: Way) -> bool
 }
 
 // Whether the byte at pointer u's place stands at no other place of the six pointers and the nodes' successors.
-// All places are looked at: a count has no branch to guess.
+// All places are looked at: a count has no branch to guess, and one in a byte is quicker than `filter` and `count`.
 fn stands_once(location: &[u8], u: Pointer) -> bool
     requires { (length location.now ≡ record_size) × (u.0 < pointer_count) × (byte location.now 3 ≤ most_nodes) }
     ensures { result ≡ true → StandsOnce location.now (u.0 + 4) }
@@ -29,7 +29,13 @@ fn stands_once(location: &[u8], u: Pointer) -> bool
     let at = u.0 as usize + 4;
     let end = location[3] as usize + 10;
     let held = location[at];
-    location[4..end].iter().filter(|b| **b == held).count() == 1
+    let mut count: u8 = 0;
+    for b in &location[4..end] {
+        if *b == held {
+            count += 1;
+        }
+    }
+    count == 1
 }
 
 // Whether the op puts another value into pointer u, and collects nothing: not so where it copies u to itself, or reads

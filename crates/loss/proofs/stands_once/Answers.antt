@@ -5,8 +5,7 @@ use mathlib.Core.Path.{◌≡◌, ◌∙◌, ap, sym}
 use native.Mathlib.Omega.{arith}
 use lib.Dec.{eqb}
 use lib.ListN.{drop, get_or, length, length-drop, take}
-use lib.Seq.{get_or-drop, get_or-take, length-take-le}
-use borrow.Author.Rules.{rules}
+use lib.Seq.{get_or-drop, get_or-take, length-take-le, take_all}
 use borrow.Author.Tests.{eq-eqb, eqb-true}
 use Rattle.std.specs.List.{count_by}
 use Rattle.model.specs.Records.{byte}
@@ -21,7 +20,8 @@ returns c e i a b q =
     let n = byte l 3 + 10 - 4 in
     let p : ℕ → Bool = λ x. eqb x (byte l at) in
     let places = take n (drop 4 l) in
-    let counted : c.count.result ≡ count_by p places = search rules in
+    let counted : c.loop-b.count ≡ count_by p places =
+    c.loop-b.invariant.1 ∙ ap (count_by p) (take_all c.loop-b.b-index places c.loop-b-test.false) in
     let long : length places ≡ n = length-take-le n (drop 4 l) (omega (arith, length-drop 4 l)) in
     let here : (j : ℕ) → 4 ≤ j → j < byte l 3 + 10 → get_or places (j - 4) 0 ≡ byte l j =
     λ j lo hi. get_or-take n (drop 4 l) (j - 4) 0 (omega arith) ∙ get_or-drop 4 l (j - 4) 0

@@ -1,14 +1,13 @@
--- `search::same_at` meets its contract: the bytes at the place are those of the record.
-use mathlib.Core.Path.{ap₂, ◌∙◌}
-use native.Mathlib.Omega.{arith}
-use lib.Dec.{eqb}
-use lib.Pointwise.{pointwise}
-use lib.Seq.{take_all}
-use Rattle.search.proofs.Keys.{pointwise_is}
+-- `search::same_at` meets its contract: the record is compared in four parts of eight bytes.
+use mathlib.Core.Path.{sym, ap₂, ◌∙◌}
+use mathlib.Core.Bool.{◌&&◌}
+use Rattle.search.proofs.Keys.{parts_same}
 use Rattle.search.proofs.same_at.Goals as goal
 
 pub returns : goal.returns
 returns c =
-    let r = c.args.rec.now in
-    let whole = c.bytes-2.ensures ∙ take_all 32 r (omega (arith, c.requires.1)) in
-    c.eq.ensures ∙ ap₂ (pointwise eqb) c.bytes.ensures whole ∙ pointwise_is eqb _ r
+    let s = c in
+    let a = s.args in
+    let front = ap₂ ◌&&◌ c.same_eight.ensures c.same_eight-2.ensures in
+    ap₂ ◌&&◌ front (ap₂ ◌&&◌ c.same_eight-3.ensures c.same_eight-4.ensures)
+    ∙ sym (parts_same a.table.now a.at a.rec.now s.requires.1)

@@ -9,5 +9,5 @@ returns-else-key-k c =
     let s = c in
     let a = s.args in
     ne_eqb c.key.result a.k c.if-key-k.false
-    ∙ sym (key_differ a.table.now a.at a.rec.now
+    ∙ sym (key_differ a.table.now a.at a.rec.now s.requires.1 s.requires.0
     (λ e. c.if-key-k.false (c.key.ensures ∙ e ∙ sym s.requires.2)))
