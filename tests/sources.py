@@ -12,7 +12,7 @@ NAME = r"[^\W\d][\w'?-]*"
 # what declares a name, by the ending of the file, and what is a comment there
 DECLARES = {
     "antt": rf"^ *(?:(?:pub|abbrev|unfoldable|record|data) )*({NAME}) (?:: |[({{].* : )|^(?:pub )?mod ({NAME})",
-    "rt": r"\b(?:fn|struct|enum|const|mod|requires|ensures) (\w+)|^\s+(?:pub )?(\w+)(?:: |,$| \{)|\bu\d+::(\w+)",
+    "rt": r"\b(?:fn|struct|enum|const|mod|requires|ensures) (\w+)|^\s+(?:pub )?(\w+)(?:: |,$| \{|\(\w+\),$)|\bu\d+::(\w+)",
     "rs": r"\b(?:fn|struct|enum|const|static|mod|trait|type) (\w+)",
     "c": r"\b(\w+)\(|\benum (\w+)|\b([A-Z_]{3,})\b",
     "h": r"\b(\w+)\(|\benum (\w+)|\b([A-Z_]{3,})\b",
@@ -43,8 +43,8 @@ def ending(path):
 FILES = set(files())
 ENDINGS = {"a", *map(ending, FILES)} - {""}
 # the request's own words, with names and figures as they were, stand in PROMISES and STATEMENTS, which tests/promises reads, and names of
-# before in PORT
-PAGES = {f: read(f) for f in sorted(FILES) if re.fullmatch(r"(?:README|CONTRIBUTING|docs/(?!PROMISES|STATEMENTS|PORT).*)\.md", f)}
+# before in PORT and DESIGN-PASS
+PAGES = {f: read(f) for f in sorted(FILES) if re.fullmatch(r"(?:README|CONTRIBUTING|docs/(?!PROMISES|STATEMENTS|PORT|DESIGN-PASS).*)\.md", f)}
 # the pages that say what is so now, and two sources that tell it to people as well
 TODAY = {f: text for f, text in PAGES.items() if not re.match(r"docs/(?:landings|examples|WRONG)", f)}
 TODAY |= {f: re.sub(r"\s+(?:\* )?", " ", read(f)) for f in ("include/currantplane.h", "cli/src/help.rs")}

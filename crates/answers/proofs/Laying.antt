@@ -1,25 +1,35 @@
--- A list laid over another: as many elements as both have.
-use Prim.Native.Nat.{ℕ, min}
-use native.Mathlib.Nat.{min-zero, suc-min-suc, zero-min}
-use mathlib.Core.Path.{◌≡◌, ap, ap₂, ◌∙◌}
+-- Two lists laid over a third, one behind the other.
+use Prim.Native.Nat.{ℕ, ◌-◌, ◌<◌, ◌≤◌}
+use mathlib.Core.Path.{◌≡◌, refl, sym, ap, ap₂, ◌∙◌}
 use mathlib.Core.List.{List, [], ◌∷◌, ◌++◌}
 use native.Mathlib.Omega.{arith}
 use lib.ListN.{length, take, drop}
-use lib.Seq.{length-take-le, take-length, take-nil}
+use lib.Seq.{drop_at, drop-drop, take_at, take-nil}
+use borrow.Rule.Slice.PartMut.{mid_of, put_mid}
+use Rattle.model.proofs.lists.Slices.{part_from, put_back}
 use Rattle.answers.specs.Numbers.{over}
 
--- the first n elements laid
-abbrev pub laid : ℕ → List ℕ → List ℕ → List ℕ
-laid n xs l = take n xs ++ drop n l
+over_whole : (ls t : List ℕ) → length ls ≤ length t → over ls t ≡ ls ++ drop (length ls) t
+over_whole [] t h = rw take-nil
+over_whole (x ∷ ls) [] h = absurd (omega arith)
+over_whole (x ∷ ls) (y ∷ t) h = ap (λ z. x ∷ z) (over_whole ls t (omega arith))
 
-pub laid_over : (xs l : List ℕ) → laid (min (length xs) (length l)) xs l ≡ over xs l
-laid_over [] l = rw (zero-min, take-nil)
-laid_over (x ∷ xs) [] = rw min-zero
-laid_over (x ∷ xs) (y ∷ l) = rw suc-min-suc (ap (λ z. x ∷ z) (laid_over xs l))
+over_front : (ls hs t : List ℕ) → length ls ≤ length t → over (ls ++ hs) t ≡ ls ++ over hs (drop (length ls) t)
+over_front [] hs t h = refl
+over_front (x ∷ ls) hs [] h = absurd (omega arith)
+over_front (x ∷ ls) hs (y ∷ t) h = ap (λ z. x ∷ z) (over_front ls hs t (omega arith))
 
--- a copy of that many
-pub copied_over : (xs l : List ℕ) {m : List ℕ} {n : ℕ} → n ≡ min (length xs) (length l)
-    → m ≡ take (length (take n xs)) (take n xs) ++ drop (length (take n xs)) l → m ≡ over xs l
-copied_over xs l {m} {n} h e =
-    let k : length (take n xs) ≡ n = length-take-le n xs (omega arith) in
-    e ∙ ap₂ (λ y i. y ++ drop i l) (take-length (take n xs)) k ∙ ap (λ i. laid i xs l) h ∙ laid_over xs l
+-- xs is t with ls laid over it, and ys the part behind ls with hs laid over it
+pub over_behind : (ls hs t xs ys : List ℕ) → length ls < length t → xs ≡ over ls t
+    → ys ≡ over hs (mid_of (length ls) (length xs - length ls) xs)
+    → put_mid (length ls) (length xs - length ls) xs ys ≡ over (ls ++ hs) t
+over_behind ls hs t xs ys h e f =
+    let k = length ls in
+    let w : xs ≡ ls ++ drop k t = e ∙ over_whole ls t (omega arith) in
+    let behind : drop k xs ≡ drop k t = ap (drop k) w ∙ drop_at ls (drop k t) k refl in
+    let part : mid_of k (length xs - k) xs ≡ drop k t = part_from xs k ∙ behind in
+    put_back xs (take (length (mid_of k (length xs - k) xs)) hs) ys k (length hs) f
+    ∙ ap₂ ◌++◌ (ap (take k) w ∙ take_at ls (drop k t) k refl)
+    (ap₂ ◌++◌ (ap (λ m. take (length m) hs) part)
+    (sym (drop-drop (length hs) k xs) ∙ ap (drop (length hs)) behind))
+    ∙ sym (over_front ls hs t (omega arith))

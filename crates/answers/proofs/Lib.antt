@@ -1,1 +1,2 @@
 pub mod Laying
+pub mod Nodes

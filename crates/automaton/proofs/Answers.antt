@@ -9,65 +9,67 @@ use lib.ListN.{length, replicate}
 use Rattle.model.specs.Answers.{outcome_of}
 use Rattle.model.specs.Runs.{IsRoutineOf}
 use Rattle.model.specs.Translate.{check, good, places, translate}
-use Rattle.model.specs.declared.Node.{Node}
-use Rattle.model.specs.declared.Translated.{Translated}
-use Rattle.model.specs.declared.Translated.TheVariants as translated
-use Rattle.input.specs.declared.Checked.{Checked}
-use Rattle.input.specs.declared.Checked.TheVariants as checked
+use Rattle.std.specs.Prelude.{Result, Ok, Err}
+use Rattle.model.specs.Codes.{refusal_for}
+use Rattle.model.specs.declared.Counts.{Counts}
+use Rattle.model.specs.declared.codes.Reason.TheVariants.{LocationsFull}
+use Rattle.model.specs.declared.codes.Refusal.{Refusal}
+use Rattle.input.specs.declared.Routine.{Routine}
 use Rattle.input.specs.Accepted.{Accepted}
 use Rattle.input.specs.Input.{GoodCounts, checked_of, routine_in}
 use Rattle.input.proofs.Facts.{accepted, starts_length}
 use Rattle.automaton.specs.Ready.{ListReady}
-use Rattle.automaton.proofs.Outcomes.{no_node, outcome_automaton, outcome_bad, outcome_few}
+use Rattle.automaton.proofs.Outcomes.{outcome_automaton, outcome_bad, outcome_few}
 
 -- the contract of the translator, of an answer and what the tables then hold
-abbrev pub Answered : List ℕ → ℕ → ℕ → Translated → List ℕ → List ℕ → Type 0
+abbrev pub Answered : List ℕ → ℕ → ℕ → Result Counts Refusal → List ℕ → List ℕ → Type 0
 Answered s a b o ls es =
     (outcome_of o ls es ≡ translate s a b)
     × ((outcome_of o ls es).verdict ≡ is_accepted → IsRoutineOf s (outcome_of o ls es).tables)
 
-pub answered : (s : List ℕ) (a b : ℕ) (o : Translated) (ls es : List ℕ) → outcome_of o ls es ≡ translate s a b
-    → Answered s a b o ls es
+pub answered : (s : List ℕ) (a b : ℕ) (o : Result Counts Refusal) (ls es : List ℕ)
+    → outcome_of o ls es ≡ translate s a b → Answered s a b o ls es
 answered s a b o ls es e = (e, outcome_automaton s a b o ls es e)
 
 -- ks and fs are the tables ls and es cleared, and o is what the check of the input s said
-pub record Looked (s ls es ks fs : List ℕ) (o : Checked) : Type 0 where
+pub record Looked (s ls es ks fs : List ℕ) (o : Result Routine Refusal) : Type 0 where
   pub cleared : (ks ≡ replicate (length ls) 0) × (fs ≡ replicate (length es) 0)
   pub wide : length ks ≡ length ls
   pub wide' : length fs ≡ length es
   pub said : checked_of o s ≡ check s
   pub counts : GoodCounts o s
 
-module _ {s ls es ks fs : List ℕ} {o : Checked} (L : Looked s ls es ks fs o) where
-  pub answer_bad : {k x : ℕ} {v : Node} → o ≡ checked.Bad k x v
-      → Answered s (length ls) (length es) (translated.Refused k x v) ks fs
-  answer_bad {k} {x} {v} q =
-      answered s (length ls) (length es) (translated.Refused k x v) ks fs
-      (outcome_bad s (length ls) (length es) k x v ks fs (rw q at L.said) L.cleared.0 L.cleared.1)
+pub answer_bad : {s ls es ks fs : List ℕ} {y : Refusal} → Looked s ls es ks fs (Err y)
+    → Answered s (length ls) (length es) (Err y) ks fs
+answer_bad {s} {ls} {es} {ks} {fs} {y} L =
+    answered s (length ls) (length es) (Err y) ks fs
+    (outcome_bad s (length ls) (length es) y ks fs L.said L.cleared.0 L.cleared.1)
 
-  module _ {n m most : ℕ} (q : o ≡ checked.Good n m) (r : most ≡ places most_locations (length ks)) where
-    is_good_lem : check s ≡ good (routine_in n s)
-    is_good_lem = sym (rw q at L.said)
+module _ {s ls es ks fs : List ℕ} {r : Routine} (L : Looked s ls es ks fs (Ok r)) {most : ℕ}
+    (e : most ≡ places most_locations (length ks)) where
+  is_good_lem : check s ≡ good (routine_in r.statements s)
+  is_good_lem = sym L.said
 
-    is_accepted_lem : Accepted s n m
-    is_accepted_lem = accepted s n m (rw q at L.said) (rw q at L.counts)
+  is_accepted_lem : Accepted s r.statements r.shapes
+  is_accepted_lem = accepted s r L.said L.counts
 
-    pub answer_few : most < m → Answered s (length ls) (length es) (translated.Refused 11 most no_node) ks fs
-    answer_few h =
-        let l = starts_length s n m is_accepted_lem.whole in
-        let z : most ≡ places most_locations (length ls) = r ∙ ap (places most_locations) L.wide in
-        answered s (length ls) (length es) (translated.Refused 11 most no_node) ks fs
-        (ap (λ x. outcome_of (translated.Refused 11 x no_node) ks fs) z
-        ∙ outcome_few s (length ls) (length es) (routine_in n s) is_good_lem ks fs (omega arith)
-        L.cleared.0 L.cleared.1)
+  pub answer_few : most < r.shapes
+      → Answered s (length ls) (length es) (Err (refusal_for LocationsFull most)) ks fs
+  answer_few h =
+      let l = starts_length s r.statements r.shapes is_accepted_lem.whole in
+      let z : most ≡ places most_locations (length ls) = e ∙ ap (places most_locations) L.wide in
+      answered s (length ls) (length es) (Err (refusal_for LocationsFull most)) ks fs
+      (ap (λ x. outcome_of (Err (refusal_for LocationsFull x)) ks fs) z
+      ∙ outcome_few s (length ls) (length es) (routine_in r.statements s) is_good_lem ks fs (omega arith)
+      L.cleared.0 L.cleared.1)
 
-    pub ready_to_list : m ≤ most → ListReady s n m ks fs
-    ready_to_list h = record {
-      starts = record {
-        is_good = is_good_lem;
-        accepted = is_accepted_lem;
-        room = omega arith;
-        blank = L.cleared.0 ∙ ap (λ k. replicate k 0) (sym L.wide);
-      };
-      blank = L.cleared.1 ∙ ap (λ k. replicate k 0) (sym L.wide');
-    }
+  pub ready_to_list : r.shapes ≤ most → ListReady s r.statements r.shapes ks fs
+  ready_to_list h = record {
+    starts = record {
+      is_good = is_good_lem;
+      accepted = is_accepted_lem;
+      room = omega arith;
+      blank = L.cleared.0 ∙ ap (λ k. replicate k 0) (sym L.wide);
+    };
+    blank = L.cleared.1 ∙ ap (λ k. replicate k 0) (sym L.wide');
+  }

@@ -5,43 +5,35 @@ use mathlib.Core.Path.{◌≡◌, refl, sym, ap, subst, ◌∙◌}
 use mathlib.Core.List.{List, [], map}
 use lib.ListN.{length, replicate}
 use borrow.Author.Tests.{lt-ltb, le-ltb}
+use Rattle.std.specs.Prelude.{Result, Ok, Err}
 use Rattle.model.specs.Base.{most_edges, most_locations}
-use Rattle.model.specs.Answers.{outcome_of}
+use Rattle.model.specs.Answers.{outcome_of, refusal_in}
+use Rattle.model.specs.Codes.{refusal_for}
 use Rattle.model.specs.Edges.{at}
 use Rattle.model.specs.Runs.{Demand3, IsRoutineOf}
-use Rattle.model.specs.Records.{Refusal, is_accepted, refusal, refusal_at}
+use Rattle.model.specs.Records.{Refusal, is_accepted, refusal}
 use Rattle.model.specs.Translate.{Explored, Listing, Routine, bad, check, explore, full, good, listed, listed_with, listing, places, refused_with, translate}
-use Rattle.model.specs.declared.Translated.{Translated}
-use Rattle.model.specs.declared.Translated.TheVariants as translated
 use Rattle.model.proofs.runs.Demand.{demand_three}
 use Rattle.model.specs.declared.Counts.{Counts}
-use Rattle.model.specs.declared.Node.{Node}
+use Rattle.model.specs.declared.codes.Reason.TheVariants.{LocationsFull}
+use Rattle.model.specs.declared.codes.Refusal as declared
 use Rattle.listing.specs.Grow.{Holds}
 use Rattle.explore.specs.Explore.{ExploredTo}
-use Rattle.explore.specs.declared.Explored.TheVariants as explored
-
--- a refusal that is about no node
-abbrev pub no_node : Node
-no_node = record { 0 = 0 }
 
 -- a refusal with cleared tables
-refused_blank : (a b k p : ℕ) (v : Node) (ls es : List ℕ) → ls ≡ replicate a 0 → es ≡ replicate b 0
-    → outcome_of (translated.Refused k p v) ls es ≡ refused_with a b (refusal_at k p v.0)
-refused_blank a b k p v ls es d e =
-    let x : a - 32 * 0 ≡ a = omega arith in
-    let y : b - 32 * 0 ≡ b = omega arith in
-    rw (d, e, x, y)
-
--- what is answered of the counts
-abbrev pub listed_by : Counts → Translated
-listed_by c = translated.Listed c.locations c.edges
+refused_blank : (a b : ℕ) (y : declared.Refusal) (ls es : List ℕ) → ls ≡ replicate a 0 → es ≡ replicate b 0
+    → outcome_of (Err y) ls es ≡ refused_with a b (refusal_in y)
+refused_blank a b y ls es d e =
+    let v : a - 32 * 0 ≡ a = omega arith in
+    let w : b - 32 * 0 ≡ b = omega arith in
+    rw (d, e, v, w)
 
 -- a listing held in the tables
 listed_held : (t : Listing) (ls es ix : List ℕ) (c : Counts) (a b : ℕ) → length ls ≡ a → length es ≡ b
     → Holds t ls es ix c
-    → outcome_of (listed_by c) ls es ≡ listed_with a b t
+    → outcome_of (Ok c) ls es ≡ listed_with a b t
 listed_held t ls es ix c a b p q H =
-    (λ k. outcome_of (translated.Listed (H.loc_number k) (H.edge_number k)) (H.locs k) (H.edges k))
+    (λ k. outcome_of (Ok (record { locations = H.loc_number k; edges = H.edge_number k })) (H.locs k) (H.edges k))
     ∙ (λ k. listed_with (p k) (q k) t)
 
 -- the listing of a routine's starting shapes, and what comes of it in tables of a and b bytes
@@ -54,10 +46,10 @@ explored_from r a b =
 
 module _ (s : List ℕ) (a b : ℕ) where
   -- the input is refused
-  pub outcome_bad : (k p : ℕ) (v : Node) (ls es : List ℕ) → bad (refusal_at k p v.0) ≡ check s
-      → ls ≡ replicate a 0 → es ≡ replicate b 0 → outcome_of (translated.Refused k p v) ls es ≡ translate s a b
+  pub outcome_bad : (y : declared.Refusal) (ls es : List ℕ) → bad (refusal_in y) ≡ check s
+      → ls ≡ replicate a 0 → es ≡ replicate b 0 → outcome_of (Err y) ls es ≡ translate s a b
   unfolding translate
-  outcome_bad k p v ls es c d e = refused_blank a b k p v ls es d e ∙ rw (← c, translate)
+  outcome_bad y ls es c d e = refused_blank a b y ls es d e ∙ rw (← c, translate)
 
   module _ (r : Routine) (c : check s ≡ good r) where
     abbrev cl : ℕ
@@ -84,39 +76,40 @@ module _ (s : List ℕ) (a b : ℕ) where
 
     -- no place for a starting shape
     pub outcome_few : (ls es : List ℕ) → places most_locations a < length r.starts → ls ≡ replicate a 0
-        → es ≡ replicate b 0 → outcome_of (translated.Refused 11 (places most_locations a) no_node) ls es
-        ≡ translate s a b
-    outcome_few ls es h d e = refused_blank a b 11 cl no_node ls es d e
+        → es ≡ replicate b 0
+        → outcome_of (Err (refusal_for LocationsFull (places most_locations a))) ls es ≡ translate s a b
+    outcome_few ls es h d e = refused_blank a b (refusal_for LocationsFull cl) ls es d e
         ∙ translate_full_lem (refusal 11 cl) (listing_few h)
 
     -- the exploration ends, or finds no place
     module _ (n : ℕ) (ls es ix : List ℕ) (room : length r.starts ≤ places most_locations a) where
       pub outcome_listed : (k : Counts) → length ls ≡ a → length es ≡ b
-          → ExploredTo n (explored_from r a b) ls es ix (explored.Listed k)
-          → outcome_of (listed_by k) ls es ≡ translate s a b
+          → ExploredTo n (explored_from r a b) ls es ix (Ok k)
+          → outcome_of (Ok k) ls es ≡ translate s a b
       outcome_listed k p q X = by_end (explored_from r a b) refl X
         where
-          by_end : (o : Explored) → explored_from r a b ≡ o → ExploredTo n o ls es ix (explored.Listed k)
-              → outcome_of (listed_by k) ls es ≡ translate s a b
+          by_end : (o : Explored) → explored_from r a b ≡ o → ExploredTo n o ls es ix (Ok k)
+              → outcome_of (Ok k) ls es ≡ translate s a b
           by_end (listed t) e Y = listed_held t ls es ix k a b p q Y.0
               ∙ translate_listed t (listing_starts room ∙ e)
           by_end (full x) e Y = absurd Y
 
-      pub outcome_full : (k p : ℕ) (ls' es' : List ℕ) → ls' ≡ replicate a 0 → es' ≡ replicate b 0
-          → ExploredTo n (explored_from r a b) ls es ix (explored.Full k p)
-          → outcome_of (translated.Refused k p no_node) ls' es' ≡ translate s a b
-      outcome_full k p ls' es' d d' X = by_end (explored_from r a b) refl X
+      pub outcome_full : (y : declared.Refusal) (ls' es' : List ℕ) → ls' ≡ replicate a 0 → es' ≡ replicate b 0
+          → ExploredTo n (explored_from r a b) ls es ix (Err y)
+          → outcome_of (Err y) ls' es' ≡ translate s a b
+      outcome_full y ls' es' d d' X = by_end (explored_from r a b) refl X
         where
-          by_end : (o : Explored) → explored_from r a b ≡ o → ExploredTo n o ls es ix (explored.Full k p)
-              → outcome_of (translated.Refused k p no_node) ls' es' ≡ translate s a b
+          by_end : (o : Explored) → explored_from r a b ≡ o → ExploredTo n o ls es ix (Err y)
+              → outcome_of (Err y) ls' es' ≡ translate s a b
           by_end (listed t) e Y = absurd Y
           by_end (full x) e Y =
-              refused_blank a b k p no_node ls' es' d d'
-              ∙ translate_full_lem (refusal k p) (listing_starts room ∙ e ∙ ap full Y)
+              refused_blank a b y ls' es' d d'
+              ∙ translate_full_lem (refusal_in y) (listing_starts room ∙ e ∙ ap full Y)
 
 -- the automaton of an outcome is the routine
-pub outcome_automaton : (s : List ℕ) (a b : ℕ) (o : Translated) (ls es : List ℕ) → outcome_of o ls es ≡ translate s a b
-    → (outcome_of o ls es).verdict ≡ is_accepted → IsRoutineOf s (outcome_of o ls es).tables
+pub outcome_automaton : (s : List ℕ) (a b : ℕ) (o : Result Counts declared.Refusal) (ls es : List ℕ)
+    → outcome_of o ls es ≡ translate s a b → (outcome_of o ls es).verdict ≡ is_accepted
+    → IsRoutineOf s (outcome_of o ls es).tables
 unfolding Demand3
 outcome_automaton s a b o ls es e z =
     subst (λ x. IsRoutineOf s x.tables) (sym e) (demand_three s a b (sym (ap (λ x. x.verdict) e) ∙ z))

@@ -1,24 +1,83 @@
--- The first of the numbers below n that passes a test, by two tests; and the first number that does not stand at its
--- own place in a list.
+-- What `position` answers, said of the numbers of the places; and the first number that does not stand at its own place
+-- in a list.
 use Prim.Native.Nat.{ℕ, zero, suc, ◌+◌, ◌<◌, ◌≤◌}
 use native.Mathlib.Omega.{arith}
 use mathlib.Core.Path.{◌≡◌, refl, sym, ap, ap₂, subst, ◌∙◌}
 use mathlib.Core.Bool.{Bool, false, cond, not}
 use mathlib.Core.List.{List, [], ◌∷◌, ◌++◌}
 use lib.Dec.{eqb, ltb}
-use lib.ListN.{length, get_or}
-use borrow.Author.Tests.{eq-eqb, eqb-false, ne_eqb}
+use lib.ListN.{length, get_or, take}
+use borrow.Author.Tests.{eq-eqb, eqb-false, ltb-false, ltb-true, ne_eqb}
+use Rattle.std.specs.List.{enumerate_from, position, position_or_len}
+use Rattle.std.proofs.lemmas.List.FromFn.{get_or-enumerate_from, length-enumerate_from}
+use Rattle.std.specs.Prelude.{Option, Some, None}
 use Rattle.model.specs.Base.{any, mem, numbers, place_of}
-use Rattle.model.proofs.lists.Logic.{eq-case, not-true, or_false_l, or_false_r}
+use Rattle.model.proofs.lists.Logic.{bool_case, eq-case, not-true, or_false_l, or_false_r}
 use Rattle.model.proofs.lists.Numbers.{length_numbers, numbers_mem, numbers_snoc}
-use lib.Seq.{append_snoc}
+use Rattle.model.proofs.lists.Chains.{place_is}
+use lib.Seq.{append_snoc, get_or-take, length-take-le}
 
--- ---- the two tests of loops: a mark below a bound, and a place that holds another number
-abbrev pub below : List ℕ → ℕ → ℕ → Bool
-below marks bound c = ltb (get_or marks c 0) bound
+-- ---- what `position` answers, said of the numbers of the places
 
-abbrev pub moved : List ℕ → ℕ → Bool
-moved order c = not (eqb (get_or order c 0) c)
+some_none : {A : Type 0} {x : A} → Some x ≡ None → ⊥
+some_none e = cc
+
+place_in_order : {A : Type 0} (p : A → Bool) (q : ℕ → Bool) (d : A) (xs : List A) (i : ℕ)
+    → ((j : ℕ) → j < length xs → p (get_or xs j d) ≡ q (i + j)) → place_of p xs ≡ place_of q (numbers i (length xs))
+place_in_order p q d [] i h = refl
+place_in_order p q d (x ∷ xs) i h =
+    ap₂ (λ b m. cond b 0 (suc m)) (h 0 (omega arith) ∙ ap q (omega arith))
+    (place_in_order p q d xs (suc i) (λ j l. h (suc j) (omega arith) ∙ ap q (omega arith)))
+
+-- r is what `position` answers, in the words of the library; a test of the numbers below n passes where p does
+module _ {A : Type 0} (p : A → Bool) (q : ℕ → Bool) (d : A) (xs : List A) {r : Option ℕ} {n : ℕ}
+    (e : r ≡ position p xs) (k : length xs ≡ n)
+    (h : (j : ℕ) → j < n → p (get_or xs j d) ≡ q j) where
+  place : position_or_len p xs ≡ place_of q (numbers 0 n)
+  place = sym (place_is p xs) ∙ place_in_order p q d xs 0 (λ j l. h j (omega arith) ∙ ap q (omega arith))
+      ∙ ap (λ m. place_of q (numbers 0 m)) k
+
+  first_at : {i : ℕ} → r ≡ Some i → (i ≡ place_of q (numbers 0 n)) × (i < n)
+  first_at {i} s = bool_case (ltb (position_or_len p xs) (length xs))
+      (λ t. let f : r ≡ Some (position_or_len p xs) = rw (t, position) at e in
+      let m : i ≡ position_or_len p xs = cc in (m ∙ place, omega (arith, ltb-true _ _ t)))
+      (λ t. let f : r ≡ None = rw (t, position) at e in absurd (some_none (sym s ∙ f)))
+
+  first_none : ((i : ℕ) → r ≡ Some i → ⊥) → n ≤ place_of q (numbers 0 n)
+  first_none s = bool_case (ltb (position_or_len p xs) (length xs))
+      (λ t. let f : r ≡ Some (position_or_len p xs) = rw (t, position) at e in absurd (s _ f))
+      (λ t. omega (arith, ltb-false _ _ t, place))
+
+-- the marks of n cells against a bound
+module _ (b : ℕ) (s : List ℕ) {n : ℕ} (few : n ≤ length s) {r : Option ℕ}
+    (e : r ≡ position (λ m. ltb m b) (take n s)) where
+  mark : (j : ℕ) → j < n → ltb (get_or (take n s) j 0) b ≡ ltb (get_or s j 0) b
+  mark j l = ap (λ m. ltb m b) (get_or-take n s j 0 l)
+
+  pub below_at : {i : ℕ} → r ≡ Some i → (i ≡ place_of (λ c. ltb (get_or s c 0) b) (numbers 0 n)) × (i < n)
+  below_at = first_at _ _ 0 _ e (length-take-le n s few) mark
+
+  pub below_none : ((i : ℕ) → r ≡ Some i → ⊥) → n ≤ place_of (λ c. ltb (get_or s c 0) b) (numbers 0 n)
+  below_none = first_none _ _ 0 _ e (length-take-le n s few) mark
+
+-- the order of n cells against their own places
+module _ (o : List ℕ) {n : ℕ} (few : n ≤ length o) {r : Option ℕ}
+    (e : r ≡ position (λ (v : ℕ × ℕ). not (eqb v.1 v.0)) (enumerate_from 0 (take n o))) where
+  long : length (enumerate_from 0 (take n o)) ≡ n
+  long = length-enumerate_from 0 (take n o) ∙ length-take-le n o few
+
+  visit_at : (j : ℕ) → j < n → (λ (v : ℕ × ℕ). not (eqb v.1 v.0)) (get_or (enumerate_from 0 (take n o)) j (0, 0))
+      ≡ not (eqb (get_or o j 0) j)
+  visit_at j l =
+      ap (λ (v : ℕ × ℕ). not (eqb v.1 v.0))
+      (get_or-enumerate_from 0 (take n o) j (0, 0) (omega (arith, length-take-le n o few)))
+      ∙ ap₂ (λ x y. not (eqb x y)) (get_or-take n o j 0 l) (omega arith)
+
+  pub moved_at : {i : ℕ} → r ≡ Some i → (i ≡ place_of (λ c. not (eqb (get_or o c 0) c)) (numbers 0 n)) × (i < n)
+  moved_at = first_at _ _ (0, 0) _ e long visit_at
+
+  pub moved_none : ((i : ℕ) → r ≡ Some i → ⊥) → n ≤ place_of (λ c. not (eqb (get_or o c 0) c)) (numbers 0 n)
+  moved_none = first_none _ _ (0, 0) _ e long visit_at
 
 -- ---- two tests
 

@@ -1,6 +1,6 @@
 -- The code of a segment's update, as a sum over its cells: each flag belongs to one cell, so the flags add up.
 use Prim.Native.Nat.{ℕ, zero, suc, ◌+◌, ◌*◌, ◌^◌, ◌≤◌, ◌<◌}
-use mathlib.Core.Bool.{Bool, true, false, ◌&&◌, cond}
+use mathlib.Core.Bool.{Bool, true, false, cond}
 use mathlib.Core.List.{List, [], ◌∷◌}
 use mathlib.Core.Path.{◌≡◌, refl, sym, ap, ap₂, ◌∙◌}
 use native.Mathlib.Nat.{mul-add, mul_assoc, mul_comm, pow-suc}
@@ -17,6 +17,8 @@ use Rattle.model.specs.Notions.{NoDup, flagged}
 use Rattle.model.proofs.lists.Logic.{bool_case, eqb_same, eqb_sym, mem_here, mem_there}
 use Rattle.model.proofs.ways.Ways.{split_fair, whole_fair}
 use Rattle.model.proofs.ways.Weights.{Fair, update_small, update_value, weigh}
+use Rattle.std.specs.Prelude.{Option, Some, None}
+use Rattle.model.specs.declared.Node.{Node}
 use Rattle.cell_sum.specs.Codes.{plus_by, weight_by}
 
 -- ---- counters a, 2a, 4a, ..: flagged ones add up to a times the flags' number
@@ -102,9 +104,9 @@ module _ (k : ℕ) (w : ℕ → Weight) (F : Fair k (doubles 2 k) w) where
 -- ---- the weights of a way
 
 -- a rest is cell k alone
-tail_rest : (n k c : ℕ) → n < k → is_less (weight_by true n k c) ≡ eqb c k
-tail_rest n k c h = bool_case (eqb c n)
-    (λ e. let q = eqb-true c n e in rw e (sym (ne_eqb c k (λ z. omega arith))))
+tail_rest : (n : Node) (k c : ℕ) → n.0 < k → is_less (weight_by (Some n) k c) ≡ eqb c k
+tail_rest n k c h = bool_case (eqb c n.0)
+    (λ e. let q = eqb-true c n.0 e in rw e (sym (ne_eqb c k (λ z. omega arith))))
     (λ e. bool_case (eqb c k) (λ f. rw (e, f)) (λ f. rw (e, f)))
 
 count_one : (k : ℕ) (l : List ℕ) → NoDup l → count (λ c. eqb c k) l ≡ cond (mem k l) 1 0
@@ -118,36 +120,42 @@ count_one k (c ∷ l) nd =
     rw (e, eqb_sym k c, e) (omega arith))
     (λ e. rw (e, eqb_sym k c, e) (omega arith))
 
-no_rests : (n k : ℕ) (l : List ℕ) → count (λ c. is_less (weight_by false n k c)) l ≡ 0
-no_rests n k [] = refl
-no_rests n k (c ∷ l) = bool_case (eqb c k) (λ e. rw e (omega (arith, no_rests n k l)))
-    (λ e. rw e (omega (arith, no_rests n k l)))
+no_rests : (k : ℕ) (l : List ℕ) → count (λ c. is_less (weight_by None k c)) l ≡ 0
+no_rests k [] = refl
+no_rests k (c ∷ l) = bool_case (eqb c k) (λ e. rw e (omega (arith, no_rests k l)))
+    (λ e. rw e (omega (arith, no_rests k l)))
 
-one_rest : (n k : ℕ) (l : List ℕ) → n < k → NoDup l → count (λ c. is_less (weight_by true n k c)) l ≡ cond (mem k l) 1 0
+one_rest : (n : Node) (k : ℕ) (l : List ℕ) → n.0 < k → NoDup l
+    → count (λ c. is_less (weight_by (Some n) k c)) l ≡ cond (mem k l) 1 0
 one_rest n k l h nd = count_same l ∙ count_one k l nd
   where
-    count_same : (m : List ℕ) → count (λ c. is_less (weight_by true n k c)) m ≡ count (λ c. eqb c k) m
+    count_same : (m : List ℕ) → count (λ c. is_less (weight_by (Some n) k c)) m ≡ count (λ c. eqb c k) m
     count_same [] = refl
     count_same (c ∷ m) = ap₂ (λ b x. cond b 1 0 + x) (tail_rest n k c h) (count_same m)
 
-base_rests : (sp : Bool) (n k : ℕ) (l : List ℕ) → (sp ≡ true → n < k) → NoDup l
-    → cond (sp && mem k l) 0 4096 + 4096 * count (λ c. is_less (weight_by sp n k c)) l ≡ 4096
-base_rests true n k l h nd =
-    let r = one_rest n k l (h refl) nd in
+-- what a segment's code begins with: 4096 for the constant 0, or 0 where the tail is a cell of it
+abbrev pub rest_base : Option Node → ℕ → List ℕ → ℕ
+rest_base (Some _) k l = cond (mem k l) 0 4096
+rest_base None k l = 4096
+
+base_rests : (sp : Option Node) (k : ℕ) (l : List ℕ) → ((n : Node) → sp ≡ Some n → n.0 < k) → NoDup l
+    → rest_base sp k l + 4096 * count (λ c. is_less (weight_by sp k c)) l ≡ 4096
+base_rests (Some n) k l h nd =
+    let r = one_rest n k l (h n refl) nd in
     bool_case (mem k l) (λ e. let z = r ∙ ap (λ b. cond b 1 0) e in rw e (omega arith)) (λ e. let z =
     r ∙ ap (λ b. cond b 1 0) e in rw e (omega arith))
-base_rests false n k l h nd = omega (arith, no_rests n k l)
+base_rests None k l h nd = omega (arith, no_rests k l)
 
-weights_fair : (sp : Bool) (n k : ℕ) → (sp ≡ true → n < k) → Fair k (doubles 2 k) (weight_by sp n k)
-weights_fair true n k h = split_fair k (doubles 2 k) n (h refl) (let e = doubles_at 2 k n (h refl) in
-    omega (arith, pow_pos n))
-weights_fair false n k h = whole_fair k (doubles 2 k)
+weights_fair : (sp : Option Node) (k : ℕ) → ((n : Node) → sp ≡ Some n → n.0 < k) → Fair k (doubles 2 k) (weight_by sp k)
+weights_fair (Some n) k h = split_fair k (doubles 2 k) n.0 (h n refl) (let e = doubles_at 2 k n.0 (h n refl) in
+    omega (arith, pow_pos n.0))
+weights_fair None k h = whole_fair k (doubles 2 k)
 
--- the code of a segment's update: 4096 for the constant 0, or 0 where the tail is a cell of it, and what its cells add
-pub segment_update : (sp : Bool) (n k : ℕ) (s : Seg) → (sp ≡ true → n < k) → NoDup (cells s)
+-- the code of a segment's update: its base, and what its cells add
+pub segment_update : (sp : Option Node) (k : ℕ) (s : Seg) → ((n : Node) → sp ≡ Some n → n.0 < k) → NoDup (cells s)
     → ((c : ℕ) → mem c (cells s) ≡ true → c ≤ k)
-    → cond (sp && mem k (cells s)) 0 4096 + sum (λ c. plus_by (weight_by sp n k c)) (cells s)
-    ≡ update_code (update_of k (weight_by sp n k) s)
-segment_update sp n k s h nd below =
-    segment_code k (weight_by sp n k) (weights_fair sp n k h) s (cond (sp && mem k (cells s)) 0 4096) nd
-    (λ c q. omega (arith, below c q)) (base_rests sp n k (cells s) h nd)
+    → rest_base sp k (cells s) + sum (λ c. plus_by (weight_by sp k c)) (cells s)
+    ≡ update_code (update_of k (weight_by sp k) s)
+segment_update sp k s h nd below =
+    segment_code k (weight_by sp k) (weights_fair sp k h) s (rest_base sp k (cells s)) nd
+    (λ c q. omega (arith, below c q)) (base_rests sp k (cells s) h nd)

@@ -1,7 +1,7 @@
 -- Sums over cells, for the loop that adds them up: one cell more, what an entry is after a turn, and how large it can
 -- be.
 use Prim.Native.Nat.{ℕ, ◌+◌, ◌*◌, ◌≤◌, ◌<◌}
-use mathlib.Core.Bool.{Bool, true, false, cond}
+use mathlib.Core.Bool.{cond}
 use mathlib.Core.List.{List, [], ◌∷◌}
 use mathlib.Core.Path.{◌≡◌, sym, ap, subst, ◌∙◌}
 use native.Mathlib.Omega.{arith}
@@ -11,6 +11,8 @@ use lib.Seq.{get_or-set_other, get_or-set_same}
 use borrow.Author.Tests.{eq-eqb, eqb-false}
 use Rattle.model.proofs.lists.Logic.{eq-case}
 use Rattle.model.proofs.lists.Slices.{sum_append, take_next}
+use Rattle.std.specs.Prelude.{Option, Some, None}
+use Rattle.model.specs.declared.Node.{Node}
 use Rattle.cell_sum.specs.declared.Weights.{Weights}
 use Rattle.cell_sum.specs.Codes.{CellsReady, base_at, sum_at}
 
@@ -58,7 +60,7 @@ module _ (node : List ℕ) (f : ℕ → ℕ) (l bs us : List ℕ) (i v : ℕ) (h
 abbrev zeros : ℕ → List ℕ
 zeros n = replicate n 4096
 
-pub bases : (n t : ℕ) → t < n → (j : ℕ) → j < n → get_or (set (zeros n) t 0) j 0 ≡ base_at true t j
+pub bases : (n t : ℕ) → t < n → (j : ℕ) → j < n → get_or (set (zeros n) t 0) j 0 ≡ cond (eqb t j) 0 4096
 bases n t h j lt =
     eq-case t j
     (λ e.
@@ -66,9 +68,9 @@ bases n t h j lt =
     rw (eq-eqb t j e) (subst (λ x. get_or (set (zeros n) t 0) x 0 ≡ 0) e (get_or-set_same (zeros n) t 0 0 inside)))
     (λ e. rw e (get_or-set_other (zeros n) t j 0 0 (λ q. eqb-false t j e (sym q)) ∙ get_or-replicate n j 4096 0 lt))
 
-pub base_most : (sp : Bool) (t j : ℕ) → base_at sp t j ≤ 4096
-base_most true t j = eq-case t j (λ e. rw (eq-eqb t j e) (omega arith)) (λ e. rw e (omega arith))
-base_most false t j = omega arith
+pub base_most : (sp : Option Node) (t j : ℕ) → base_at sp t j ≤ 4096
+base_most (Some n) t j = eq-case t j (λ e. rw (eq-eqb t j e) (omega arith)) (λ e. rw e (omega arith))
+base_most None t j = omega arith
 
 -- what is asked of the cells, for a table of updates of the same length
 pub ready_same : (l node : List ℕ) (w : Weights) (m n : ℕ) → n ≡ m → CellsReady l node w m → CellsReady l node w n

@@ -1,6 +1,6 @@
 -- What `sum_cells` writes are the codes of an edge's updates, where the table has the segment of each cell.
 use Prim.Native.Nat.{ℕ, zero, suc, ◌+◌, ◌≤◌, ◌<◌}
-use mathlib.Core.Bool.{Bool, true, false, ◌&&◌, cond}
+use mathlib.Core.Bool.{true, cond}
 use mathlib.Core.List.{List, [], ◌∷◌, map}
 use mathlib.Core.Path.{◌≡◌, refl, sym, ap, ap₂, subst, ◌∙◌}
 use native.Mathlib.Omega.{arith}
@@ -17,9 +17,11 @@ use Rattle.model.proofs.lists.Lists.{get_or_map}
 use Rattle.model.specs.Notions.{NoDup, flat, seg_at, seg}
 use Rattle.model.proofs.lists.Logic.{bool_ext, mem_here, mem_there}
 use Rattle.model.proofs.lists.Slices.{sum_append}
+use Rattle.std.specs.Prelude.{Option, Some, None}
+use Rattle.model.specs.declared.Node.{Node}
 use Rattle.cell_sum.specs.declared.Weights.{Weights}
-use Rattle.cell_sum.specs.Codes.{code_at, plus_in, sum_at, weight_in}
-use Rattle.cell_sum.proofs.Codes.{segment_update}
+use Rattle.cell_sum.specs.Codes.{base_at, code_at, plus_in, sum_at, weight_in}
+use Rattle.cell_sum.proofs.Codes.{rest_base, segment_update}
 
 -- ---- sums over all cells
 
@@ -80,32 +82,32 @@ pub record Segmented (l node : List ℕ) (w : Weights) (ss : List Seg) : Type 0 
   pub different : NoDup l
   pub tabled : (j c : ℕ) → j < length ss → mem c (cells (seg_at ss j)) ≡ true → get_or node c 0 ≡ j
   pub below : (c : ℕ) → mem c l ≡ true → c ≤ w.nodes
-  pub is_node : w.split ≡ true → w.node.0 < w.nodes
-  pub has_tail : w.split ≡ true → mem w.nodes l ≡ true
+  pub is_node : (n : Node) → w.split ≡ Some n → n.0 < w.nodes
+  pub has_tail : (n : Node) → w.split ≡ Some n → mem w.nodes l ≡ true
 
 module _ (l node : List ℕ) (w : Weights) (ss : List Seg) (S : Segmented l node w ss) where
   abbrev k : ℕ
   k = w.nodes
 
   -- the tail's segment is the one that the table says
-  tail_in : (j : ℕ) → j < length ss → (b : Bool) → w.split ≡ b → b && eqb (get_or node k 0) j ≡ b
-      && mem k (cells (seg_at ss j))
-  tail_in j h false e = refl
-  tail_in j h true e = bool_ext (eqb (get_or node k 0) j) (mem k (cells (seg_at ss j)))
+  tail_in : (j : ℕ) → j < length ss → (sp : Option Node) → w.split ≡ sp
+      → base_at sp (get_or node k 0) j ≡ rest_base sp k (cells (seg_at ss j))
+  tail_in j h None e = refl
+  tail_in j h (Some v) e = ap (λ b. cond b 0 4096) (bool_ext (eqb (get_or node k 0) j) (mem k (cells (seg_at ss j)))
       (λ q.
-      let r = flat_mem ss k (subst (λ m. mem k m ≡ true) (sym S.is_flat) (S.has_tail e)) in
+      let r = flat_mem ss k (subst (λ m. mem k m ≡ true) (sym S.is_flat) (S.has_tail v e)) in
       let n = S.tabled r.0 k r.1 r.2 in
       let t = eqb-true (get_or node k 0) j q in
       subst (λ i. mem k (cells (seg_at ss i)) ≡ true) (sym n ∙ t) r.2)
-      (λ q. eq-eqb (get_or node k 0) j (S.tabled j k h q))
+      (λ q. eq-eqb (get_or node k 0) j (S.tabled j k h q)))
 
   pub update_code_lem : (j : ℕ) → j < length ss → code_at node w l j
       ≡ update_code (update_of k (weight_in w) (seg_at ss j))
   update_code_lem j h =
-      ap₂ (λ b n. cond b 0 4096 + n) (tail_in j h w.split refl)
+      ap₂ (λ b n. b + n) (tail_in j h w.split refl)
       (ap (sum_at node (plus_in w) j) (sym S.is_flat)
       ∙ sum_flat node (plus_in w) ss 0 j j (omega arith) h (λ i c lt q. S.tabled i c lt q ∙ omega arith))
-      ∙ segment_update w.split w.node.0 k (seg_at ss j) S.is_node
+      ∙ segment_update w.split k (seg_at ss j) S.is_node
       (flat_nodup ss j (subst NoDup (sym S.is_flat) S.different) h)
       (λ c q. S.below c (subst (λ m. mem c m ≡ true) S.is_flat (mem_flat ss j c h q)))
 

@@ -5,28 +5,25 @@ use mathlib.Core.Bool.{Bool, false, true, ◌&&◌, and_assoc}
 use mathlib.Core.List.{List, [], ◌∷◌, ◌++◌, map}
 use native.Mathlib.Omega.{arith}
 use lib.Dec.{eqb, ltb}
-use lib.ListN.{length, drop, get_or, replicate, set, take, length-append, length-drop, length-map, length-replicate, length-set, get_or-append}
-use lib.Seq.{get_or-append-add, get_or-drop, get_or-set_other, get_or-set_same, take_all}
+use lib.ListN.{length, drop, get_or, replicate, set, length-append, length-drop, length-map, length-replicate, length-set, get_or-append}
+use lib.Seq.{get_or-append-add, get_or-drop, get_or-set_other, get_or-set_same}
 use borrow.Author.Tests.{eqb-false, ltb-false, ltb-true}
+use Rattle.std.specs.List.{fold}
 use Rattle.model.specs.Base.{all}
 use Rattle.model.specs.Heap.{in_use, slot_named}
 use Rattle.model.specs.Image.{cell_slot}
 use Rattle.model.proofs.lists.Lists.{get_or_map}
 use Rattle.model.proofs.lists.Logic.{and_true, bool_case, eq-case}
-use Rattle.model.proofs.lists.Slices.{all_end, all_step}
 use Rattle.visit.specs.Steps.{slot_at}
 use Rattle.closed_image.proofs.ByteLaws.{named_in, named_past, used_byte}
 
--- ---- a loop that tests each element and keeps whether all passed, a: one turn, and its end
-module _ (p : ℕ → Bool) (l : List ℕ) (i : ℕ) (a : Bool) where
-  pub pass_more : i < length l → a && all p (drop i l) ≡ (a && p (get_or l i 0)) && all p (drop (i + 1) l)
-  pass_more h = ap (λ b. a && b) (all_step p l i h) ∙ sym (and_assoc a (p (get_or l i 0)) (all p (drop (i + 1) l)))
-
-  pub pass_end : length l ≤ i → a && all p (drop i l) ≡ a
-  pass_end h = ap (λ b. a && b) (all_end p l i h) ∙ and_true a
+-- ---- a fold that tests each element and keeps whether all passed
+pub all_gathered : (p : ℕ → Bool) (a : Bool) (l : List ℕ) → fold (λ kept b. kept && p b) a l ≡ a && all p l
+all_gathered p a [] = sym (and_true a)
+all_gathered p a (b ∷ l) = all_gathered p (a && p b) l ∙ and_assoc a (p b) (all p l)
 
 -- the same test of what is read
-pass_read : {A B : Type 0} (p : A → Bool) (q : B → Bool) (f : A → B) → ((x : A) → p x ≡ q (f x)) → (l : List A)
+pub pass_read : {A B : Type 0} (p : A → Bool) (q : B → Bool) (f : A → B) → ((x : A) → p x ≡ q (f x)) → (l : List A)
     → all p l ≡ all q (map f l)
 pass_read p q f e [] = refl
 pass_read p q f e (x ∷ l) = ap₂ (λ a b. a && b) (e x) (pass_read p q f e l)
@@ -45,13 +42,6 @@ used_cell b = in_use (cell_slot b)
 
 abbrev told : List ℕ → List Bool → List Bool
 told cs t = map used_cell cs ++ drop (length cs) t
-
--- by a loop that has come to the end of the cells
-pub told_all : (cs : List ℕ) (t s : List Bool) (i : ℕ) → i ≤ length cs → length cs ≤ i
-    → s ≡ map used_cell (take i cs) ++ drop i t → s ≡ told cs t
-told_all cs t s i h k e =
-    let n : i ≡ length cs = omega arith in
-    e ∙ ap₂ (λ l m. map used_cell l ++ drop m t) (take_all i cs k) n
 
 -- t is a table by which no byte is fine
 module _ (cs : List ℕ) (t : List Bool) (none : (i : ℕ) → get_or t i false ≡ false) where

@@ -13,31 +13,14 @@ ghost use Rattle.visit.specs.Steps.{slot_at};
 fn is_named(cells: &[u8], v: u8) -> bool
     ensures { result ≡ named (slot_at cells.now) (val_of v) }
 {
-    if v == 0xfe {
-        return true;
-    }
-    if v == 0xff {
-        return true;
-    }
     let c = v as usize;
-    if c < cells.len() {
-        cells[c] != 0xfd
-    } else {
-        false
-    }
+    v == model::NULL || v == model::UNDEFINED || (c < cells.len() && cells[c] != model::UNUSED)
 }
 
 fn pointers_named(pointers: &[u8], cells: &[u8]) -> bool
     ensures { result ≡ all (named (slot_at cells.now)) (map val_of pointers.now) }
 {
-    let mut i = 0;
-    while i < pointers.len() {
-        if !is_named(cells, pointers[i]) {
-            return false;
-        }
-        i += 1;
-    }
-    true
+    pointers.iter().all(|v| is_named(cells, *v))
 }
 
 // Tells in the table of each cell's number whether that cell is in use. A comparison is stored and no branch taken, so
@@ -47,31 +30,17 @@ fn tell_used(cells: &[u8], fine: &mut [bool])
     ensures { fine.new ≡ map (λ b. in_use (cell_slot b)) cells.now
         ++ drop (length cells.now) fine.old }
 {
-    let mut i = 0;
-    while i < cells.len() {
-        fine[i] = cells[i] != 0xfd;
-        i += 1;
+    for (i, b) in cells.iter().enumerate() {
+        fine[i] = *b != model::UNUSED;
     }
 }
 
-// Whether, beside what was fine before, the byte b is fine by the table.
-fn fine_too(before: bool, b: u8, fine: &[bool; 256]) -> bool
-    ensures { result ≡ before && get_or fine.now b false }
-{
-    before & fine[b as usize]
-}
-
-// Whether each cell's byte is. All are looked at: that is quicker than to stop at the first that is not.
+// Whether each cell's byte is fine by the table. All are looked at: that is quicker than to stop at the first that is
+// not.
 fn all_fine(cells: &[u8], fine: &[bool; 256]) -> bool
     ensures { result ≡ all (λ b. get_or fine.now b false) cells.now }
 {
-    let mut kept = true;
-    let mut i = 0;
-    while i < cells.len() {
-        kept = fine_too(kept, cells[i], fine);
-        i += 1;
-    }
-    kept
+    cells.iter().fold(true, |kept, b| kept & fine[*b as usize])
 }
 
 // Whether every cell in use names only cells in use. A table tells of each byte whether a cell may hold it, so that no
@@ -83,9 +52,9 @@ fn cells_named(cells: &[u8]) -> bool
 {
     let mut fine = [false; 256];
     tell_used(cells, &mut fine);
-    fine[0xfd] = true;
-    fine[0xfe] = true;
-    fine[0xff] = true;
+    fine[model::UNUSED as usize] = true;
+    fine[model::NULL as usize] = true;
+    fine[model::UNDEFINED as usize] = true;
     all_fine(cells, &fine)
 }
 
@@ -94,9 +63,5 @@ pub fn is_closed(pointers: &[u8], cells: &[u8]) -> bool
     requires { length cells.now ≤ most_cells }
     ensures { result ≡ closed (heap_of pointers.now cells.now) }
 {
-    if pointers_named(pointers, cells) {
-        cells_named(cells)
-    } else {
-        false
-    }
+    pointers_named(pointers, cells) && cells_named(cells)
 }

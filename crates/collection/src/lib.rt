@@ -8,7 +8,7 @@ ghost use Rattle.collection.specs.Left.{left_byte, left_bytes};
 fn left_byte(mark: u8, b: u8) -> u8
     ensures { result ≡ left_byte mark b }
 {
-    if mark == 0 { 0xfd } else { b }
+    if mark == 0 { model::UNUSED } else { b }
 }
 
 // Every cell without a mark goes.
@@ -16,9 +16,7 @@ pub fn collect(cells: &mut [u8], seen: &[u8])
     requires { length cells.old ≤ length seen.now }
     ensures { cells.new ≡ left_bytes seen.now 0 cells.old }
 {
-    let mut i = 0;
-    while i < cells.len() {
-        cells[i] = left_byte(seen[i], cells[i]);
-        i += 1;
+    for (i, cell) in cells.iter_mut().enumerate() {
+        *cell = left_byte(seen[i], *cell);
     }
 }

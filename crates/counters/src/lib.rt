@@ -9,14 +9,7 @@ ghost use Rattle.model.specs.Image.{counters_fit, counters_of};
 fn all_positive(counters: &[u32]) -> bool
     ensures { result ≡ all (leb 1) counters.now }
 {
-    let mut i = 0;
-    while i < counters.len() {
-        if counters[i] == 0 {
-            return false;
-        }
-        i += 1;
-    }
-    true
+    counters.iter().all(|c| 1 <= *c)
 }
 
 // The number of cells that at most twelve counters ask for: it fits, since each has 32 bits.
@@ -24,13 +17,7 @@ fn total(counters: &[u32]) -> u64
     requires { length counters.now ≤ most_nodes }
     ensures { result ≡ sum (λ v. v) counters.now }
 {
-    let mut t: u64 = 0;
-    let mut i = 0;
-    while i < counters.len() {
-        t += counters[i] as u64;
-        i += 1;
-    }
-    t
+    counters.iter().map(|c| *c as u64).sum()
 }
 
 // Whether twelve counters are those of k nodes: each node has a cell, counters past them ask for none.
@@ -46,8 +33,5 @@ pub fn counters_fit(k: usize, counters: &[u32], n: usize) -> bool
     requires { k ≤ most_nodes }
     ensures { result ≡ counters_fit k counters.now n }
 {
-    if counters.len() != model::MOST_NODES {
-        return false;
-    }
-    counters_of(k, counters) & (total(counters) <= n as u64)
+    counters.len() == model::MOST_NODES && counters_of(k, counters) && (total(counters) <= n as u64)
 }

@@ -7,9 +7,8 @@ use Rattle.model.specs.Image.{Folding, Stepping, Unfolding}
 use Rattle.model.specs.Part.{Part}
 use Rattle.model.specs.Records.{Verdict}
 use Rattle.model.specs.declared.Configuration.{Configuration}
-use Rattle.model.specs.declared.Moved.{Moved}
-use Rattle.model.specs.declared.Ranged.{Ranged}
-use Rattle.model.specs.declared.Walked.{Walked}
+use Rattle.model.specs.Walking.{Moved, Walked}
+use Rattle.model.specs.Ranges.{Ranged}
 use Rattle.answers.specs.Numbers.{IsTold}
 use Rattle.currantplane.specs.Calls.{IsFolded, IsRanged, IsRecord, IsStepped, IsTranslated, IsUnfolded}
 

@@ -1,20 +1,21 @@
 -- The contract of each call from the answer of the function that it calls.
-use Prim.Native.Nat.{ℕ, ◌*◌, ◌≤◌}
-use mathlib.Core.Path.{◌≡◌, ap, refl, subst, sym, ◌∙◌}
+use Prim.Native.Nat.{ℕ}
+use mathlib.Core.Path.{◌≡◌, ap, refl, sym, ◌∙◌}
 use mathlib.Core.List.{List}
-use lib.ListN.{length, set}
-use Rattle.model.specs.Answers.{refusal_of, step_numbers}
-use Rattle.model.specs.Image.{Folding, Stepping, Unfolding, step_verdict}
-use Rattle.model.specs.Part.{part_bytes, record_part}
-use Rattle.model.specs.Records.{Verdict}
+use lib.ListN.{set}
+use Rattle.std.specs.Prelude.{Err}
+use Rattle.model.specs.Answers.{refusal_of}
+use Rattle.model.specs.Codes.{range_refusal_number, range_refusal_place}
+use Rattle.model.specs.Ranges.{Ranging, WhyRefused, ends_at, follows, no_range, no_start, not_linked, ranged_of, ranging, refused_at, tables_break, too_long}
 use Rattle.model.specs.Runs.{Demand3}
 use Rattle.model.specs.Translate.{Outcome, Tables, translate}
 use Rattle.model.proofs.runs.Demand.{demand_three}
 use Rattle.model.proofs.listings.Outcomes.{zero_accepted}
-use Rattle.model.proofs.listings.Parts.{part_begins, part_length, part_low}
-use Rattle.model.specs.declared.Ranged.{Ranged}
-use Rattle.answers.specs.Numbers.{IsTold, laid_where, over, told}
-use Rattle.currantplane.specs.Calls.{IsFolded, IsRanged, IsRecord, IsStepped, IsTranslated, IsUnfolded}
+use Rattle.model.specs.declared.codes.RangeRefusal.{RangeRefusal}
+use Rattle.model.specs.declared.codes.RangeRefusal.TheVariants as refusal
+use Rattle.model.proofs.runs.Ranged.{ranging_told}
+use Rattle.answers.specs.Numbers.{told}
+use Rattle.currantplane.specs.Calls.{IsTranslated}
 
 pub outcome_told : {s : List ℕ} {a b : ℕ} {xs zs ys : List ℕ} {u : Outcome} → u ≡ translate s a b
     → zs ≡ told xs (refusal_of u.verdict).place u.tables.loc_count u.tables.edge_count
@@ -31,48 +32,28 @@ outcome_told {s} {a} {b} {xs} {zs} {ys} {u} e p q = record {
   automaton = λ z. demand_three s a b (zero_accepted s a b (sym (ap (λ x. (refusal_of x.verdict).number) e) ∙ z));
 }
 
--- a part that is handed back, told by where it begins and its length
-pub record_told : (t : Tables) (mark n : ℕ) {k p : ℕ} {ps xs ys : List ℕ} → ps ≡ part_bytes t mark n
-    → IsTold (record_part t mark n).verdict k p → ys ≡ told xs p (n * length ps) (length ps)
-    → IsRecord (record_part t mark n) xs k ys
-record_told t mark n {k} {p} {ps} {xs} e v y =
-    let l = ap length e ∙ part_length t mark n in
-    record {
-      number = v.number;
-      answer = y ∙ ap (λ p. told xs p (n * length ps) (length ps)) v.place
-          ∙ ap (λ s. told xs (refusal_of (record_part t mark n).verdict).place (n * s) s) l
-          ∙ ap (λ b. told xs (refusal_of (record_part t mark n).verdict).place b (record_part t mark n).size)
-          (part_begins t mark n);
-    }
+-- a refusal for ranges is one of the definition's
+module _ (t : Tables) (l : ℕ) (rs ns : List ℕ) (r : RangeRefusal) where
+  abbrev refused : RangeRefusal → Ranging
+  refused q = refused_at (range_refusal_number q) (range_refusal_place q)
 
--- the product that is told is small
-pub record_small : (t : Tables) (mark n : ℕ) {ps : List ℕ} → ps ≡ part_bytes t mark n → n * length ps ≤ 65536
-record_small t mark n {ps} e =
-    let h : n * length ps ≡ (record_part t mark n).begins =
-    ap (λ l. n * length l) e ∙ ap (λ s. n * s) (part_length t mark n) ∙ part_begins t mark n in
-    rw h (part_low t mark n)
+  is_path : (p : ℕ) → Err r ≡ ranged_of (refused_at 23 p) → refused_at 23 p ≡ refused r
+  is_path p h = let k : r ≡ refusal.Path p = cc in ap refused (sym k)
 
-pub folded_as : {f g : Folding} {n p : ℕ} {r r₀ vs vs₀ : List ℕ} → f ≡ g
-    → IsFolded f n p r r₀ vs vs₀ → IsFolded g n p r r₀ vs vs₀
-folded_as {f} {g} {n} {p} {r} {r₀} {vs} {vs₀} e t = subst (λ h. IsFolded h n p r r₀ vs vs₀) e t
+  is_range : (p : ℕ) → Err r ≡ ranged_of (refused_at 22 p) → refused_at 22 p ≡ refused r
+  is_range p h = let k : r ≡ refusal.Range p = cc in ap refused (sym k)
 
-pub unfolded_as : {u v : Unfolding} {n p d : ℕ} {ps cs : List ℕ} → u ≡ v → IsUnfolded u n p d ps cs
-    → IsUnfolded v n p d ps cs
-unfolded_as {u} {v} {n} {p} {d} {ps} {cs} e t = subst (λ h. IsUnfolded h n p d ps cs) e t
+  why : (x p : ℕ) → WhyRefused t l rs ns x p → Err r ≡ ranged_of (refused_at x p) → refused_at x p ≡ refused r
+  why x p (tables_break e) h = is_path 0 h
+  why x p (no_start e m) h = is_path 0 h
+  why x p (too_long e m k) h = is_path 0 h
+  why x p (not_linked a q lt bad below) h = is_path q h
+  why x p (no_range a each q lt bad below) h = is_range q h
 
--- the verdict v and the numbers ns are those of the step
-pub stepped_as : {s t : Stepping} {v : Verdict} {n p : ℕ} {ns a l : List ℕ} → s ≡ t → v ≡ step_verdict s.answer
-    → IsTold v n p → ns ≡ step_numbers s.answer → a ≡ over ns l → IsStepped t n p s.ptr_bytes s.cell_bytes a l
-stepped_as {s} {t} {v} {n} {p} {ns} {a} {l} e q x m y =
-    subst (λ h. IsStepped h n p s.ptr_bytes s.cell_bytes a l) e
-    (record { ended = subst (λ w. IsTold w n p) q x; pointers = refl; cells = refl; answer = y ∙ ap (λ w. over w l) m })
-
--- what the call for ranges tells and writes, of what it was told
-pub ranged_told : (o : Ranged) (t : Ranged) {rs₀ rs xs₀ xs : List ℕ} → t ≡ o
-    → rs ≡ laid_where t.follows t.ranges rs₀ → xs ≡ told xs₀ t.place t.follows t.location
-    → IsRanged o t.refusal rs₀ rs xs₀ xs
-ranged_told o t {rs₀} {rs} {xs₀} {xs} e p q = record {
-  number = ap (λ (x : Ranged). x.refusal) e;
-  ranges = p ∙ ap (λ (x : Ranged). laid_where x.follows x.ranges rs₀) e;
-  tells = q ∙ ap (λ (x : Ranged). told xs₀ x.place x.follows x.location) e;
-}
+  pub range_refused : Err r ≡ ranged_of (ranging t l rs ns) → ranging t l rs ns ≡ refused r
+  range_refused = by (ranging t l rs ns) refl
+    where
+      by : (o : Ranging) → ranging t l rs ns ≡ o → Err r ≡ ranged_of o → o ≡ refused r
+      by (follows m c) e h = cc
+      by (ends_at i) e h = cc
+      by (refused_at x p) e h = why x p (ranging_told t l rs ns (refused_at x p) e) h

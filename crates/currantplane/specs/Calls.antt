@@ -5,7 +5,7 @@ use Rattle.model.specs.Image.{Folding, Stepping, Unfolding, step_verdict}
 use Rattle.model.specs.Part.{Part}
 use Rattle.model.specs.Runs.{IsRoutineOf}
 use Rattle.model.specs.Translate.{translate}
-use Rattle.model.specs.declared.Ranged.{Ranged}
+use Rattle.model.specs.Ranges.{Ranged}
 use Rattle.answers.specs.Numbers.{IsTold, laid_where, over, told}
 
 -- a translation of input s into tables of a and b bytes: the number r, the answer before (xs) and after (ys), and the

@@ -12,15 +12,35 @@ ghost use Rattle.model.specs.Image.{fold_image, step_image, unfold_image};
 ghost use Rattle.model.specs.Part.{record_part};
 ghost use Rattle.model.specs.Ranges.{ranged_to, ranging};
 ghost use Rattle.model.specs.Search.{searched};
-ghost use Rattle.model.specs.Structs.{tables_in};
+ghost use Rattle.model.specs.Structs.{tables_in, tables_lent};
 ghost use Rattle.model.specs.Walking.{moved, walked};
 ghost use Rattle.currantplane.specs.Calls.{IsFolded, IsRanged, IsRecord, IsStepped, IsTranslated, IsUnfolded};
 
 use answers::{
-    lay, lay_counters, lay_ranges, step_ended, step_numbers, tell, tell_ended, tell_found,
-    tell_node, tell_unfolded,
+    lay, lay_ranges, step_ended, step_numbers, tell, tell_ended, tell_found, tell_node,
+    tell_unfolded,
 };
-use model::{Configuration, Counts, Node, Translated};
+use model::{Configuration, Counts, MOST_NODES, RECORD, Ranged, Tables};
+
+// The tables that are lent, with their counts.
+fn lent<'a>(
+    locations: &'a [u8],
+    edges: &'a [u8],
+    location_count: usize,
+    edge_count: usize,
+) -> Tables<'a>
+    ensures { tables_lent result ≡ tables_in locations.now edges.now
+        (record { locations = location_count; edges = edge_count }) }
+{
+    Tables {
+        locations,
+        edges,
+        counts: Counts {
+            locations: location_count,
+            edges: edge_count,
+        },
+    }
+}
 
 // Writes the refusal's place, the number of locations, the number of edges and the refusal's node over `answer`.
 #[unsafe(no_mangle)]
@@ -34,22 +54,15 @@ pub extern "C" fn currantplane_translate(
         answer.old result answer.new locations.new edges.new }
 {
     match automaton::translate(input, locations, edges) {
-        Translated::Listed {
-            locations: a,
-            edges: b,
-        } => {
-            tell(answer, 0, a, b);
-            tell_node(answer, Node(0));
+        Ok(counts) => {
+            tell(answer, 0, counts.locations, counts.edges);
+            tell_node(answer, None);
             0
         }
-        Translated::Refused {
-            number,
-            place,
-            node,
-        } => {
-            tell(answer, place, 0, 0);
-            tell_node(answer, node);
-            number
+        Err(refusal) => {
+            tell(answer, refusal.place, 0, 0);
+            tell_node(answer, refusal.reason.node());
+            refusal.reason.number()
         }
     }
 }
@@ -71,25 +84,8 @@ pub extern "C" fn currantplane_record<'a>(
         (record { locations = location_count; edges = edge_count })) table number)
         answer.old result answer.new }
 {
-    let counts = Counts {
-        locations: location_count,
-        edges: edge_count,
-    };
-    let mut refusal = 0;
-    let mut place = 0;
-    let part = part::record_part(
-        locations,
-        edges,
-        counts,
-        table,
-        number,
-        &mut refusal,
-        &mut place,
-    );
-    // an empty part begins at 0
-    let size = part.len();
-    tell(answer, place, number * size, size);
-    refusal
+    let tables = lent(locations, edges, location_count, edge_count);
+    part::tell_part(tables, table, number, answer)
 }
 
 // The newest of a table's first `count` records that equals a record. It refuses nothing: it answers 1 and writes the
@@ -118,11 +114,19 @@ pub extern "C" fn currantplane_fold(
     ensures { IsFolded (fold_image pointers.now cells.now) result place.new
         shape.new shape.old counters.new counters.old }
 {
-    let folded = heap_operations::fold(pointers, cells);
-    lay(&folded.shape, shape);
-    lay_counters(&folded.counters, counters);
-    let ended = folded.ended;
-    tell_ended(ended, place)
+    // a refused fold gives zeros
+    match heap_operations::fold(pointers, cells) {
+        Ok(folded) => {
+            lay(&folded.shape, shape);
+            lay(&folded.counters, counters);
+            tell_ended(Ok(()), place)
+        }
+        Err(refusal) => {
+            lay(&[0u8; RECORD], shape);
+            lay(&[0u32; MOST_NODES], counters);
+            tell_ended(Err(refusal), place)
+        }
+    }
 }
 
 // Writes the refusal's node too.
@@ -183,16 +187,14 @@ pub extern "C" fn currantplane_move(
         (record { locations = location_count; edges = edge_count })) configuration.old number
         ).configuration) }
 {
-    let m = walking::make_move(
-        *configuration,
-        locations,
-        edges,
-        location_count,
-        edge_count,
-        number,
-    );
-    *configuration = m.configuration;
-    m.refusal
+    let tables = lent(locations, edges, location_count, edge_count);
+    match walking::make_move(*configuration, tables, number) {
+        Ok(moved) => {
+            *configuration = moved;
+            0
+        }
+        Err(refusal) => refusal.number(),
+    }
 }
 
 // A walk: the configuration is advanced in its own record, and how many moves were made is written.
@@ -216,17 +218,11 @@ pub extern "C" fn currantplane_walk(
         (record { locations = location_count; edges = edge_count })) configuration.old
         path.now).configuration)) }
 {
-    let w = walking::make_walk(
-        *configuration,
-        locations,
-        edges,
-        location_count,
-        edge_count,
-        path,
-    );
-    *configuration = w.configuration;
-    *made = w.made;
-    w.refusal
+    let tables = lent(locations, edges, location_count, edge_count);
+    let walked = walking::make_walk(*configuration, tables, path);
+    *configuration = walked.configuration;
+    *made = walked.made;
+    walked.refused.map_or(0, |refusal| refusal.number())
 }
 
 // Whether some start within the ranges follows a path: `ranges` has the lowest values of twelve counters, then the
@@ -249,16 +245,26 @@ pub extern "C" fn currantplane_ranges(
         path.now)) result ranges.old ranges.new
         answer.old answer.new }
 {
-    let told = ranging::follow_ranges(
-        locations,
-        edges,
-        location_count,
-        edge_count,
-        start,
-        &ranges[..],
-        path,
-    );
-    tell(answer, told.place, told.follows as usize, told.location);
-    lay_ranges(told.follows, &told.ranges, ranges);
-    told.refusal
+    let tables = lent(locations, edges, location_count, edge_count);
+    match ranging::follow_ranges(tables, start, &ranges[..], path) {
+        Ok(
+            Ranged::Reached {
+                location,
+                lows,
+                highs,
+            },
+        ) => {
+            tell(answer, 0, 1, location);
+            lay_ranges(&lows, &highs, ranges);
+            0
+        }
+        Ok(Ranged::Stuck { position }) => {
+            tell(answer, position, 0, 0);
+            0
+        }
+        Err(refusal) => {
+            tell(answer, refusal.place(), 0, 0);
+            refusal.number()
+        }
+    }
 }

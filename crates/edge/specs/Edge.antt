@@ -1,15 +1,18 @@
 -- One edge of a location: what it asks of the record and the way, what it leaves, and what its parts make. Assumes
 -- nothing.
-use Rattle.std.specs.Prelude.{ℕ, ◌≤◌, ◌≡◌, List, [], ◌∷◌, length, drop}
+use Rattle.std.specs.Prelude.{ℕ, ◌≤◌, ◌≡◌, List, [], ◌∷◌, length, drop, Result, Ok, Err}
 use Rattle.model.specs.Base.{record_size}
+use Rattle.model.specs.Codes.{fault_code}
 use Rattle.model.specs.Edges.{Edge, edge_by, step_by}
 use Rattle.model.specs.Heap.{Heap}
-use Rattle.model.specs.Machine.{done, effect, target}
+use Rattle.model.specs.Machine.{carry_out, done, effect, target}
 use Rattle.model.specs.Records.{byte, shape_of}
 use Rattle.model.specs.Structs.{IsEdge, op_in, stmt_in}
 use Rattle.model.specs.declared.Decoded.{Decoded}
 use Rattle.model.specs.declared.EdgeMade.{EdgeMade}
 use Rattle.model.specs.declared.Guards.{Guards}
+use Rattle.model.specs.declared.codes.Fault.{Fault}
+use Rattle.effect.specs.Effect.{effect_of}
 use Rattle.record.specs.Written.{fault_bytes}
 use Rattle.way.specs.Ready.{WayReady}
 use Rattle.way.specs.Way.{way_in}
@@ -21,6 +24,17 @@ LeavesBy l d y t us r =
     (s : ℕ) (h : Heap) → WayReady l d s h y → (E : Edge)
     → edge_by s (length h.slots) (way_in y h) (step_by (stmt_in d) (length h.slots) (way_in y h)) ≡ E ∷ []
     → IsEdge E t us r
+
+-- whichever location is given of which the way is ready, the run is this fault
+abbrev pub Faults : List ℕ → Decoded → Way → Fault → Type 0
+Faults l d y f =
+    (s : ℕ) (h : Heap) → WayReady l d s h y → (g : Heap)
+    → effect_of (fault_code f) g ≡ carry_out (op_in d) (length h.slots) (way_in y h).heap
+
+-- the edge, or the fault
+abbrev pub Leaves : List ℕ → Decoded → Way → List ℕ → List ℕ → Result EdgeMade Fault → Type 0
+Leaves l d y t us (Ok r) = LeavesBy l d y t us r
+Leaves l d y t us (Err f) = Faults l d y f
 
 -- some location is given of which the way is ready, and there is room for the target and the updates
 pub record EdgeReady (l : List ℕ) (d : Decoded) (y : Way) (t us : List ℕ) : Type 0 where

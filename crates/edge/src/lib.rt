@@ -4,38 +4,24 @@
 
 ghost use Rattle.std.specs.Prelude.{◌≡◌, true, ◌≤◌, length, set};
 ghost use Rattle.model.specs.Base.{most_nodes, record_size};
-ghost use Rattle.model.specs.Records.{byte};
+ghost use Rattle.model.specs.Codes.{fault_code, op_number};
 ghost use Rattle.model.specs.Structs.{keeps_at};
-ghost use Rattle.edge.specs.Edge.{EdgeOn, EdgeReady, FaultMade, KeepsShape, LeavesBy};
+ghost use Rattle.edge.specs.Edge.{EdgeOn, EdgeReady, FaultMade, KeepsShape, Leaves, LeavesBy};
 
 use cell_sum::Weights;
-use model::{Decoded, EdgeMade, Guards, Statement};
+use model::{Decoded, EdgeMade, Fault, Guards, Statement};
 use way::Way;
 
 // The edge to a fault.
-fn fault_edge(location: &[u8], fault: u8, guards: Guards, target: &mut [u8]) -> EdgeMade
+fn fault_edge(location: &[u8], fault: Fault, guards: Guards, target: &mut [u8]) -> EdgeMade
     requires { (length location.now ≡ record_size) × (length target.old ≡ record_size) }
-    ensures { FaultMade location.now fault guards target.new result }
+    ensures { FaultMade location.now (fault_code fault) guards target.new result }
 {
     record::write_fault(target, Statement(location[1]), fault);
     EdgeMade {
         branch: 0,
-        guards: guards,
+        guards,
         nodes: 0,
-    }
-}
-
-// How much each cell counts where the way opens the location's shape.
-fn weights_of(location: &[u8], way: Way) -> Weights
-    requires { (length location.now ≡ record_size) × (byte location.now 3 ≤ most_nodes) }
-    ensures { (result.nodes ≡ byte location.now 3) × (result.split ≡ way.split)
-        × (result.node.0 ≡ way.node.0) }
-{
-    let node = way.node;
-    Weights {
-        nodes: location[3] as usize,
-        split: way.split,
-        node: node,
     }
 }
 
@@ -45,11 +31,11 @@ fn edge_on(d: Decoded, branch: u8, guards: Guards, nodes: usize, target: &mut [u
     requires { (length target.old ≡ record_size) × (nodes ≤ most_nodes) }
     ensures { EdgeOn d branch guards nodes target.old target.new result }
 {
-    record::write_head(target, 0x4c, statement::next_of(d, branch), nodes);
+    record::write_head(target, b'L', statement::next_of(d, branch), nodes);
     EdgeMade {
-        branch: branch,
-        guards: guards,
-        nodes: nodes,
+        branch,
+        guards,
+        nodes,
     }
 }
 
@@ -60,9 +46,9 @@ fn run_edge(
     way: Way,
     target: &mut [u8],
     updates: &mut [u16],
-) -> EdgeMade
+) -> Result<EdgeMade, Fault>
     requires { EdgeReady location.now d way target.old updates.old }
-    ensures { LeavesBy location.now d way target.new updates.new result }
+    ensures { Leaves location.now d way target.new updates.new result }
 {
     let mut pointers = [0u8; model::POINTERS];
     let mut cells = [0u8; 16];
@@ -76,22 +62,21 @@ fn run_edge(
         &mut cells,
         &mut order,
         &mut seen,
-    );
-    if gone.fault != 0 {
-        return fault_edge(location, gone.fault, way.guards, target);
-    }
-    let n = gone.cells;
-    let v = gone.visited;
+    )?;
+    let weights = Weights {
+        nodes: location[3] as usize,
+        split: way.split,
+    };
     let m = refold::leave(
         &pointers,
-        &cells[..n],
-        &order[..v],
+        &cells[..gone.cells],
+        &order[..gone.visited],
         &seen,
-        weights_of(location, way),
+        weights,
         target,
         updates,
     );
-    edge_on(d, gone.branch, way.guards, m, target)
+    Ok(edge_on(d, gone.branch, way.guards, m, target))
 }
 
 // Writes the location's record with another statement: by words, since it is read as words soon after.
@@ -115,7 +100,7 @@ fn keep_edge(
     target: &mut [u8],
     updates: &mut [u16],
 ) -> EdgeMade
-    requires { (keeps_at d.op ≡ true) × KeepsShape location.now d
+    requires { (keeps_at (op_number d.op) ≡ true) × KeepsShape location.now d
         × EdgeReady location.now d way target.old updates.old }
     ensures { LeavesBy location.now d way target.new updates.new result }
 {
@@ -124,8 +109,8 @@ fn keep_edge(
     update::carry_updates(updates);
     let guards = way.guards;
     EdgeMade {
-        branch: branch,
-        guards: guards,
+        branch,
+        guards,
         nodes: location[3] as usize,
     }
 }
@@ -138,15 +123,32 @@ fn still_edge(
     way: Way,
     target: &mut [u8],
     updates: &mut [u16],
-) -> EdgeMade
-    requires { (keeps_at d.op ≡ true) × EdgeReady location.now d way target.old updates.old }
-    ensures { LeavesBy location.now d way target.new updates.new result }
+) -> Result<EdgeMade, Fault>
+    requires { (keeps_at (op_number d.op) ≡ true) × EdgeReady location.now d way target.old updates.old }
+    ensures { Leaves location.now d way target.new updates.new result }
 {
-    let fault = effect::test_fault(d, &location[4..10]);
-    if fault != 0 {
-        return fault_edge(location, fault, way.guards, target);
+    effect::test_fault(d, &location[4..10])?;
+    Ok(keep_edge(location, d, way, target, updates))
+}
+
+// The edge by one way where the statement has no fault.
+fn done_edge(
+    location: &[u8],
+    d: Decoded,
+    way: Way,
+    target: &mut [u8],
+    updates: &mut [u16],
+) -> Result<EdgeMade, Fault>
+    requires { EdgeReady location.now d way target.old updates.old }
+    ensures { Leaves location.now d way target.new updates.new result }
+{
+    if statement::leaves_heap(d.op) {
+        still_edge(location, d, way, target, updates)
+    } else if loss::surely_lost(location, d, way) {
+        Err(Fault::Leak)
+    } else {
+        run_edge(location, d, way, target, updates)
     }
-    keep_edge(location, d, way, target, updates)
 }
 
 // The edge by one way out of a location: its target's record, its updates, its branch and guards, and how many new
@@ -161,11 +163,8 @@ pub fn one_edge(
     requires { EdgeReady location.now d way target.old updates.old }
     ensures { LeavesBy location.now d way target.new updates.new result }
 {
-    if (8 <= d.op) & (d.op <= 11) {
-        still_edge(location, d, way, target, updates)
-    } else if loss::surely_lost(location, d, way) {
-        fault_edge(location, 3, way.guards, target)
-    } else {
-        run_edge(location, d, way, target, updates)
+    match done_edge(location, d, way, target, updates) {
+        Ok(made) => made,
+        Err(fault) => fault_edge(location, fault, way.guards, target),
     }
 }

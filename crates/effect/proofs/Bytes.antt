@@ -8,7 +8,7 @@ use lib.Dec.{eqb}
 use lib.ListN.{get_or, length, length-map, set}
 use borrow.Author.Tests.{leb-false, eqb-true, ne_eqb}
 use Rattle.model.specs.Heap.{Val, Slot, unused, holds, Heap, ptr, next, closed}
-use Rattle.model.specs.Machine.{Effect, done, put, put_slot, set_ptr, held, wipe, wipe_slot, free_val, make, perform}
+use Rattle.model.specs.Machine.{Effect, done, put, set_ptr, wipe, wipe_slot, free_val, make, perform}
 use Rattle.model.specs.Machine.{action}
 use Rattle.model.specs.Records.{val_of, op_of}
 use Rattle.model.specs.Image.{cell_slot, heap_of, past_end}
@@ -22,7 +22,9 @@ use Rattle.model.proofs.lists.Lists.{get_or_map, map_set}
 use Rattle.model.proofs.expansion.Writes.{slot-clash}
 use Rattle.branch.proofs.Bytes.{ptr_byte}
 use Rattle.model.specs.declared.Decoded.{Decoded}
-use Rattle.effect.specs.Effect.{Access, EffectReady, Named, HasEffect, assigned, loaded, relinked, stored, wipe_byte}
+use Rattle.model.specs.Codes.{op_number}
+use Rattle.model.specs.declared.codes.Op.TheVariants as op
+use Rattle.effect.specs.Effect.{EffectReady, Named, HasEffect, loaded, relinked, stored, wipe_byte}
 
 -- ---- reading
 
@@ -68,11 +70,11 @@ module _ {d : Decoded} {x : ℕ} {ps cs : List ℕ} (r : EffectReady d x ps cs) 
   pub value_w : get_or ps d.w.0 0 ≡ 0xfd → ⊥
   value_w = value_byte_lem cs (get_or ps d.w.0 0) r.few named_w
 
-  -- op 6 takes the cell x
-  pub room_x : d.op ≡ 6 → x < length cs
+  -- new takes the cell x
+  pub room_x : d.op ≡ op.New → x < length cs
   room_x e =
       leb-false (length cs) x
-      (subst (λ op. past_end (action (op_of op d.u.0 d.w.0)) x (length cs) ≡ false) e r.room)
+      (subst (λ o. past_end (action (op_of (op_number o) d.u.0 d.w.0)) x (length cs) ≡ false) e r.room)
 
 -- what has one effect has another that does the same to this image
 pub as_effect : {f g : Heap → Effect} {ps cs : List ℕ} {r : ℕ} {qs ds : List ℕ} → HasEffect g ps cs r qs ds
@@ -94,6 +96,10 @@ put_byte : (cs : List ℕ) (c b : ℕ) → c < length cs → map cell_slot (set 
 put_byte cs c b h =
     map_set cell_slot cs c b ∙ sym (put_set (map cell_slot cs) c (cell_slot b) (omega (arith, length-map cs cell_slot)))
 
+-- pointer u becomes v
+abbrev assigned : ℕ → Val → Heap → Effect
+assigned u v h = done (set_ptr u v h)
+
 pub set_ran : (ps cs : List ℕ) (u v : ℕ) → HasEffect (assigned u (val_of v)) ps cs 0 (set ps u v) cs
 set_ran ps cs u v = record {
   outcome = ap (λ l. done (heap l (map cell_slot cs))) (map_set val_of ps u v);
@@ -111,73 +117,28 @@ new_ran ps cs u x h l = record {
 
 -- ---- through a value
 
-pub access_null : (v : ℕ) → v ≡ 0xfe → Access v 1
-access_null v e =
-    record { faults = λ z h k. rw e; not_null = λ z. absurd (omega arith); not_undef = λ z. absurd (omega arith) }
-
-pub access_undef : (v : ℕ) → v ≡ 0xff → Access v 2
-access_undef v e =
-    record { faults = λ z h k. rw e; not_null = λ z. absurd (omega arith); not_undef = λ z. absurd (omega arith) }
-
-pub access_cell : (v : ℕ) → (v ≡ 0xfe → ⊥) → (v ≡ 0xff → ⊥) → Access v 0
-access_cell v p q = record { faults = λ z. absurd (z refl); not_null = λ z. p; not_undef = λ z. q }
-
--- a fault leaves the image
-pub load_fault : (ps cs : List ℕ) (u v r : ℕ) → Access v r → (r ≡ 0 → ⊥) → HasEffect (loaded u (val_of v)) ps cs r ps cs
-load_fault ps cs u v r a z = record {
-  outcome = a.faults z (heap_of ps cs) (λ c. done (set_ptr u (held (next (heap_of ps cs) c)) (heap_of ps cs)));
-  stays = λ y. (refl, refl);
-}
-
-pub store_fault : (ps cs : List ℕ) (a v r : ℕ) → Access a r → (r ≡ 0 → ⊥)
-    → HasEffect (stored (val_of a) (val_of v)) ps cs r ps cs
-store_fault ps cs a v r b z = record {
-  outcome = b.faults z (heap_of ps cs) (λ c. done (put_slot c (holds (val_of v)) (heap_of ps cs)));
-  stays = λ y. (refl, refl);
-}
-
-pub access_named : (cs : List ℕ) (v r : ℕ) → Access v r → r ≡ 0 → Named cs v → v < length cs
-access_named cs v r a z n = (n (a.not_null z) (a.not_undef z)).0
-
 -- a load sets the pointer to the byte of the cell
-pub load_cell : (ps cs : List ℕ) (u v f r : ℕ) (qs : List ℕ) → Access v f → f ≡ 0 → Named cs v
-    → HasEffect (assigned u (val_of (get_or cs v 0))) ps cs r qs cs → HasEffect (loaded u (val_of v)) ps cs r qs cs
-load_cell ps cs u v f r qs a z n x =
-    let p = a.not_null z in
-    let q = a.not_undef z in
+pub load_cell : (ps cs : List ℕ) (u v : ℕ) → (v ≡ 0xfe → ⊥) → (v ≡ 0xff → ⊥) → Named cs v
+    → HasEffect (loaded u (val_of v)) ps cs 0 (set ps u (get_or cs v 0)) cs
+load_cell ps cs u v p q n =
     let k = n p q in
-    record {
-      outcome = rw (val_cell v p q, next_byte ps cs v k.0, used_slot (get_or cs v 0) k.1)
-          x.outcome;
-      stays = x.stays;
-    }
+    as_effect (set_ran ps cs u (get_or cs v 0))
+    (rw (val_cell v p q, next_byte ps cs v k.0, used_slot (get_or cs v 0) k.1))
 
-pub store_cell : (ps cs : List ℕ) (a v f : ℕ) → Access a f → f ≡ 0 → Named cs a → (v ≡ 0xfd → ⊥)
+pub store_cell : (ps cs : List ℕ) (a v : ℕ) → (a ≡ 0xfe → ⊥) → (a ≡ 0xff → ⊥) → Named cs a → (v ≡ 0xfd → ⊥)
     → HasEffect (stored (val_of a) (val_of v)) ps cs 0 ps (set cs a v)
-store_cell ps cs a v f b z n y =
-    let p = b.not_null z in
-    let q = b.not_undef z in
-    record {
-      outcome = rw (val_cell a p q)
-          (ap (λ ss. done (heap (map val_of ps) ss))
-          (put_byte cs a v (n p q).0 ∙ ap (put (map cell_slot cs) a) (used_slot v y)));
-      stays = λ o. absurd (o refl);
-    }
-
--- a relink: the fault of its reading, or a store of the byte that is read
-pub relink_fault : (ps cs : List ℕ) (a v r : ℕ) → Access v r → (r ≡ 0 → ⊥)
-    → HasEffect (relinked (val_of a) (val_of v)) ps cs r ps cs
-relink_fault ps cs a v r b z = record {
-  outcome = b.faults z (heap_of ps cs) (λ d. stored (val_of a) (held (next (heap_of ps cs) d)) (heap_of ps cs));
-  stays = λ y. (refl, refl);
+store_cell ps cs a v p q n y = record {
+  outcome = rw (val_cell a p q)
+      (ap (λ ss. done (heap (map val_of ps) ss))
+      (put_byte cs a v (n p q).0 ∙ ap (put (map cell_slot cs) a) (used_slot v y)));
+  stays = λ o. absurd (o refl);
 }
 
-pub relink_cell : (ps cs : List ℕ) (a v f r : ℕ) (qs ds : List ℕ) → Access v f → f ≡ 0 → Named cs v
-    → HasEffect (stored (val_of a) (val_of (get_or cs v 0))) ps cs r qs ds
-    → HasEffect (relinked (val_of a) (val_of v)) ps cs r qs ds
-relink_cell ps cs a v f r qs ds b z n x =
-    let p = b.not_null z in
-    let q = b.not_undef z in
+-- a relink stores the byte that is read
+pub relink_cell : (ps cs : List ℕ) (a v r : ℕ) (ds : List ℕ) → (v ≡ 0xfe → ⊥) → (v ≡ 0xff → ⊥) → Named cs v
+    → HasEffect (stored (val_of a) (val_of (get_or cs v 0))) ps cs r ps ds
+    → HasEffect (relinked (val_of a) (val_of v)) ps cs r ps ds
+relink_cell ps cs a v r ds p q n x =
     let k = n p q in
     as_effect x (rw (val_cell v p q, next_byte ps cs v k.0, used_slot (get_or cs v 0) k.1))
 

@@ -1,6 +1,6 @@
 -- Laws of effects on heap images: an image's bytes are those of its heap; an effect that is done leaves a closed heap
--- with as many slots; what the number answered says.
-use Prim.Native.Nat.{ℕ, zero, suc}
+-- with as many slots.
+use Prim.Native.Nat.{ℕ}
 use mathlib.Core.Path.{◌∙◌, ◌≡◌, ap, ap₂, refl, subst, sym}
 use mathlib.Core.Bool.{true, false}
 use mathlib.Core.List.{List, [], ◌∷◌, map}
@@ -10,7 +10,7 @@ use lib.ListN.{length, length-map}
 use borrow.Author.Tests.{eqb-true}
 use Rattle.model.specs.Heap.{Val, cell, null, undef, holds, Heap, closed}
 use Rattle.model.specs.Shape.{Seg}
-use Rattle.model.specs.Machine.{Effect, done, fault, Fault, at_null, at_undef, leak, fault_number, Action, perform}
+use Rattle.model.specs.Machine.{Effect, done, fault, Fault, Action, perform}
 use Rattle.model.specs.Records.{val_byte, val_of, slot_byte}
 use Rattle.model.specs.Image.{cell_slot, heap_of, past_end}
 use Rattle.model.proofs.lists.Logic.{bool_case, mem_here, mem_one}
@@ -19,8 +19,7 @@ use Rattle.model.specs.Notions.{ClosedHeap, seg, Alike, Expansion, Room, both_ba
 use Rattle.model.proofs.expansion.Effects.{effect_alike}
 use Rattle.model.proofs.expansion.Facts.{test_closed, closed_test}
 use Rattle.model.proofs.lists.Lists.{map_back}
-use Rattle.effect.specs.Effect.{effect_of}
-use Rattle.model.proofs.expansion.Kinds.{leaves_no_leak, effect_leaves, SlotsAre, leaves_slots}
+use Rattle.model.proofs.expansion.Kinds.{effect_leaves, SlotsAre, leaves_slots}
 
 -- ---- bytes
 
@@ -89,20 +88,3 @@ pub image_slots : (a : Action) (n : ℕ) (ps cs : List ℕ) (g : Heap) → close
 image_slots a n ps cs g c q e =
     let l = length-map cs cell_slot in
     effect_slots a n (heap_of ps cs) g c (ap (past_end a n) l ∙ q) e ∙ l
-
--- ---- the number answered
-
--- leaks are looked at after the effect
-pub effect_leaks : (a : Action) (n : ℕ) (h : Heap) → closed h ≡ true → perform a n h ≡ fault leak → ⊥
-effect_leaks a n h c = leaves_no_leak a n h (perform a n h) (effect_leaves a n h (test_closed h c))
-
--- 0 is answered where the effect is done, and the number of the fault where it faults
-pub answer_done : (r : ℕ) (g : Heap) (e : Effect) → effect_of r g ≡ e → r ≡ 0 → e ≡ done g
-answer_done r g e a z = sym a ∙ ap (λ n. effect_of n g) z
-
-pub answer_fault : (a : Action) (n : ℕ) (h : Heap) → closed h ≡ true → (r : ℕ) (g : Heap)
-    → effect_of r g ≡ perform a n h → (r ≡ 0 → ⊥) → (f : Fault) × (perform a n h ≡ fault f) × (fault_number f ≡ r)
-answer_fault a n h c zero g e z = absurd (z refl)
-answer_fault a n h c (suc zero) g e z = (at_null, sym e, refl)
-answer_fault a n h c (suc (suc zero)) g e z = (at_undef, sym e, refl)
-answer_fault a n h c (suc (suc (suc r))) g e z = absurd (effect_leaks a n h c (sym e))

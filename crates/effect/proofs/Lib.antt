@@ -1,4 +1,3 @@
 pub mod Laws
 pub mod ListLaws
 pub mod Bytes
-pub mod Ops

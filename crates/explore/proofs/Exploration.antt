@@ -1,6 +1,6 @@
 -- The exploration location by location: what is left to do is the whole, and at the end nothing is left.
 use Prim.Native.Nat.{ℕ, zero, suc, ◌+◌, ◌-◌, ◌≤◌, ◌<◌}
-use mathlib.Core.Path.{◌≡◌, refl, ap, sym, ◌∙◌}
+use mathlib.Core.Path.{◌≡◌, refl, ap, subst, sym, ◌∙◌}
 use mathlib.Core.List.{List}
 use native.Mathlib.Omega.{arith}
 use native.Mathlib.Numerals.{add-one}
@@ -8,16 +8,17 @@ use lib.ListN.{length}
 use Rattle.model.specs.Base.{most_edges, most_locations}
 use Rattle.model.specs.Machine.{Stmt}
 use Rattle.model.specs.Edges.{Edge, edges_of}
-use Rattle.model.specs.Records.{refusal}
+use Rattle.std.specs.Prelude.{Result, Ok, Err}
+use Rattle.model.specs.Answers.{refusal_in}
+use Rattle.model.specs.Codes.{refusal_for}
+use Rattle.model.specs.declared.codes.Reason.{Reason}
+use Rattle.model.specs.declared.codes.Refusal.{Refusal}
 use Rattle.model.specs.Translate.{Explored, Listing, add_edges, explore, full, listed, places}
 use Rattle.model.proofs.listings.Listing.{add_listed, explore_end, explore_full, explore_next, extend_prefix}
 use Rattle.model.specs.Listings.{Placed, extend, loc_at}
 use Rattle.model.proofs.shapes.Same.{prefix_length}
 use Rattle.model.specs.declared.Counts.{Counts}
 use Rattle.listing.specs.Grow.{Holds}
-use Rattle.listing.specs.declared.Grown.{Grown}
-use Rattle.listing.specs.declared.Grown.TheVariants.{Added, Full}
-use Rattle.explore.specs.declared.Explored.TheVariants as explored
 use Rattle.explore.specs.Explore.{AllExplored, ExploreReady, LocationExplored, StatementsOk, explored_in}
 use Rattle.location_edges.specs.Added.{AddedTo, LocsOk}
 
@@ -32,15 +33,20 @@ pub record Left (m n cl ce : ℕ) (sts : List Stmt) (o : Explored) (ls es ix : L
   pub rest : o ≡ explore sts cl ce (cl - i) i list
 
 -- the outcome where an edge has no place, and where all have one
-added_case : (n i : ℕ) (o : Explored) (ls es ix : List ℕ) (c : Counts) → AddedTo n i o ls es ix (Added c)
+added_case : (n i : ℕ) (o : Explored) (ls es ix : List ℕ) (c : Counts) → AddedTo n i o ls es ix c (Ok tt)
     → (u : Listing) × (o ≡ listed u) × Holds u ls es ix c × LocsOk n u
 added_case n i (listed u) ls es ix c A = (u, refl, A.0, A.1)
 added_case n i (full x) ls es ix c A = absurd A
 
-full_case : (n i : ℕ) (o : Explored) (ls es ix : List ℕ) (m : ℕ) → AddedTo n i o ls es ix (Full m)
-    → o ≡ full (refusal m i)
-full_case n i (listed u) ls es ix m A = absurd A
-full_case n i (full x) ls es ix m A = ap full A
+full_case : (n i : ℕ) (o : Explored) (ls es ix : List ℕ) (c : Counts) (r : Reason) → AddedTo n i o ls es ix c (Err r)
+    → o ≡ full (refusal_in (refusal_for r i))
+full_case n i (listed u) ls es ix c r A = absurd A
+full_case n i (full x) ls es ix c r A = ap full A
+
+-- what is answered of location i, with its place
+abbrev pub placed_at : ℕ → Result (Unit {0}) Reason → Result (Unit {0}) Refusal
+placed_at i (Ok u) = Ok u
+placed_at i (Err r) = Err (refusal_for r i)
 
 -- edges that are added leave the locations that were there
 more_locations : (i : ℕ) (es : List Edge) (t u : Listing) → u ≡ extend i es t → length t.locs ≤ length u.locs
@@ -93,7 +99,7 @@ module _ (s : List ℕ) (n : ℕ) (ls es ix : List ℕ) (c : Counts) where
       fuel t H lt = let few = (fits t H).0 in let num = H.loc_number in omega arith
 
       -- no location is left
-      pub explores_end : c'.locations ≤ i → AllExplored s n ls es ix c ls' es' ix' (explored.Listed c')
+      pub explores_end : c'.locations ≤ i → AllExplored s n ls es ix c ls' es' ix' (Ok c')
       explores_end h sts t K H O =
           let L = X sts t K H O in
           let num = L.held.loc_number in
@@ -101,16 +107,16 @@ module _ (s : List ℕ) (n : ℕ) (ls es ix : List ℕ) (c : Counts) where
           L.rest ∙ explore_done sts cl ce (cl - i) i L.list (omega arith) in
           rw o (L.held, L.fine)
 
-      module _ (lt : i < c'.locations) (ls'' es'' ix'' : List ℕ) (x : Grown)
-          (T : LocationExplored s n ls' es' ix' c' i ls'' es'' ix'' x) where
+      module _ (lt : i < c'.locations) (ls'' es'' ix'' : List ℕ) (a : Counts) where
         -- the next location
-        pub explores_next : (a : Counts) → x ≡ Added a → Explores ls'' es'' ix'' a (i + 1)
-        explores_next a e sts t K H O =
+        pub explores_next : LocationExplored s n ls' es' ix' c' i ls'' es'' ix'' a (Ok tt)
+            → Explores ls'' es'' ix'' a (i + 1)
+        explores_next T sts t K H O =
             let L = X sts t K H O in
             let u = L.list in
             let edges = edges_of sts (loc_at u.locs i) in
-            let A : AddedTo n i (add_edges cl ce i edges u) ls'' es'' ix'' (Added a) =
-            rw (p, q, e) at (T sts u K L.held L.fine) in
+            let A : AddedTo n i (add_edges cl ce i edges u) ls'' es'' ix'' a (Ok tt) =
+            rw (p, q) at (T sts u K L.held L.fine) in
             let y = added_case n i (add_edges cl ce i edges u) ls'' es'' ix'' a A in
             let num = L.held.loc_number in
             let longer = (add_listed cl ce i edges u y.0 (fits u L.held) y.1).0 in
@@ -126,16 +132,32 @@ module _ (s : List ℕ) (n : ℕ) (ls es ix : List ℕ) (c : Counts) where
             }
 
         -- no place for an edge of this location
-        pub explores_full : (m : ℕ) → x ≡ Full m → AllExplored s n ls es ix c ls'' es'' ix'' (explored.Full m i)
-        explores_full m e sts t K H O =
+        pub explores_full : (r : Reason) → LocationExplored s n ls' es' ix' c' i ls'' es'' ix'' a (Err r)
+            → AllExplored s n ls es ix c ls'' es'' ix'' (Err (refusal_for r i))
+        explores_full r T sts t K H O =
             let L = X sts t K H O in
             let u = L.list in
             let edges = edges_of sts (loc_at u.locs i) in
-            let A : AddedTo n i (add_edges cl ce i edges u) ls'' es'' ix'' (Full m) =
-            rw (p, q, e) at (T sts u K L.held L.fine) in
-            let y = full_case n i (add_edges cl ce i edges u) ls'' es'' ix'' m A in
+            let A : AddedTo n i (add_edges cl ce i edges u) ls'' es'' ix'' a (Err r) =
+            rw (p, q) at (T sts u K L.held L.fine) in
+            let y = full_case n i (add_edges cl ce i edges u) ls'' es'' ix'' a r A in
             let num = L.held.loc_number in
-            let o : explored_in ls es sts t ≡ full (refusal m i) =
+            let x = refusal_in (refusal_for r i) in
+            let o : explored_in ls es sts t ≡ full x =
             L.rest ∙ ap (λ f. explore sts cl ce f i u) (fuel u L.held lt)
-            ∙ explore_full sts cl ce (cl - (i + 1)) i u (refusal m i) (omega arith) y in
+            ∙ explore_full sts cl ce (cl - (i + 1)) i u x (omega arith) y in
             rw o refl
+
+        -- the same by what is answered, where a reason gets the location's number as its place
+        pub goes_on : (x : Result (Unit {0}) Reason) (u : Unit {0})
+            → LocationExplored s n ls' es' ix' c' i ls'' es'' ix'' a x
+            → placed_at i x ≡ Ok u → Explores ls'' es'' ix'' a (i + 1)
+        goes_on (Ok v) u T e = explores_next T
+        goes_on (Err r) u T e = absurd (cc)
+
+        pub goes_no_further : (x : Result (Unit {0}) Reason) (y : Refusal)
+            → LocationExplored s n ls' es' ix' c' i ls'' es'' ix'' a x → placed_at i x ≡ Err y
+            → AllExplored s n ls es ix c ls'' es'' ix'' (Err y)
+        goes_no_further (Ok v) y T e = absurd (cc)
+        goes_no_further (Err r) y T e = let q : refusal_for r i ≡ y = cc in
+            subst (λ z. AllExplored s n ls es ix c ls'' es'' ix'' (Err z)) q (explores_full r T)

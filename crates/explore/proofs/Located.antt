@@ -1,27 +1,32 @@
 -- Location i of a listing that is held in the tables: its record, its statement's record, and its edges.
-use Prim.Native.Nat.{ℕ, ◌+◌, ◌-◌, ◌*◌, ◌≤◌, ◌<◌}
-use mathlib.Core.Path.{◌≡◌, refl, ap, sym, ◌∙◌}
-use mathlib.Core.List.{List, [], map}
+use Prim.Native.Nat.{ℕ, ◌+◌, ◌*◌, ◌≤◌, ◌<◌}
+use mathlib.Core.Path.{◌≡◌, refl, ap, subst, sym, ◌∙◌}
+use mathlib.Core.List.{List, [], ◌∷◌, ◌++◌, append-nil, map}
+use native.Mathlib.Nat.{zero-add}
 use native.Mathlib.Omega.{arith}
-use lib.ListN.{drop, length, length-drop, length-map, take}
-use lib.Seq.{take_all}
+use lib.ListN.{drop, drop_of_length-le, get_or-map, length, length-drop, length-map, take}
+use lib.Seq.{length-take-le, take_all}
+use Rattle.std.specs.Prelude.{Result, Ok}
+use Rattle.model.specs.Codes.{op_at, op_number}
+use Rattle.model.specs.declared.codes.Op.{Op}
+use Rattle.model.specs.declared.codes.Op.TheVariants as op
 use Rattle.model.specs.Base.{most_locations}
+use Rattle.model.specs.declared.codes.Reason.{Reason}
 use Rattle.model.specs.Heap.{Heap}
 use Rattle.model.specs.Machine.{Stmt, leak}
 use Rattle.model.specs.Edges.{Loc, at, edges_at, edges_of, failed, stmt_at}
-use Rattle.model.specs.Records.{byte, loc_record, record_at}
+use Rattle.model.specs.Records.{byte, loc_record, op_count, op_of, record_at, stmt_of}
 use Rattle.model.specs.Translate.{Listing}
 use Rattle.model.proofs.records.Bytes.{records_wide, table_record}
 use Rattle.model.specs.Listings.{loc_at}
+use Rattle.model.proofs.lists.Numbers.{at_number}
 use Rattle.model.proofs.lists.Lists.{get_or_in_lem, get_or_map}
 use Rattle.model.proofs.records.ReadBack.{fault_positive, record_length}
-use Rattle.model.proofs.records.Statements.{leads, statement_fields}
+use Rattle.model.proofs.records.Statements.{Leads, leads, statement_fields}
 use Rattle.model.specs.Structs.{decoded, stmt_in}
 use Rattle.model.specs.declared.Counts.{Counts}
 use Rattle.model.specs.declared.Decoded.{Decoded}
 use Rattle.listing.specs.Grow.{Holds}
-use Rattle.listing.specs.declared.Grown.{Grown}
-use Rattle.listing.specs.declared.Grown.TheVariants.{Added}
 use Rattle.listing.proofs.Kept.{place_within}
 use Rattle.explore.specs.Explore.{ExploreReady, StatementOk, StatementsOk}
 use Rattle.location_edges.specs.Added.{AddedTo, LocOk, LocsOk, added_in}
@@ -38,11 +43,32 @@ shape_case : (n : ℕ) (l : Loc) → byte (loc_record l) 2 ≡ 0 → LocOk n l
 shape_case n (at s h) e k = (s, h, refl, k)
 shape_case n (failed s f) e k = absurd (omega (arith, fault_positive f))
 
+-- an op by its number has that number
+abbrev ops : List Op
+ops =
+    op.Stop ∷ op.SetNull ∷ op.Copy ∷ op.Load ∷ op.Clear ∷ op.Store ∷ op.New ∷ op.Free ∷ op.IsNull ∷ op.Same ∷ op.Choose
+    ∷ op.Skip ∷ op.Relink ∷ op.LetGo ∷ []
+
+numbered : (k : ℕ) → k < op_count → op_number (op_at k) ≡ k
+numbered k h = sym (get_or-map op_number ops k op.Stop) ∙ at_number 0 op_count k 0 h ∙ zero-add k
+
 -- an accepted record, decoded
+decoded_is : (n : ℕ) (r : List ℕ) → StatementOk r n → stmt_in (decoded r) ≡ stmt_of r
+decoded_is n r S =
+    ap (λ k. record {
+      op = op_of k (byte r 2) (byte r 3);
+      first_target = byte r 4;
+      second_target = byte r 5;
+    }) (numbered (byte r 1) (statement_fields n r S.accepted).0)
+
 among : (n : ℕ) (r : List ℕ) → StatementOk r n → Among (decoded r) n
 among n r S =
     let f = statement_fields n r S.accepted in
-    record { fields = record { known = f.0; is_u = f.1; is_w = f.2 }; leads = leads n r S.accepted; few = S.few }
+    record {
+      fields = record { known = rw (numbered (byte r 1) f.0) f.0; is_u = f.1; is_w = f.2 };
+      leads = subst (Leads n) (sym (decoded_is n r S)) (leads n r S.accepted);
+      few = S.few;
+    }
 
 module _ (t : Listing) (ls es ix : List ℕ) (c : Counts) (i : ℕ) (H : Holds t ls es ix c) (lt : i < c.locations) where
   below : i < length t.locs
@@ -65,7 +91,7 @@ module _ (t : Listing) (ls es ix : List ℕ) (c : Counts) (i : ℕ) (H : Holds t
 
   -- a fault
   pub fault_added : (n : ℕ) (sts : List Stmt) (l : List ℕ) → LocsOk n t → l ≡ record_at ls i → (byte l 2 ≡ 0 → ⊥)
-      → AddedTo n i (added_in ls es i (edges_of sts (loc_at t.locs i)) t) ls es ix (Added c)
+      → AddedTo n i (added_in ls es i (edges_of sts (loc_at t.locs i)) t) ls es ix c (Ok tt)
   fault_added n sts l O e non =
       rw (fault_edges sts (loc_at t.locs i) (λ z. non (ap (λ x. byte x 2) (e ∙ record_is) ∙ z))) (H, O)
 
@@ -124,7 +150,7 @@ module _ (t : Listing) (ls es ix : List ℕ) (c : Counts) (i : ℕ) (H : Holds t
             statement = rw p (among n (record_at s S.0) (K.each S.0 low));
             low = low;
           };
-          is_statement = K.read S.0 low ∙ ap stmt_in (sym p);
+          is_statement = K.read S.0 low ∙ sym (decoded_is n (record_at s S.0) (K.each S.0 low)) ∙ ap stmt_in (sym p);
         }
 
     -- it is given, and its edges are added
@@ -141,9 +167,10 @@ module _ (t : Listing) (ls es ix : List ℕ) (c : Counts) (i : ℕ) (H : Holds t
           low = omega (arith, low);
         }
 
-    pub shape_added : (ls' es' ix' : List ℕ) (x : Grown) → EdgesAdded l d ls es ix c i ls' es' ix' x
-        → AddedTo n i (added_in ls es i (edges_of sts (loc_at t.locs i)) t) ls' es' ix' x
-    shape_added ls' es' ix' x X =
+    pub shape_added : (ls' es' ix' : List ℕ) (c' : Counts) (x : Result (Unit {0}) Reason)
+        → EdgesAdded l d ls es ix c i ls' es' ix' c' x
+        → AddedTo n i (added_in ls es i (edges_of sts (loc_at t.locs i)) t) ls' es' ix' c' x
+    shape_added ls' es' ix' c' x X =
         let F = found in
         let p : edges_of sts (loc_at t.locs i) ≡ edges_at F.number (stmt_in d) F.shape =
         ap (edges_of sts) F.is_location ∙ ap (λ y. edges_at F.number y F.shape) F.is_statement in
@@ -156,8 +183,13 @@ pub statement_within : (s : List ℕ) (n : ℕ) (ls es ix : List ℕ) (c : Count
 statement_within s n ls es ix c i R lt l e z =
     omega (arith, statement_low R.list ls es ix c i R.held lt n l R.fine e z, R.readable.room)
 
-pub part_is : (s : List ℕ) (b start : ℕ) → start ≡ 32 * b → take ((start + 32) - start) (drop start s) ≡ record_at s b
-part_is s b start q = let e : (start + 32) - start ≡ 32 = omega arith in rw (e, q)
+-- a record within a table is whole, and copied over another it is that record
+pub record_wide : (t : List ℕ) (i : ℕ) → 32 * i + 32 ≤ length t → length (record_at t i) ≡ 32
+record_wide t i h = length-take-le 32 (drop (32 * i) t) (omega (arith, length-drop (32 * i) t))
 
-pub rest_is : (t : List ℕ) (i : ℕ) → take 32 (take (length t - 32 * i) (drop (32 * i) t)) ≡ record_at t i
-rest_is t i = ap (take 32) (take_all (length t - 32 * i) (drop (32 * i) t) (simp length-drop (omega arith)))
+pub copied : (t : List ℕ) (i : ℕ) (r : List ℕ) → 32 * i + 32 ≤ length t → length r ≡ 32
+    → take 32 (record_at t i) ++ drop 32 r ≡ record_at t i
+copied t i r h n =
+    let w = record_wide t i h in
+    ap (λ l. take 32 (record_at t i) ++ l) (drop_of_length-le r {i = 32} (omega arith)) ∙ append-nil _
+    ∙ take_all 32 (record_at t i) (omega arith)

@@ -1,1 +1,2 @@
 pub mod Explore
+pub mod Lent

@@ -1,84 +1,55 @@
-// The exploration: each location in turn, by number, with its statement decoded; its edges go into the two tables.
+// The exploration: each location in turn, by number, with its statement decoded; its edges go into the listing.
 #![tactic(auto)]
 
-ghost use Rattle.std.specs.Prelude.{◌≡◌, ◌*◌, ◌≤◌, ◌<◌, length, take};
+ghost use Rattle.std.specs.Prelude.{◌≡◌, ◌+◌, ◌*◌, ◌<◌, ◌≤◌, length};
 ghost use Rattle.model.specs.Base.{record_size};
-ghost use Rattle.explore.specs.Explore.{AllExplored, ExploreReady, LocationExplored};
+ghost use Rattle.model.specs.Records.{record_at};
+ghost use Rattle.listing.specs.Lent.{SamePlaces};
+ghost use Rattle.explore.specs.Lent.{AllExplore, LocationExplores, Ready};
 
-use listing::Grown;
-use model::{Counts, Statement};
+use listing::Listing;
+use model::{Counts, Reason, Refusal};
 
-// The counts of a full listing, or the refusal: 11 or 12, and the number of the location being explored.
-#[derive(Clone, Copy)]
-pub enum Explored {
-    Listed { counts: Counts },
-    Full { number: u8, place: usize },
-}
-
-// Copies the record that the part begins with: the table that it stands in grows while the location is explored.
-fn copy_record(part: &[u8], rec: &mut [u8])
-    requires { (record_size ≤ length part.now) × (length rec.old ≡ record_size) }
-    ensures { rec.new ≡ take record_size part.now }
+// Copies the record of location i.
+fn copy_location(listing: &Listing, i: usize, rec: &mut [u8])
+    requires { (record_size * i + record_size ≤ length listing.now.locations.now) × (length rec.old ≡ record_size) }
+    ensures { rec.new ≡ record_at listing.now.locations.now i }
 {
-    word::copy_record(part, rec);
-}
-
-// Where a statement's record begins in the input.
-fn record_start(statement: Statement) -> usize
-    ensures { result ≡ record_size * statement.0 }
-{
-    model::RECORD * (statement.0 as usize)
+    word::copy_record(model::record_at(listing.locations, i), rec);
 }
 
 // Adds the edges of location i; a fault has none.
 pub fn explore_location(
     input: &[u8],
     n: usize,
-    locations: &mut [u8],
-    edges: &mut [u8],
-    index: &mut [u16],
-    counts: Counts,
+    listing: &mut Listing,
     i: usize,
-) -> Grown
-    requires { ExploreReady input.now n locations.old edges.old index.old counts × (i < counts.locations) }
-    ensures { LocationExplored input.now n locations.old edges.old
-        index.old counts i locations.new edges.new index.new result }
+) -> Result<(), Reason>
+    requires { Ready input.now n listing.old × (i < listing.old.counts.locations) }
+    ensures explored { LocationExplores input.now n listing.old i listing.new result }
+    ensures same { SamePlaces listing.old listing.new }
 {
+    // a copy: the table that the record stands in grows while the location is explored
     let mut location = [0u8; model::RECORD];
-    let at = model::RECORD * i;
-    copy_record(&locations[at..], &mut location);
+    copy_location(listing, i, &mut location);
     if location[2] != 0 {
-        return Grown::Added { counts };
+        return Ok(());
     }
-    let start = record_start(Statement(location[1]));
-    let end = start + model::RECORD;
-    let d = statement::decode(&input[start..end]);
-    location_edges::add_edges(d, &location, locations, edges, index, counts, i)
+    let d = statement::decode(model::record_at(input, location[1] as usize));
+    location_edges::add_edges(d, &location, listing, i)
 }
 
-// Explores all locations, by number.
-pub fn explore_all(
-    input: &[u8],
-    n: usize,
-    locations: &mut [u8],
-    edges: &mut [u8],
-    index: &mut [u16],
-    counts: Counts,
-) -> Explored
-    requires { ExploreReady input.now n locations.old edges.old index.old counts }
-    ensures { AllExplored input.now n locations.old edges.old
-        index.old counts locations.new edges.new index.new result }
+// Explores all locations, by number, and answers how many locations and edges there are then.
+pub fn explore_all(input: &[u8], n: usize, listing: &mut Listing) -> Result<Counts, Refusal>
+    requires { Ready input.now n listing.old }
+    ensures explored { AllExplore input.now n listing.old listing.new result }
+    ensures same { SamePlaces listing.old listing.new }
 {
-    let mut held = counts;
     let mut i = 0;
-    while i < held.locations {
-        match explore_location(input, n, locations, edges, index, held, i) {
-            Grown::Added { counts: more } => {
-                held = more;
-            }
-            Grown::Full { number } => return Explored::Full { number, place: i },
-        }
+    // no range: each turn may add locations, which are explored too
+    while i < listing.counts.locations {
+        explore_location(input, n, listing, i).map_err(|reason| reason.at(i))?;
         i += 1;
     }
-    Explored::Listed { counts: held }
+    Ok(listing.counts)
 }

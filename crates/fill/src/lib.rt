@@ -3,15 +3,12 @@
 
 ghost use Rattle.std.specs.Prelude.{◌≡◌, ◌++◌, ◌≤◌, drop, length, replicate, take};
 
-// The compiler makes one memset of the loop.
+// The library's `fill`, where a table is cleared: under a name of its own, since wrong versions of that are tried here
+// (must-fail/).
 pub fn fill(part: &mut [u8], value: u8)
     ensures { part.new ≡ replicate (length part.old) value }
 {
-    let mut i = 0;
-    while i < part.len() {
-        part[i] = value;
-        i += 1;
-    }
+    part.fill(value);
 }
 
 // Copies bytes over the first of a part, and answers how many.

@@ -1,17 +1,35 @@
 // The values of a heap image in terms of nodes: the bytes of the folded shape.
 #![tactic(auto)]
 
-ghost use Rattle.std.specs.Prelude.{◌≡◌, ◌++◌, map, ◌+◌, ◌<◌, ◌≤◌, length, get_or, drop};
+ghost use Rattle.std.specs.Prelude.{◌≡◌, ℕ, List, ◌++◌, map, ◌+◌, ◌<◌, ◌≤◌, length, get_or, drop};
+ghost use Rattle.std.specs.List.{AllZip};
 ghost use Rattle.model.specs.Base.{pointer_count};
 ghost use Rattle.word.specs.Words.{number_of};
-ghost use Rattle.folding.specs.Fold.{fold_byte, folded_bytes, AllIn, FoldReady, LastsIn};
+ghost use Rattle.folding.specs.Fold.{fold_byte, folded_bytes, AllIn, FoldReady, InTable, LastsIn};
 
 // A byte in terms of nodes: a cell becomes its node.
 pub fn fold_byte(b: u8, node: &[u8]) -> u8
     requires { b < 0xfd → b < length node.now }
     ensures { result ≡ fold_byte node.now b }
 {
-    if b < 0xfd { node[b as usize] } else { b }
+    if b < model::UNUSED {
+        node[b as usize]
+    } else {
+        b
+    }
+}
+
+// What is found at each of the places, in terms of nodes, over the front of a slice.
+fn fold_each<F: Fn(u8) -> u8>(places: &[u8], byte: F, node: &[u8], to: &mut [u8])
+    requires room { length places.now ≤ length to.old }
+    requires asked { (i : ℕ) → i < length places.now → F.pre byte (get_or places.now i 0) }
+    requires within { (i b : ℕ) → i < length places.now → F.post byte (get_or places.now i 0) b → InTable node.now b }
+    ensures { (bs : List ℕ) × AllZip (λ x b. F.post byte x b) places.now bs
+        × (to.new ≡ map (fold_byte node.now) bs ++ drop (length places.now) to.old) }
+{
+    for (i, x) in places.iter().enumerate() {
+        to[i] = fold_byte(byte(*x), node);
+    }
 }
 
 // The values, each in terms of nodes.
@@ -20,11 +38,7 @@ pub fn fold_values(values: &[u8], node: &[u8], to: &mut [u8])
     ensures { to.new ≡ map (fold_byte node.now) values.now
         ++ drop (length values.now) to.old }
 {
-    let mut i = 0;
-    while i < values.len() {
-        to[i] = fold_byte(values[i], node);
-        i += 1;
-    }
+    fold_each(values, |b| b, node, to);
 }
 
 // What the cells `last` hold, in terms of nodes.
@@ -34,12 +48,7 @@ pub fn fold_successors(cells: &[u8], last: &[u8], node: &[u8], to: &mut [u8])
         ≡ map (λ c. fold_byte node.now (get_or cells.now c 0)) last.now
         ++ drop (length last.now) to.old }
 {
-    let mut i = 0;
-    while i < last.len() {
-        let c = last[i] as usize;
-        to[i] = fold_byte(cells[c], node);
-        i += 1;
-    }
+    fold_each(last, |c| cells[c as usize], node, to);
 }
 
 // The bytes of a shape: the six pointers, then what the last cells of the segments hold, in terms of nodes.
@@ -55,19 +64,28 @@ pub fn fold_shape(pointers: &[u8], cells: &[u8], last: &[u8], node: &[u8], shape
 
 // ---- the same as numbers, a byte for each value, the first lowest: what is read as words soon after is written so
 
-// The values, each in terms of nodes. From the last on: each goes below those behind it.
+// What is found at each of the places, in terms of nodes. From the last on: each goes below those behind it.
+fn code_each<F: Fn(u8) -> u8>(places: &[u8], byte: F, node: &[u8]) -> u64
+    requires few { length places.now ≤ 6 }
+    requires asked { (i : ℕ) → i < length places.now → F.pre byte (get_or places.now i 0) }
+    requires within { (i b : ℕ) → i < length places.now → F.post byte (get_or places.now i 0) b → InTable node.now b }
+    ensures { (bs : List ℕ) × AllZip (λ x b. F.post byte x b) places.now bs
+        × (result ≡ number_of (map (fold_byte node.now) bs)) × (result < 0x1_0000_0000_0000) }
+{
+    let mut code: u64 = 0;
+    for i in (0..places.len()).rev() {
+        code = code * 256 + fold_byte(byte(places[i]), node) as u64;
+    }
+    code
+}
+
+// The values, each in terms of nodes.
 pub fn code_values(values: &[u8], node: &[u8]) -> u64
     requires { (length values.now ≤ 6) × AllIn node.now values.now }
     ensures { (result ≡ number_of (map (fold_byte node.now) values.now))
         × (result < 0x1_0000_0000_0000) }
 {
-    let mut code: u64 = 0;
-    let mut i = values.len();
-    while 0 < i {
-        i -= 1;
-        code = code * 256 + fold_byte(values[i], node) as u64;
-    }
-    code
+    code_each(values, |b| b, node)
 }
 
 // What the cells `last` hold, in terms of nodes.
@@ -77,12 +95,5 @@ pub fn code_successors(cells: &[u8], last: &[u8], node: &[u8]) -> u64
         ≡ number_of (map (λ c. fold_byte node.now (get_or cells.now c 0)) last.now))
         × (result < 0x1_0000_0000_0000) }
 {
-    let mut code: u64 = 0;
-    let mut i = last.len();
-    while 0 < i {
-        i -= 1;
-        let c = last[i] as usize;
-        code = code * 256 + fold_byte(cells[c], node) as u64;
-    }
-    code
+    code_each(last, |c| cells[c as usize], node)
 }

@@ -6,8 +6,14 @@ use native.Mathlib.Omega.{arith}
 use lib.ListN.{length, drop, replicate, length-map, length-take, take, take-append-drop}
 use borrow.Rule.Slice.PartMut.{put_mid}
 use Rattle.model.specs.Heap.{IsHeap}
-use Rattle.model.specs.Image.{Folding, fold_image, heap_of}
-use Rattle.model.specs.Records.{filled, shape_record, val_of, is_accepted, is_refused, refusal}
+use Rattle.std.specs.Prelude.{Err, Ok}
+use Rattle.model.specs.Answers.{folding_of}
+use Rattle.model.specs.Codes.{reason_number, refusal_for}
+use Rattle.model.specs.Image.{fold_image, heap_of, refusal_image}
+use Rattle.model.specs.Records.{filled, shape_record, val_of, is_accepted, is_refused, refusal_at}
+use Rattle.model.specs.Structs.{Failed}
+use Rattle.model.specs.declared.codes.Reason.{Reason}
+use Rattle.layout.proofs.Reasons.{no_zero}
 use Rattle.model.specs.Shape.{counters, segments, shape, size}
 use Rattle.model.proofs.images.Images.{fold_suc, fold_zero, image_accepted, number-case}
 use Rattle.record.proofs.Bytes.{headed_is}
@@ -17,26 +23,33 @@ use Rattle.image_checks.specs.Checked.{ImageChecked}
 use Rattle.heap_operations.specs.Fold.{folded_heap}
 
 -- the answer to an image that is refused
-abbrev refused_with : ℕ → Folding
-refused_with n = record { verdict = is_refused (refusal n 0); record_bytes = replicate 32 0; counts = replicate 12 0 }
+pub fold_refused : {ps cs o m : List ℕ} (r : Reason) → ImageChecked ps cs o m (Err r)
+    → folding_of (Err (refusal_for r 0)) ≡ fold_image ps cs
+fold_refused {ps} {cs} r d =
+    let n = ap (λ (f : Failed). f.number) d.refusal in
+    let node = ap (λ (f : Failed). f.node) d.refusal in
+    number-case (reason_number r) (λ q. absurd (no_zero r q))
+    (λ k q. (λ i. record {
+      verdict = is_refused (refusal_at (q i) 0 (node i));
+      record_bytes = replicate 32 0;
+      counts = replicate 12 0;
+    }) ∙ sym (fold_suc ps cs k (sym n ∙ q)))
 
-pub fold_refused : {ps cs o m : List ℕ} {r n : ℕ} → ImageChecked ps cs o m r n → (r ≡ 0 → ⊥)
-    → refused_with r ≡ fold_image ps cs
-fold_refused {ps} {cs} {o} {m} {r} d z =
-    number-case r (λ q. absurd (z q)) (λ k q. ap refused_with q ∙ sym (fold_suc ps cs k (sym d.refusal ∙ q)))
+-- what the fold asks of a checked image, of which n cells are visited
+module _ {ps cs o m : List ℕ} {n : ℕ} (d : ImageChecked ps cs o m (Ok n)) where
+  passed : refusal_image ps cs ≡ 0
+  passed = sym (ap (λ (f : Failed). f.number) d.refusal)
 
--- what the fold asks of a checked image
-module _ {ps cs o m : List ℕ} {r n : ℕ} (d : ImageChecked ps cs o m r n) (z : r ≡ 0) where
   -- it is folded as its heap is
   pub fold_passed : folded_heap (heap_of ps cs) ≡ fold_image ps cs
   unfolding folded_heap
-  fold_passed = sym (fold_zero ps cs (sym d.refusal ∙ z))
+  fold_passed = sym (fold_zero ps cs passed)
 
   accepted : (length ps ≡ 6) × (length cs ≤ 240) × IsHeap (heap_of ps cs)
-  accepted = (image_accepted ps cs).0 (sym d.refusal ∙ z)
+  accepted = (image_accepted ps cs).0 passed
 
   pub few_visited : n ≤ 240
-  few_visited = omega (arith, d.few z, accepted.1)
+  few_visited = omega (arith, d.few, accepted.1)
 
   pub count_visited : length o ≡ 240 → n ≡ length (take n o)
   count_visited e = let f = few_visited in simp length-take (omega arith)
@@ -45,7 +58,7 @@ module _ {ps cs o m : List ℕ} {r n : ℕ} (d : ImageChecked ps cs o m r n) (z 
   fold_ready w =
       let A = accepted in
       let f = A.1 in
-      record { is_heap = A.2; six = A.0; few = f; visited = d.visited z; holders = omega arith; counts = d.held z }
+      record { is_heap = A.2; six = A.0; few = f; visited = d.visited; holders = omega arith; counts = d.held }
 
 zeros_left : (k : ℕ) → k ≤ 12 → drop {A = ℕ} k (replicate 12 0) ≡ replicate (12 - k) 0
 zeros_left k h = drop_zeros k 12 [] h ∙ append-nil {A = ℕ} (replicate (12 - k) 0)

@@ -2,20 +2,20 @@
 // and answers a refusal, before it works. What they answer, and every byte afterwards, is the definition's.
 #![tactic(auto)]
 
-ghost use Rattle.std.specs.Prelude.{◌≡◌};
+ghost use Rattle.std.specs.Prelude.{◌≡◌, Ok};
 ghost use Rattle.model.specs.Answers.{folding_of, unfolding_of, stepping_of};
 ghost use Rattle.model.specs.Image.{heap_of, fold_image, unfold_image, step_image};
 ghost use Rattle.folding.specs.Shape.{ShapeReady};
 ghost use Rattle.heap_operations.specs.Fold.{folded_heap};
 
 use image_checks::{check_image, step_refusal, unfold_refusal};
-use model::{Ended, Folded, Statement, Stepped, Unfolded};
+use model::{Folded, Refusal, Statement, Stepped};
 use plain_step::take_step;
 
 // Folds a heap whose visit order and counts of holders are given. Sizes past the nodes stay zero.
 fn fold_heap(pointers: &[u8], cells: &[u8], order: &[u8], held: &[u8]) -> Folded
     requires { ShapeReady pointers.now cells.now order.now held.now }
-    ensures { folding_of result ≡ folded_heap (heap_of pointers.now cells.now) }
+    ensures { folding_of (Ok result) ≡ folded_heap (heap_of pointers.now cells.now) }
 {
     let mut node = [0u8; model::MOST_CELLS];
     let mut last = [0u8; model::MOST_NODES];
@@ -23,63 +23,49 @@ fn fold_heap(pointers: &[u8], cells: &[u8], order: &[u8], held: &[u8]) -> Folded
     let mut shape = [0u8; model::RECORD];
     let k = segment::cut_long(order, held, &mut node, &mut last, &mut size);
     folding::fold_shape(pointers, cells, &last[..k], &node, &mut shape[4..]);
-    record::write_head(&mut shape, 0x48, Statement(0), k);
+    record::write_head(&mut shape, b'H', Statement(0), k);
     Folded {
-        ended: Ended::Accepted,
-        shape: shape,
+        shape,
         counters: size,
     }
 }
 
-// Folds a heap image to its shape and counters; a refused fold gives zeros.
-pub fn fold(pointers: &[u8], cells: &[u8]) -> Folded
+// Folds a heap image to its shape and counters.
+pub fn fold(pointers: &[u8], cells: &[u8]) -> Result<Folded, Refusal>
     ensures { folding_of result ≡ fold_image pointers.now cells.now }
 {
     let mut order = [0u8; model::MOST_CELLS];
     let mut seen = [0u8; model::MOST_CELLS];
-    let checked = check_image(pointers, cells, &mut order, &mut seen);
-    if checked.refusal != 0 {
-        return Folded {
-            ended: Ended::Refused {
-                number: checked.refusal,
-                place: 0,
-            },
-            shape: [0u8; model::RECORD],
-            counters: [0u32; model::MOST_NODES],
-        };
-    }
-    fold_heap(pointers, cells, &order[..checked.visited], &seen)
+    let n = check_image(pointers, cells, &mut order, &mut seen)?;
+    Ok(fold_heap(pointers, cells, &order[..n], &seen))
 }
 
 // Writes the heap image of a shape with counters; a refused unfolding leaves pointers and cells.
-pub fn unfold(rec: &[u8], counters: &[u32], pointers: &mut [u8], cells: &mut [u8]) -> Unfolded
+pub fn unfold(
+    rec: &[u8],
+    counters: &[u32],
+    pointers: &mut [u8],
+    cells: &mut [u8],
+) -> Result<(), Refusal>
     ensures { unfolding_of result pointers.new cells.new
         ≡ unfold_image rec.now counters.now pointers.old cells.old }
 {
-    let failure = unfold_refusal(rec, counters, pointers.len(), cells.len());
-    if failure.number != 0 {
-        let node = failure.node;
-        return Unfolded::Refused {
-            number: failure.number,
-            place: 0,
-            node,
-        };
-    }
+    unfold_refusal(rec, counters, pointers.len(), cells.len())?;
     unfolding::unfold_shape(rec, counters, pointers, cells);
-    Unfolded::Accepted
+    Ok(())
 }
 
 // One step of the plain machine; at a fault, a stop or a refusal pointers and cells stay.
-pub fn step(pointers: &mut [u8], cells: &mut [u8], rec: &[u8], pick: u8, cell: usize) -> Stepped
+pub fn step(
+    pointers: &mut [u8],
+    cells: &mut [u8],
+    rec: &[u8],
+    pick: u8,
+    cell: usize,
+) -> Result<Stepped, Refusal>
     ensures { stepping_of result pointers.new cells.new
         ≡ step_image rec.now pick cell pointers.old cells.old }
 {
-    let refusal = step_refusal(rec, &pointers[..], &cells[..]);
-    if refusal != 0 {
-        return Stepped::Refused {
-            number: refusal,
-            place: 0,
-        };
-    }
+    step_refusal(rec, &pointers[..], &cells[..])?;
     take_step(pointers, cells, rec, pick, cell)
 }

@@ -25,13 +25,11 @@ fn write_byte(byte: u8, line: &mut [u8], i: usize)
 
 // A record as a line: two digits for each of its 32 bytes.
 fn write_line(rec: &[u8], line: &mut [u8])
-    requires { (record_size ≤ length rec.now) × (65 ≤ length line.old) }
-    ensures { line.new ≡ line_of (take record_size rec.now) ++ drop 65 line.old }
+    requires { (length rec.now ≡ record_size) × (65 ≤ length line.old) }
+    ensures { line.new ≡ line_of rec.now ++ drop 65 line.old }
 {
-    let mut i = 0;
-    while i < model::RECORD {
-        write_byte(rec[i], line, i);
-        i += 1;
+    for (i, byte) in rec.iter().enumerate() {
+        write_byte(*byte, line, i);
     }
     line[64] = 0x0a;
 }
@@ -42,12 +40,8 @@ fn write_lines(table: &[u8], n: usize, text: &mut [u8], at: usize) -> usize
     ensures { (result ≡ at + 65 * n)
         × (take result text.new ≡ take at text.old ++ lines_of n table.now) }
 {
-    let mut i = 0;
-    while i < n {
-        let from = model::RECORD * i;
-        let to = at + 65 * i;
-        write_line(&table[from..], &mut text[to..]);
-        i += 1;
+    for i in 0..n {
+        write_line(model::record_at(table, i), &mut text[at + 65 * i..]);
     }
     at + 65 * n
 }

@@ -1,14 +1,11 @@
 -- The run of a statement on an image: what it asks of `machine`, the run where nothing can be lost, and the image put
 -- back at a fault.
-use Prim.Native.Nat.{ℕ, zero, suc, ◌<◌}
+use Prim.Native.Nat.{ℕ, ◌<◌}
 use native.Mathlib.Omega.{arith}
-use mathlib.Core.Path.{◌≡◌, refl, ap, ap₂, subst, sym, ◌∙◌}
-use mathlib.Core.Bool.{cond}
+use mathlib.Core.Path.{◌≡◌, ap, subst, sym, ◌∙◌}
 use mathlib.Core.List.{List, map}
 use lib.Dec.{eqb}
 use lib.ListN.{get_or-replicate, length, length-map, replicate}
-use borrow.Author.Tests.{ne_eqb}
-use Rattle.model.specs.Heap.{Heap}
 use Rattle.model.specs.Machine.{action, collects, done, effect, kind, settle}
 use Rattle.model.specs.Image.{heap_of}
 use Rattle.model.specs.Records.{val_of}
@@ -16,20 +13,17 @@ use Rattle.model.specs.Structs.{op_in}
 use Rattle.model.specs.declared.Decoded.{Decoded}
 use Rattle.model.proofs.expansion.Collect.{settle_kept}
 use Rattle.model.proofs.lists.Logic.{bool_case}
-use Rattle.effect.specs.Effect.{HasEffect, effect_of}
+use Rattle.effect.specs.Effect.{HasEffect}
 use Rattle.effect.proofs.Bytes.{named_u}
-use Rattle.effect.proofs.Laws.{answer_done, effect_closed}
+use Rattle.effect.proofs.Laws.{effect_closed}
+use Rattle.machine.proofs.RunLaws.{at_end}
 use Rattle.machine.specs.Run.{IsRun, RunReady, bytes}
-use Rattle.machine.specs.declared.Ran.{Ran}
-use Rattle.image_run.specs.Run.{Finished, RunOn, StepReady}
+use Rattle.std.specs.Prelude.{Result, Ok, Err}
+use Rattle.model.specs.Codes.{fault_in, op_number}
+use Rattle.model.specs.declared.codes.Fault.{Fault}
+use Rattle.image_run.specs.Run.{RunOn, StepReady}
 use Rattle.image_run.specs.Taken.{Stands, TakenReady, takes}
 use Rattle.image_run.proofs.Kept.{effect_kept, maker, maker_op}
-
--- a fault says nothing of the heap
-fault_any : (f : ℕ) (g h : Heap) → effect_of (suc f) g ≡ effect_of (suc f) h
-fault_any zero g h = refl
-fault_any (suc zero) g h = refl
-fault_any (suc (suc f)) g h = refl
 
 module _ {d : Decoded} {x : ℕ} {ps cs : List ℕ} where
   -- the room for the visit, which begins with zeros
@@ -61,40 +55,29 @@ module _ {d : Decoded} {x : ℕ} {ps cs : List ℕ} where
       let r = s.ready in
       let six = length-map ps val_of ∙ r.six in
       let u = r.is_u in
-      let m = maker_op d.op d.u.0 d.w.0 r.known in
-      bool_case (eqb d.op 6) (λ e. let q : maker (action (op_in d)) ≡ d.u.0 = m ∙ rw e in omega arith)
+      let m = maker_op (op_number d.op) d.u.0 d.w.0 r.known in
+      bool_case (eqb (op_number d.op) 6) (λ e. let q : maker (action (op_in d)) ≡ d.u.0 = m ∙ rw e in omega arith)
       (λ e. let q : maker (action (op_in d)) ≡ 0 = m ∙ rw e in omega arith)
 
   -- where it is no cell or a pointer holds it, nothing is lost, and the effect is all there is to the run
-  pub ran_kept : StepReady d x ps cs → {r : ℕ} {qs ds : List ℕ} → HasEffect (effect (op_in d) x) ps cs r qs ds → r ≡ 0
+  pub ran_kept : StepReady d x ps cs → {qs ds : List ℕ} → HasEffect (effect (op_in d) x) ps cs 0 qs ds
       → (v : ℕ) → val_of v ≡ takes (action (op_in d)) (heap_of ps cs) → Stands (val_of v) (map val_of qs)
       → RunOn d x ps cs 0 qs ds
-  ran_kept s {r} {qs} {ds} e z v t k =
+  ran_kept s {qs} {ds} e v t k =
       let a = action (op_in d) in
       let h = heap_of ps cs in
       let g = heap_of qs ds in
-      let f : effect (op_in d) x h ≡ done g = answer_done r g (effect (op_in d) x h) e.outcome z in
+      let f : effect (op_in d) x h ≡ done g = sym e.outcome in
       let c = effect_closed a x h g s.ready.is_closed s.fresh f in
       let b = collects (kind (op_in d)) in
       record {
         outcome = sym (ap (settle b) f ∙ settle_kept b g
             (effect_kept a x h g s.ready.is_closed c s.is_kept s.fresh (maker_below s) f
             (subst (λ y. Stands y g.ptrs) t k)));
-        low = omega arith;
       }
 
-  pub ran_on : {qs ds o s : List ℕ} {r : Ran} → IsRun d x (bytes ps cs) (bytes qs ds) o s r
-      → RunOn d x ps cs r.fault qs ds
-  ran_on r = record { outcome = r.outcome; low = r.known }
-
-  -- the image vs, ws, kept aside, is put back at a fault
-  pub put_back : {vs ws : List ℕ} → (vs ≡ ps) × (ws ≡ cs) → {qs ds : List ℕ} (f : ℕ) → RunOn d x ps cs f qs ds
-      → {ps' cs' : List ℕ} → (ps' ≡ cond (eqb f 0) qs vs) × (cs' ≡ cond (eqb f 0) ds ws) → Finished d x ps cs f ps' cs'
-  put_back e zero r (p, q) = record {
-    ran = record { outcome = ap₂ (λ y z. done (heap_of y z)) p q ∙ r.outcome; low = r.low };
-    stays = λ n. absurd (n refl);
-  }
-  put_back e {qs} {ds} (suc f) r {ps'} {cs'} (p, q) = record {
-    ran = record { outcome = fault_any f (heap_of ps' cs') (heap_of qs ds) ∙ r.outcome; low = r.low };
-    stays = λ n. (p ∙ rw (ne_eqb (suc f) 0 n) e.0, q ∙ rw (ne_eqb (suc f) 0 n) e.1);
-  }
+  -- a run whose lost cells are settled
+  pub settled : {qs ds o s : List ℕ} (r : Result (Unit {0}) Fault) (n : ℕ)
+      → IsRun d x (bytes ps cs) (bytes qs ds) o s (at_end r n) → RunOn d x ps cs (fault_in r) qs ds
+  settled (Ok t) n r = record { outcome = r.outcome }
+  settled (Err f) n r = record { outcome = r.outcome }

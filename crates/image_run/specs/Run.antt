@@ -1,5 +1,5 @@
 -- A statement run on an image that passed the checks. Assumes nothing.
-use Rattle.std.specs.Prelude.{ℕ, ◌≤◌, ◌≡◌, true, List}
+use Rattle.std.specs.Prelude.{ℕ, ◌≡◌, true, List}
 use Rattle.model.specs.Heap.{kept}
 use Rattle.model.specs.Machine.{action, carry_out}
 use Rattle.model.specs.Notions.{Room}
@@ -18,7 +18,6 @@ pub record StepReady (d : Decoded) (x : ℕ) (ps cs : List ℕ) : Type 0 where
 -- the fault r and the image qs, ds afterwards are what the machine's run of the image ps, cs gives
 pub record RunOn (d : Decoded) (x : ℕ) (ps cs : List ℕ) (r : ℕ) (qs ds : List ℕ) : Type 0 where
   pub outcome : effect_of r (heap_of qs ds) ≡ carry_out (op_in d) x (heap_of ps cs)
-  pub low : r ≤ 3
 
 -- and a fault leaves the image
 pub record Finished (d : Decoded) (x : ℕ) (ps cs : List ℕ) (r : ℕ) (qs ds : List ℕ) : Type 0 where

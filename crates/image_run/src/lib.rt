@@ -1,32 +1,25 @@
 // A statement run on a heap image that passed the checks: a fault leaves the image as it stood.
 #![tactic(auto)]
 
-ghost use Rattle.std.specs.Prelude.{cond, true, map, ◌≡◌, eqb, length};
-ghost use Rattle.model.specs.Base.{mem};
+ghost use Rattle.std.specs.Prelude.{true, map, ◌≡◌};
+ghost use Rattle.model.specs.Codes.{fault_in};
 ghost use Rattle.model.specs.Machine.{action};
 ghost use Rattle.model.specs.Image.{cell_slot, heap_of};
 ghost use Rattle.model.specs.Records.{val_of};
-ghost use Rattle.model.specs.Structs.{keeps_at, op_in};
+ghost use Rattle.model.specs.Structs.{op_in};
 ghost use Rattle.effect.specs.Effect.{Named};
 ghost use Rattle.image_run.specs.Taken.{Stands, TakenReady, next_at, takes};
 ghost use Rattle.image_run.specs.Run.{StepReady, RunOn, Finished};
 
-use model::Decoded;
-
-// Whether the op leaves the heap: stop, the tests, choose and skip.
-fn leaves_heap(op: u8) -> bool
-    ensures { result ≡ keeps_at op }
-{
-    (op == 0) | ((8 <= op) & (op <= 11))
-}
+use model::{Decoded, Fault};
 
 // The next of the cell that the value at names; null where it names none.
 fn next_at(at: u8, cells: &[u8]) -> u8
     requires { Named cells.now at }
     ensures { val_of result ≡ next_at (map cell_slot cells.now) (val_of at) }
 {
-    if 0xfd < at {
-        return 0xfe;
+    if model::UNUSED < at {
+        return model::NULL;
     }
     let c = at as usize;
     cells[c]
@@ -38,8 +31,8 @@ fn taken(d: Decoded, pointers: &[u8], cells: &[u8]) -> u8
     requires { TakenReady d pointers.now cells.now }
     ensures { val_of result ≡ takes (action (op_in d)) (heap_of pointers.now cells.now) }
 {
-    if leaves_heap(d.op) {
-        return 0xfe;
+    if statement::leaves_heap(d.op) {
+        return model::NULL;
     }
     let i = d.u.0 as usize;
     let v = pointers[i];
@@ -50,61 +43,30 @@ fn taken(d: Decoded, pointers: &[u8], cells: &[u8]) -> u8
     }
 }
 
-// Whether a value is one of the list's. All are looked at: there is no branch to guess.
-fn stands_in(v: u8, list: &[u8]) -> bool
-    ensures { result ≡ mem v list.now }
-{
-    let mut met = false;
-    let mut i = 0;
-    while i < list.len() {
-        met = met | (v == list[i]);
-        i += 1;
-    }
-    met
-}
-
 // Whether a value that was taken away is no cell, or a pointer holds it: then no cell is lost.
 fn surely_kept(v: u8, pointers: &[u8]) -> bool
     ensures { result ≡ true → Stands (val_of v) (map val_of pointers.now) }
 {
-    if 0xfd < v {
-        return true;
-    }
-    stands_in(v, pointers)
+    model::UNUSED < v || pointers.contains(&v)
 }
 
-// Runs a statement on the image, and answers the fault (0 for none). These are the steps of `machine::run`: with a
-// second caller, the compiler would no longer inline that into the exploration. The image had no lost cell, so that it
-// is visited again only where what was taken away might leave one.
-fn run_on(d: Decoded, x: usize, pointers: &mut [u8], cells: &mut [u8]) -> u8
+// Runs a statement on the image. These are the steps of `machine::run`: with a second caller, the compiler would no
+// longer inline that into the exploration. The image had no lost cell, so that it is visited again only where what was
+// taken away might leave one.
+fn run_on(d: Decoded, x: usize, pointers: &mut [u8], cells: &mut [u8]) -> Result<(), Fault>
     requires { StepReady d x pointers.old cells.old }
     ensures { RunOn d x pointers.old cells.old
-        result pointers.new cells.new }
+        (fault_in result) pointers.new cells.new }
 {
     let v = taken(d, &pointers[..], &cells[..]);
-    let number = effect::run_effect(d, x, pointers, cells);
-    if number != 0 {
-        return number;
-    }
+    effect::run_effect(d, x, pointers, cells)?;
     if surely_kept(v, &pointers[..]) {
-        return 0;
+        return Ok(());
     }
     let mut order = [0u8; model::MOST_CELLS];
     let mut seen = [0u8; model::MOST_CELLS];
     let n = visit::visit(&pointers[..], &cells[..], &mut order, &mut seen);
     machine::settle(d.op, cells, &seen, n)
-}
-
-// Puts the image ps, cs back where a run had a fault.
-fn restore(fault: u8, ps: &[u8], cs: &[u8], pointers: &mut [u8], cells: &mut [u8])
-    requires { (length pointers.old ≡ length ps.now) × (length cells.old ≡ length cs.now) }
-    ensures { (pointers.new ≡ cond (eqb fault 0) pointers.old ps.now)
-        × (cells.new ≡ cond (eqb fault 0) cells.old cs.now) }
-{
-    if fault != 0 {
-        fill::copy(ps, pointers);
-        fill::copy(cs, cells);
-    }
 }
 
 // Runs a statement on the image, of which ps and cs are a copy, so that a fault leaves it.
@@ -115,13 +77,16 @@ pub fn run_saved(
     cells: &mut [u8],
     ps: &[u8],
     cs: &[u8],
-) -> u8
+) -> Result<(), Fault>
     requires ready { StepReady d x pointers.old cells.old }
     requires saved { (ps.now ≡ pointers.old) × (cs.now ≡ cells.old) }
     ensures { Finished d x pointers.old cells.old
-        result pointers.new cells.new }
+        (fault_in result) pointers.new cells.new }
 {
-    let fault = run_on(d, x, pointers, cells);
-    restore(fault, ps, cs, pointers, cells);
-    fault
+    let ran = run_on(d, x, pointers, cells);
+    if ran.is_err() {
+        pointers.copy_from_slice(ps);
+        cells.copy_from_slice(cs);
+    }
+    ran
 }

@@ -14,8 +14,7 @@ use Rattle.model.proofs.lists.Lists.{get_or_map}
 use Rattle.model.proofs.lists.Logic.{clash}
 use Rattle.model.proofs.records.Bytes.{table_record}
 use Rattle.model.proofs.shapes.Same.{bytes_same}
-use Rattle.search.specs.Search.{found_at, number_or}
-use Rattle.search.proofs.Found.{found_next, found_below}
+use Rattle.search.proofs.Found.{highest_next}
 use Rattle.index.specs.Index.{FindReady, after, chain_of, has_hash, hash_of, head_of}
 
 -- of three locations, the last two with one hash, the head is the newest and its chain the other, as it is computed
@@ -68,7 +67,7 @@ highest_agree p q (suc n) h =
 pub record Follows (ix : List ℕ) (h : ℕ) (t : List ℕ) (n : ℕ) (r : List ℕ) (i : ℕ) : Type 0 where
   pub ready : FindReady ix h t n r
   pub below : i ≤ n
-  pub rest : found_at t r n ≡ found_below t r n i
+  pub rest : highest_below n (equal_at t r) ≡ highest_below i (equal_at t r)
   pub hashed : (j : ℕ) → i ≡ suc j → has_hash (map hash_of ready.records) h j ≡ true
 
 module _ (ix : List ℕ) (h : ℕ) (t : List ℕ) (n : ℕ) (r : List ℕ) (R : FindReady ix h t n r) where
@@ -94,18 +93,14 @@ module _ (ix : List ℕ) (h : ℕ) (t : List ℕ) (n : ℕ) (r : List ℕ) (R : 
       ∙ bytes_same (record_at t j) r e in
       eq-eqb (get_or hs j 0) h (get_or_map hash_of rs j [] 0 k ∙ ap hash_of same ∙ sym R.hash)
 
-  -- from any number on, the search goes on at the last below it with the hash
-  goes_on : (m : ℕ) → m ≤ n → found_below t r n m ≡ found_below t r n (after (highest_below m (has_hash hs h)))
-  goes_on m le =
-      ap (number_or n) (highest_through (has_hash hs h) (equal_at t r) m (λ j lt. equal_hash j (omega arith)))
-
-  -- the last below m with the hash, as it stands in the index
-  follow : (m i : ℕ) → m ≤ n → found_at t r n ≡ found_below t r n m → i ≡ after (highest_below m (has_hash hs h))
-      → Follows ix h t n r i
+  -- the last below m with the hash, as it stands in the index: from any number on, the search goes on there
+  follow : (m i : ℕ) → m ≤ n → highest_below n (equal_at t r) ≡ highest_below m (equal_at t r)
+      → i ≡ after (highest_below m (has_hash hs h)) → Follows ix h t n r i
   follow m i le f e = record {
     ready = R;
     below = let k = after_most (has_hash hs h) m in omega (arith, e);
-    rest = f ∙ goes_on m le ∙ ap (found_below t r n) (sym e);
+    rest = f ∙ highest_through (has_hash hs h) (equal_at t r) m (λ j lt. equal_hash j (omega arith))
+        ∙ ap (λ k. highest_below k (equal_at t r)) (sym e);
     hashed = λ j q. after_passes (has_hash hs h) m j (sym e ∙ q);
   }
 
@@ -131,7 +126,7 @@ module _ (ix : List ℕ) (h : ℕ) (t : List ℕ) (n : ℕ) (r : List ℕ) (i : 
   pub follow_chain : equal_at t r j ≡ false → Follows ix h t n r (get_or ix (512 + j) 0)
   follow_chain o =
       follow ix h t n r R j (get_or ix (512 + j) 0) (omega (arith, F.below))
-      (F.rest ∙ found_next t r n i j e o) chain_is
+      (F.rest ∙ highest_next (equal_at t r) i j e o) chain_is
 
   pub place_within : 32 * j + 32 ≤ length t
   place_within = omega (arith, F.below, R.count, R.index_of.fits)

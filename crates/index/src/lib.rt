@@ -2,11 +2,11 @@
 // at the records with one hash alone, from the newest back. A hash that spreads badly costs time and nothing else.
 #![tactic(auto)]
 
-ghost use Rattle.std.specs.Prelude.{◌≡◌, ◌+◌, ◌*◌, ◌<◌, ◌≤◌, get_or, length};
+ghost use Rattle.std.specs.Prelude.{◌≡◌, ◌<◌, IfSome, get_or, length};
+ghost use Rattle.model.specs.Answers.{found_of};
 ghost use Rattle.model.specs.Base.{most_locations, record_size};
-ghost use Rattle.model.specs.Records.{record_at};
-ghost use Rattle.search.specs.Search.{found_at};
-ghost use Rattle.index.specs.Index.{EnterAllReady, EntersAll, FindReady, entered, hash_count, hash_of, index_kept, index_size};
+ghost use Rattle.model.specs.Search.{equal_at, highest_below};
+ghost use Rattle.index.specs.Index.{EnterAllReady, EntersAll, FindReady, after, entered, hash_count, hash_of, index_kept, index_size};
 
 use word::four;
 
@@ -45,45 +45,35 @@ pub fn keep(index: &mut [u16], n: usize, j: usize, h: usize)
     requires { (length index.old ≡ index_size) × (j < most_locations) × (h < hash_count) }
     ensures { index.new ≡ index_kept index.old n j h }
 {
-    if j < n {
-        return;
+    if n <= j {
+        enter(index, n, h);
     }
-    enter(index, n, h);
 }
 
-// What stands in the index at n.
-fn entry(index: &[u16], n: usize) -> usize
+// The location that stands in the index at n: as the number after it, in two bytes of fixed memory, and 0 for none, so
+// that an index of zeros is that of no location.
+fn entry(index: &[u16], n: usize) -> Option<usize>
     requires { n < length index.now }
-    ensures { result ≡ get_or index.now n 0 }
+    ensures { after (found_of result) ≡ get_or index.now n 0 }
 {
-    index[n] as usize
+    (index[n] as usize).checked_sub(1)
 }
 
 // What `search::find` finds, by the records with the hash alone.
-pub fn find(index: &[u16], h: usize, table: &[u8], count: usize, rec: &[u8]) -> usize
+pub fn find(index: &[u16], h: usize, table: &[u8], count: usize, rec: &[u8]) -> Option<usize>
     requires { FindReady index.now h table.now count rec.now }
-    ensures { result ≡ found_at table.now rec.now count }
+    ensures found { found_of result ≡ highest_below count (equal_at table.now rec.now) }
+    ensures below { IfSome result (λ i. i < count) }
 {
-    let mut i = entry(index, h);
-    while 0 < i {
-        let j = i - 1;
+    // A walk along the chain of the hash: each location tells the one before it, and nothing is counted.
+    let mut next = entry(index, h);
+    while let Some(j) = next {
         if search::same_at(table, model::RECORD * j, rec) {
-            return j;
+            return Some(j);
         }
-        i = entry(index, HASHES + j);
+        next = entry(index, HASHES + j);
     }
-    count
-}
-
-// Enters location j of the table.
-fn enter_record(table: &[u8], j: usize, index: &mut [u16])
-    requires { (length index.old ≡ index_size) × (j < most_locations)
-        × (record_size * j + record_size ≤ length table.now) }
-    ensures { index.new ≡ entered index.old j (hash_of (record_at table.now j)) }
-{
-    let at = model::RECORD * j;
-    let end = at + model::RECORD;
-    enter(index, j, hash(&table[at..end]));
+    None
 }
 
 // Enters the n locations of the table into an index of zeros.
@@ -91,9 +81,7 @@ pub fn enter_all(table: &[u8], n: usize, index: &mut [u16])
     requires { EnterAllReady table.now n index.old }
     ensures { EntersAll table.now n index.new }
 {
-    let mut j = 0;
-    while j < n {
-        enter_record(table, j, index);
-        j += 1;
+    for j in 0..n {
+        enter(index, j, hash(model::record_at(table, j)));
     }
 }

@@ -20,7 +20,8 @@ use Rattle.model.specs.Listings.{records_of}
 use Rattle.model.proofs.lists.Lists.{all_at, get_or_map}
 use Rattle.model.proofs.lists.Logic.{and_l, and_r}
 use Rattle.model.proofs.records.ShapeBack.{shape_record_back}
-use Rattle.input.specs.declared.Checked.TheVariants.{Good}
+use Rattle.std.specs.Prelude.{Ok}
+use Rattle.input.specs.declared.Routine.{Routine as RoutineCounts}
 use Rattle.input.specs.Input.{checked_of, GoodCounts, routine_in}
 use Rattle.input.specs.RecordChecks.{earlier, record_checks}
 use Rattle.input.specs.Accepted.{Accepted}
@@ -112,8 +113,9 @@ module _ (s : List ℕ) (n m : ℕ) (w : 32 * (n + m) ≡ length s) (o : Opened 
   }
 
 -- from the answer of the check
-pub accepted : (s : List ℕ) (n m : ℕ) → checked_of (Good n m) s ≡ check s → GoodCounts (Good n m) s → Accepted s n m
-accepted s n m e g = opened_accepted s n m g.4 (check_opened s (routine_in n s) (sym e))
+pub accepted : (s : List ℕ) (r : RoutineCounts) → checked_of (Ok r) s ≡ check s → GoodCounts (Ok r) s
+    → Accepted s r.statements r.shapes
+accepted s r e g = opened_accepted s r.statements r.shapes g.4 (check_opened s (routine_in r.statements s) (sym e))
 
 -- from the definition: the numbers are those of the routine's statements and shapes
 pub good_accepted : (s : List ℕ) (r : Routine) → check s ≡ good r

@@ -5,24 +5,23 @@ use native.Mathlib.Numerals.{add-one}
 use native.Mathlib.Omega.{arith}
 use mathlib.Core.Path.{◌≡◌, refl, sym, ap, ap₂, ◌∙◌}
 use mathlib.Core.Bool.{Bool, true, false, cond}
-use mathlib.Core.Option.{none, some}
+use mathlib.Core.Option.{Option, none, some}
+use Rattle.std.specs.Prelude as std
+use Rattle.std.specs.Option.{is_some}
+use Rattle.model.specs.Answers.{found_of}
 use mathlib.Core.List.{List, [], ◌∷◌}
-use lib.Dec.{eqb, ltb}
+use lib.Dec.{eqb}
 use lib.ListN.{length, get_or, take, drop, drop_of_length-le, length-drop}
 use lib.Seq.{drop-cons, drop-drop, get_or-drop, get_or-take, length-take-le}
-use borrow.Author.Tests.{le-ltb, lt-ltb}
 use Rattle.model.specs.Base.{any, count, same_list}
 use Rattle.model.specs.Records.{byte, checks_record, first_failed, is_h, is_s, record_at, refusal_at}
-use Rattle.model.specs.Search.{equal_at}
-use Rattle.model.specs.Structs.{Tells}
-use Rattle.model.specs.declared.Failure.{Failure}
+use Rattle.model.specs.Search.{equal_at, highest_below}
+use Rattle.model.specs.Structs.{Failed, Tells}
 use Rattle.model.specs.Translate.{first_bad_kind, first_bad_record, chunks}
 use Rattle.model.proofs.lists.Sorted.{kinds_sorted}
 use Rattle.model.specs.Listings.{records_of}
 use Rattle.model.proofs.lists.Logic.{bool_case, bool_ext, clash, or_l}
 use Rattle.model.proofs.shapes.Same.{bytes_same, same_bytes_refl}
-use Rattle.search.specs.Search.{found_at}
-use Rattle.search.proofs.Found.{found_below}
 use Rattle.input.specs.RecordChecks.{kind_fits, earlier, record_checks}
 
 chunks_length : (n : ℕ) (s : List ℕ) → length (chunks n s) ≡ n
@@ -61,12 +60,12 @@ refusal_pass : (n i : ℕ) (e : List (List ℕ)) (r : List ℕ) (rs : List (List
     → first_failed (checks_record n e r) ≡ 0 → first_bad_record n i e (r ∷ rs) ≡ first_bad_record n (suc i) (r ∷ e) rs
 refusal_pass n i e r rs h = rw (h, first_bad_record)
 
-refusal_fail : (n i : ℕ) (e : List (List ℕ)) (r : List ℕ) (rs : List (List ℕ)) {f : Failure}
+refusal_fail : (n i : ℕ) (e : List (List ℕ)) (r : List ℕ) (rs : List (List ℕ)) {f : Failed}
     → Tells (checks_record n e r) f → (f.number ≡ 0 → ⊥)
-    → first_bad_record n i e (r ∷ rs) ≡ some (refusal_at f.number i f.node.0)
+    → first_bad_record n i e (r ∷ rs) ≡ some (refusal_at f.number i f.node)
 refusal_fail n i e r rs {f} t z = by_number f.number refl
   where
-    by_number : (k : ℕ) → f.number ≡ k → first_bad_record n i e (r ∷ rs) ≡ some (refusal_at f.number i f.node.0)
+    by_number : (k : ℕ) → f.number ≡ k → first_bad_record n i e (r ∷ rs) ≡ some (refusal_at f.number i f.node)
     by_number zero q = absurd (z q)
     by_number (suc k) q =
         let h : first_failed (checks_record n e r) ≡ suc k = sym t.number ∙ q in
@@ -78,15 +77,23 @@ bytes_sym a b = bool_ext (same_list eqb a b) (same_list eqb b a)
     (λ e. ap (same_list eqb a) (bytes_same b a e) ∙ same_bytes_refl a)
 
 -- a record that is found among the first i is one of them: both go from the newest back
-found_among : (s r : List ℕ) (n i : ℕ) → i ≤ n → ltb (found_below s r n i) n ≡ any (same_list eqb r) (earlier s i)
-found_among s r n zero h = le-ltb n n (omega arith)
-found_among s r n (suc i) h =
-    let e = bytes_sym (record_at s i) r in
-    bool_case (equal_at s r i) (λ q. rw (q, sym e ∙ q) (lt-ltb i n (omega arith)))
-    (λ q. rw (q, sym e ∙ q) (found_among s r n i (omega arith)))
+abbrev is_found : Option ℕ → Bool
+is_found none = false
+is_found (some i) = true
 
-pub found_earlier : (s r : List ℕ) (i : ℕ) → ltb (found_at s r i) i ≡ any (same_list eqb r) (earlier s i)
-found_earlier s r i = found_among s r i i (omega arith)
+found_among : (s r : List ℕ) (i : ℕ) → is_found (highest_below i (equal_at s r)) ≡ any (same_list eqb r) (earlier s i)
+found_among s r zero = refl
+found_among s r (suc i) =
+    let e = bytes_sym (record_at s i) r in
+    bool_case (equal_at s r i) (λ q. rw (q, sym e ∙ q)) (λ q. rw (q, sym e ∙ q) (found_among s r i))
+
+pub found_earlier : (o : std.Option ℕ) (s r : List ℕ) (i : ℕ) → found_of o ≡ highest_below i (equal_at s r)
+    → is_some o ≡ any (same_list eqb r) (earlier s i)
+found_earlier o s r i e = some_is o ∙ ap is_found e ∙ found_among s r i
+  where
+    some_is : (p : std.Option ℕ) → is_some p ≡ is_found (found_of p)
+    some_is std.None = refl
+    some_is (std.Some j) = refl
 
 module _ (s : List ℕ) (n : ℕ) (w : 32 * n ≡ length s) where
   pub records_length : length (records_of s) ≡ n
@@ -141,8 +148,8 @@ module _ (s : List ℕ) (n : ℕ) (w : 32 * n ≡ length s) where
       ap (first_bad_record m i (earlier s i)) (records_step i h) ∙ refusal_pass m i (earlier s i) (record_at s i) rs z
       ∙ ap (λ j. first_bad_record m j (earlier s j) rs) (sym (add-one i))
 
-  pub records_fail : (m i : ℕ) {f : Failure} → i < n → Tells (record_checks m s i) f → (f.number ≡ 0 → ⊥)
-      → first_bad_record m i (earlier s i) (drop i (records_of s)) ≡ some (refusal_at f.number i f.node.0)
+  pub records_fail : (m i : ℕ) {f : Failed} → i < n → Tells (record_checks m s i) f → (f.number ≡ 0 → ⊥)
+      → first_bad_record m i (earlier s i) (drop i (records_of s)) ≡ some (refusal_at f.number i f.node)
   records_fail m i h t z =
       ap (first_bad_record m i (earlier s i)) (records_step i h) ∙ refusal_fail m i (earlier s i) (record_at s i)
       (drop (i + 1) (records_of s)) t z

@@ -1,15 +1,10 @@
 -- Parts of the check, as the code makes them: one record's kind, the records before one, its checks. Assumes nothing.
-use Rattle.std.specs.Prelude.{ℕ, zero, suc, Bool, ◌&&◌, ◌||◌, not, cond, List, [], ◌∷◌, eqb, ltb}
-use Rattle.std.proofs.Math.Option.{Option, none, some}
+use Rattle.std.specs.Prelude.{ℕ, zero, suc, Bool, ◌&&◌, ◌||◌, not, List, [], ◌∷◌, eqb}
 use Rattle.model.specs.Records.{Row, checks_record, record_at}
 
 -- H may stand anywhere, S only before the first H
 abbrev pub kind_fits : Bool → ℕ → Bool
 kind_fits after_h tag = eqb tag 0x48 || (eqb tag 0x53 && not after_h)
-
--- a place among n records, where it is one
-abbrev pub kind_found : ℕ → ℕ → Option ℕ
-kind_found n p = cond (ltb p n) (some p) none
 
 -- the first i records, the last of them first
 abbrev pub earlier : List ℕ → ℕ → List (List ℕ)

@@ -2,31 +2,25 @@
 // refusal.
 #![tactic(auto)]
 
-ghost use Rattle.std.specs.Prelude.{◌≡◌, false, ◌+◌, ◌*◌, ◌≤◌, eqb, length};
-ghost use Rattle.std.proofs.Math.Option.{none};
-ghost use Rattle.model.specs.Base.{any, count, same_list, record_size};
+ghost use Rattle.std.specs.Prelude.{◌≡◌, true, false, [], ◌+◌, ◌*◌, ◌≤◌, eqb, length, Ok, IfErr};
+ghost use Rattle.model.specs.Answers.{found_of};
+ghost use Rattle.model.specs.Base.{any, count, mem, same_list, record_size};
+ghost use Rattle.model.specs.Codes.{reason_number};
 ghost use Rattle.model.specs.Records.{is_s, checks_h};
-ghost use Rattle.model.specs.Structs.{Tells};
-ghost use Rattle.model.specs.Translate.{first_bad_kind, between, check, check_counts, check_kinds, check_records};
-ghost use Rattle.model.specs.Listings.{records_of};
-ghost use Rattle.input.specs.Input.{checked_of, GoodCounts};
-ghost use Rattle.input.specs.RecordChecks.{kind_fits, kind_found, earlier, record_checks};
+ghost use Rattle.model.specs.Structs.{Tells, failed_in};
+ghost use Rattle.model.specs.Translate.{between, first_bad_kind, first_bad_record, check};
+ghost use Rattle.model.specs.Listings.{numbers_input, records_of};
+ghost use Rattle.input.specs.Input.{checked_of, refused_in, GoodCounts};
+ghost use Rattle.input.specs.RecordChecks.{kind_fits, earlier, record_checks};
 
-use layout::{failing, layout_ok, shape_failure, statement_refusal};
-use model::{Failure, Node};
+use layout::{layout_ok, shape_failure, statement_refusal};
+use model::{Reason, Refusal};
 
-// A routine with its numbers of statements and of starting shapes, or the refusal's number, place and node.
+// How many statements and starting shapes a routine has: its records are as many statements, and then as many shapes.
 #[derive(Clone, Copy)]
-pub enum Checked {
-    Good {
-        statements: usize,
-        shapes: usize,
-    },
-    Bad {
-        number: u8,
-        place: usize,
-        node: Node,
-    },
+pub struct Routine {
+    pub statements: usize,
+    pub shapes: usize,
 }
 
 // ---- the kinds of the records, by their tags
@@ -35,25 +29,23 @@ pub enum Checked {
 fn kind_fits(after: bool, tag: u8) -> bool
     ensures { result ≡ kind_fits after tag }
 {
-    (tag == 0x48) | ((tag == 0x53) & !after)
+    (tag == b'H') | ((tag == b'S') & !after)
 }
 
-// The first record of a wrong kind; the number of records where there is none.
-fn wrong_kind(input: &[u8], records: usize) -> usize
+// The first record of a wrong kind.
+fn wrong_kind(input: &[u8], records: usize) -> Option<usize>
     requires { record_size * records ≡ length input.now }
-    ensures { kind_found records result ≡ first_bad_kind false 0 (records_of input.now) }
+    ensures { found_of result ≡ first_bad_kind false 0 (records_of input.now) }
 {
     let mut after = false;
-    let mut i = 0;
-    while i < records {
+    for i in 0..records {
         let tag = input[model::RECORD * i];
         if !kind_fits(after, tag) {
-            return i;
+            return Some(i);
         }
-        after = tag == 0x48;
-        i += 1;
+        after = tag == b'H';
     }
-    records
+    None
 }
 
 // How many records are statements.
@@ -61,13 +53,11 @@ fn count_statements(input: &[u8], records: usize) -> usize
     requires { record_size * records ≡ length input.now }
     ensures { result ≡ count is_s (records_of input.now) }
 {
-    let mut n: usize = 0;
-    let mut i = 0;
-    while i < records {
-        if input[model::RECORD * i] == 0x53 {
+    let mut n = 0;
+    for i in 0..records {
+        if input[model::RECORD * i] == b'S' {
             n += 1;
         }
-        i += 1;
     }
     n
 }
@@ -79,37 +69,32 @@ fn repeats(input: &[u8], i: usize, rec: &[u8]) -> bool
     requires { (record_size * i ≤ length input.now) × (length rec.now ≡ record_size) }
     ensures { result ≡ any (same_list eqb rec.now) (earlier input.now i) }
 {
-    search::find(input, i, rec) < i
+    search::find(input, i, rec).is_some()
 }
 
 // What fails of an H record after the first i records of the input.
-fn shape_refusal(input: &[u8], i: usize, rec: &[u8]) -> Failure
+fn shape_refusal(input: &[u8], i: usize, rec: &[u8]) -> Result<(), Reason>
     requires { (record_size * i ≤ length input.now) × (length rec.now ≡ record_size) }
-    ensures { Tells (checks_h (earlier input.now i) rec.now) result }
+    ensures { Tells (checks_h (earlier input.now i) rec.now) (failed_in result) }
 {
     if !layout_ok(rec) {
-        return failing(8);
+        return Err(Reason::ShapeLayout);
     }
-    let failure = shape_failure(rec);
-    if failure.number != 0 {
-        return failure;
-    }
+    shape_failure(rec)?;
     if repeats(input, i, rec) {
-        return failing(10);
+        return Err(Reason::RepeatedShape);
     }
-    failing(0)
+    Ok(())
 }
 
 // What fails of record i where there are so many statements.
-fn record_refusal(input: &[u8], i: usize, statements: usize) -> Failure
+fn record_refusal(input: &[u8], i: usize, statements: usize) -> Result<(), Reason>
     requires { record_size * (i + 1) ≤ length input.now }
-    ensures { Tells (record_checks statements input.now i) result }
+    ensures { Tells (record_checks statements input.now i) (failed_in result) }
 {
-    let at = model::RECORD * i;
-    let end = at + model::RECORD;
-    let rec = &input[at..end];
-    if rec[0] == 0x53 {
-        return failing(statement_refusal(rec, statements));
+    let rec = model::record_at(input, i);
+    if rec[0] == b'S' {
+        return statement_refusal(rec, statements);
     }
     shape_refusal(input, i, rec)
 }
@@ -117,27 +102,16 @@ fn record_refusal(input: &[u8], i: usize, statements: usize) -> Failure
 // ---- the whole input
 
 // The records one after the other.
-fn check_records(input: &[u8], statements: usize, shapes: usize) -> Checked
-    requires { GoodCounts (Checked.Good statements shapes) input.now }
-    ensures outcome { checked_of result input.now
-        ≡ check_records statements (records_of input.now) }
-    ensures counts { GoodCounts result input.now }
+fn check_records(input: &[u8], routine: Routine) -> Result<(), Refusal>
+    requires { GoodCounts (Ok routine) input.now }
+    ensures first { refused_in result
+        ≡ first_bad_record routine.statements 0 [] (records_of input.now) }
+    ensures known { IfErr result (λ r. mem (reason_number r.reason) numbers_input ≡ true) }
 {
-    let records = statements + shapes;
-    let mut i = 0;
-    while i < records {
-        let failure = record_refusal(input, i, statements);
-        if failure.number != 0 {
-            let node = failure.node;
-            return Checked::Bad {
-                number: failure.number,
-                place: i,
-                node,
-            };
-        }
-        i += 1;
+    for i in 0..routine.statements + routine.shapes {
+        record_refusal(input, i, routine.statements).map_err(|reason| reason.at(i))?;
     }
-    Checked::Good { statements, shapes }
+    Ok(())
 }
 
 // Whether n lies between two bounds.
@@ -147,60 +121,29 @@ fn within(low: usize, high: usize, n: usize) -> bool
     (low <= n) & (n <= high)
 }
 
-// The numbers of statements and of shapes, then the records.
-fn check_counts(input: &[u8], records: usize) -> Checked
-    requires { (record_size * records ≡ length input.now) × (first_bad_kind false 0 (records_of input.now) ≡ none) }
-    ensures outcome { checked_of result input.now ≡ check_counts (records_of input.now) }
-    ensures counts { GoodCounts result input.now }
-{
-    let statements = count_statements(input, records);
-    if !within(1, model::MOST_STATEMENTS, statements) {
-        return Checked::Bad {
-            number: 2,
-            place: 0,
-            node: Node(0),
-        };
-    }
-    let shapes = records - statements;
-    if !within(1, model::MOST_SHAPES, shapes) {
-        return Checked::Bad {
-            number: 3,
-            place: 0,
-            node: Node(0),
-        };
-    }
-    check_records(input, statements, shapes)
-}
-
-// The kinds of the records, then all else.
-fn check_kinds(input: &[u8], records: usize) -> Checked
-    requires { record_size * records ≡ length input.now }
-    ensures outcome { checked_of result input.now ≡ check_kinds (records_of input.now) }
-    ensures counts { GoodCounts result input.now }
-{
-    let place = wrong_kind(input, records);
-    if place < records {
-        return Checked::Bad {
-            number: 4,
-            place,
-            node: Node(0),
-        };
-    }
-    check_counts(input, records)
-}
-
-// The whole check of an input: its routine, or the first refusal.
-pub fn check(input: &[u8]) -> Checked
+// The whole check of an input: the length, the kinds of the records, the numbers of statements and of shapes, and the
+// records.
+pub fn check(input: &[u8]) -> Result<Routine, Refusal>
     ensures outcome { checked_of result input.now ≡ check input.now }
     ensures counts { GoodCounts result input.now }
 {
     let length = input.len();
-    if (length == 0) | (length % model::RECORD != 0) {
-        return Checked::Bad {
-            number: 1,
-            place: 0,
-            node: Node(0),
-        };
+    if length == 0 || length % model::RECORD != 0 {
+        return Err(Reason::InputLength.at(0));
     }
-    check_kinds(input, length / model::RECORD)
+    let records = length / model::RECORD;
+    if let Some(place) = wrong_kind(input, records) {
+        return Err(Reason::RecordKind.at(place));
+    }
+    let statements = count_statements(input, records);
+    if !within(1, model::MOST_STATEMENTS, statements) {
+        return Err(Reason::StatementCount.at(0));
+    }
+    let shapes = records - statements;
+    if !within(1, model::MOST_SHAPES, shapes) {
+        return Err(Reason::ShapeCount.at(0));
+    }
+    let routine = Routine { statements, shapes };
+    check_records(input, routine)?;
+    Ok(routine)
 }

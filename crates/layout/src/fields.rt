@@ -1,5 +1,5 @@
-// Tests of bytes and of single fields of S and H records. Those of single bytes are joined by & and |, without
-// branches.
+// Tests of bytes and of single fields of S and H records. Most tests in a row are joined by & and |, so that no branch
+// is taken.
 ghost use Rattle.std.specs.Prelude.{◌≡◌, length};
 ghost use Rattle.model.specs.Base.{all, record_size};
 ghost use Rattle.model.specs.Records.{is_zero, uses_u, uses_w, uses_first, uses_second, value_byte};
@@ -10,47 +10,35 @@ ghost use Rattle.layout.specs.Checked.{head_h};
 pub fn all_zero(bytes: &[u8]) -> bool
     ensures { result ≡ all is_zero bytes.now }
 {
-    let mut met: u8 = 0;
-    let mut i = 0;
-    while i < bytes.len() {
-        met |= bytes[i];
-        i += 1;
-    }
-    met == 0
+    bytes.iter().fold(0, |met, b| met | *b) == 0
 }
 
 // Whether a byte is a node below k, null or undefined.
 pub fn value_byte(k: u8, b: u8) -> bool
     ensures { result ≡ value_byte k b }
 {
-    (b < k) | (b == 0xfe) | (b == 0xff)
+    (b < k) | (b == model::NULL) | (b == model::UNDEFINED)
 }
 
 // Whether all bytes are values in a shape of k nodes, without a branch for each.
 pub fn all_values(bytes: &[u8], k: u8) -> bool
     ensures { result ≡ all (value_byte k) bytes.now }
 {
-    let mut good = true;
-    let mut i = 0;
-    while i < bytes.len() {
-        good = good & value_byte(k, bytes[i]);
-        i += 1;
-    }
-    good
+    bytes.iter().fold(true, |good, b| good & value_byte(k, *b))
 }
 
-// ---- S records: which fields an op uses, and what stands in them
+// ---- S records: which fields an op uses, and what stands in them. The op is its byte, which is still to be checked.
 
 pub fn uses_u(op: u8) -> bool
     ensures { result ≡ uses_u op }
 {
-    ((1 <= op) & (op <= 9)) | (op == 12) | (op == 13)
+    matches!(op, 1..=9 | 12 | 13)
 }
 
 pub fn uses_w(op: u8) -> bool
     ensures { result ≡ uses_w op }
 {
-    (op == 2) | (op == 3) | (op == 5) | (op == 9) | (op == 12)
+    matches!(op, 2 | 3 | 5 | 9 | 12)
 }
 
 pub fn uses_first(op: u8) -> bool
@@ -62,7 +50,7 @@ pub fn uses_first(op: u8) -> bool
 pub fn uses_second(op: u8) -> bool
     ensures { result ≡ uses_second op }
 {
-    (8 <= op) & (op <= 10)
+    matches!(op, 8..=10)
 }
 
 // A used pointer is below 6, an unused one zero.
@@ -111,5 +99,5 @@ pub fn targets_ok(n: usize, rec: &[u8]) -> bool
 pub fn head_ok(tag: u8, statement: u8, fault: u8) -> bool
     ensures { result ≡ head_h tag statement fault }
 {
-    (tag == 0x48) & (statement == 0) & (fault == 0)
+    (tag == b'H') & (statement == 0) & (fault == 0)
 }

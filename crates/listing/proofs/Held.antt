@@ -23,7 +23,8 @@ use Rattle.index.specs.Index.{IndexOf, Indexed, hash_of, index_kept}
 use Rattle.index.proofs.Entered.{kept_indexed}
 use Rattle.search.specs.Search.{found_at}
 use Rattle.search.proofs.Found.{found_location}
-use Rattle.listing.specs.declared.Grown.TheVariants.{Added, Full}
+use Rattle.std.specs.Prelude.{Ok, Err}
+use Rattle.model.specs.declared.codes.Reason.TheVariants.{LocationsFull, EdgesFull}
 use Rattle.listing.specs.Grow.{Holds, GrownTo}
 use Rattle.model.specs.Structs.{IsEdge}
 use Rattle.model.specs.declared.Counts.{Counts}
@@ -130,20 +131,19 @@ module _ (t : Listing) (i : ℕ) (e : Edge) (ls es ix r us : List ℕ) (m : Edge
   still_distinct =
       subst (λ k. Distinct (grown i k e t).locs) (sym number_is) (extend_distinct i (e ∷ []) t H.distinct)
 
-  -- 11: no place for a new location
-  pub full_locations : places most_locations (length ls) ≤ j → GrownTo t i e ls es ix (Full 11)
-  full_locations h =
-      let none = le-ltb j (places most_locations (length ls)) h in
-      rw (← number_is) (none, (λ z. absurd (omega arith)), omega arith, omega arith)
+  -- no place for a new location
+  pub full_locations : places most_locations (length ls) ≤ j → GrownTo t i e ls es ix c (Err LocationsFull)
+  full_locations h = rw (← number_is) (le-ltb j (places most_locations (length ls)) h)
 
-  -- 12: no place for the edge
+  -- no place for the edge
   pub full_edges : j < places most_locations (length ls) → places most_edges (length es) ≤ c.edges
-      → GrownTo t i e ls es ix (Full 12)
+      → GrownTo t i e ls es ix c (Err EdgesFull)
   full_edges h k =
       let n = H.edge_number in
-      let full : ltb (length t.links) (places most_edges (length es)) ≡ false =
-      le-ltb (length t.links) (places most_edges (length es)) (omega arith) in
-      rw (← number_is) (lt-ltb j (places most_locations (length ls)) h, (λ z. full), omega arith, omega arith)
+      rw (← number_is) (
+        lt-ltb j (places most_locations (length ls)) h,
+        le-ltb (length t.links) (places most_edges (length es)) (omega arith),
+      )
 
   links_next : c.edges < places most_edges (length es)
       → LinksKept (length es) (grown i j e t).links
@@ -186,7 +186,7 @@ module _ (t : Listing) (i : ℕ) (e : Edge) (ls es ix r us : List ℕ) (m : Edge
       → (ls' es' ix' : List ℕ) (n : ℕ) → n ≡ count_kept c.locations j → ls' ≡ target_kept ls c.locations j r
       → (f : EdgeFields) → f ≡ fields_to m i j → es' ≡ placed es c.edges (edge_bytes f us)
       → (h' : ℕ) → h' ≡ hash_of r → ix' ≡ index_kept ix c.locations j h'
-      → GrownTo t i e ls' es' ix' (Added (counts_after c n))
+      → GrownTo t i e ls' es' ix' (counts_after c n) (Ok tt)
   one_more h k ls' es' ix' n p q f x y g z w =
       let s : es' ≡ placed es c.edges (edge_bytes (fields_to m i j) us) =
       y ∙ ap (λ g. placed es c.edges (edge_bytes g us)) x in

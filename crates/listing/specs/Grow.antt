@@ -1,5 +1,5 @@
 -- A listing held in the two tables, and one edge more. Assumes nothing.
-use Rattle.std.specs.Prelude.{ℕ, ◌+◌, ◌*◌, ◌≤◌, ◌<◌, ◌≡◌, true, false, List, map, ltb, length}
+use Rattle.std.specs.Prelude.{ℕ, ◌+◌, ◌*◌, ◌≤◌, ◌<◌, ◌≡◌, true, false, List, map, ltb, length, Result, Ok, Err}
 use Rattle.model.specs.Base.{most_edges, most_locations, place_of, most_nodes, record_size}
 use Rattle.model.specs.Edges.{Loc, Edge, same_loc}
 use Rattle.model.specs.Records.{byte, loc_record}
@@ -7,11 +7,11 @@ use Rattle.model.specs.Structs.{IsEdge}
 use Rattle.model.specs.Translate.{Link, Listing, link_record, table_of, places, grown}
 use Rattle.model.specs.Listings.{WritableLoc}
 use Rattle.model.specs.Notions.{Distinct, In, SmallGuards}
+use Rattle.model.specs.declared.codes.Reason.{Reason}
+use Rattle.model.specs.declared.codes.Reason.TheVariants.{EdgesFull, LocationsFull}
 use Rattle.model.specs.declared.Counts.{Counts}
 use Rattle.model.specs.declared.EdgeMade.{EdgeMade}
 use Rattle.index.specs.Index.{Indexed, hash_count, hash_of, index_size}
-use Rattle.listing.specs.declared.Grown.{Grown}
-use Rattle.listing.specs.declared.Grown.TheVariants.{Added, Full}
 
 -- the tables ls and es hold the listing t, in as many records as c counts, and ix is the index of its locations
 pub record Holds (t : Listing) (ls es ix : List ℕ) (c : Counts) : Type 0 where
@@ -48,20 +48,23 @@ pub record GrowReady (ls es ix : List ℕ) (c : Counts) (i : ℕ) (m : EdgeMade)
   pub wide : length r ≡ record_size
   pub room : m.nodes ≤ length us
 
--- what comes of adding the edge e of location i to the listing t: one edge more, 11, or 12, in that order of tests
-abbrev pub GrownTo : Listing → ℕ → Edge → List ℕ → List ℕ → List ℕ → Grown → Type 0
-GrownTo t i e ls es ix (Added c) =
+-- what comes of adding the edge e of location i to the listing t: one edge more; or no place for a new location, looked
+-- at first, or for the edge
+abbrev pub GrownTo : Listing → ℕ → Edge → List ℕ → List ℕ → List ℕ → Counts → Result (Unit {0}) Reason → Type 0
+GrownTo t i e ls es ix c (Ok _) =
     let j = place_of (same_loc e.to) t.locs in
     (ltb j (places most_locations (length ls)) ≡ true) × (ltb (length t.links) (places most_edges (length es)) ≡ true)
     × Holds (grown i j e t) ls es ix c
-GrownTo t i e ls es ix (Full n) =
-    let j = place_of (same_loc e.to) t.locs in
-    (ltb j (places most_locations (length ls)) ≡ ltb 11 n)
-    × (n ≡ 12 → ltb (length t.links) (places most_edges (length es)) ≡ false) × (11 ≤ n) × (n ≤ 12)
+GrownTo t i e ls es ix c (Err LocationsFull) =
+    ltb (place_of (same_loc e.to) t.locs) (places most_locations (length ls)) ≡ false
+GrownTo t i e ls es ix c (Err EdgesFull) =
+    (ltb (place_of (same_loc e.to) t.locs) (places most_locations (length ls)) ≡ true)
+    × (ltb (length t.links) (places most_edges (length es)) ≡ false)
+GrownTo t i e ls es ix c (Err _) = ⊥
 
 -- whichever listing was held and whichever edge was given
 abbrev pub Grows : List ℕ → List ℕ → List ℕ → Counts → ℕ → EdgeMade → List ℕ → List ℕ → List ℕ → List ℕ → List ℕ
-    → Grown → Type 0
-Grows ls es ix c i m r us ls' es' ix' x =
+    → Counts → Result (Unit {0}) Reason → Type 0
+Grows ls es ix c i m r us ls' es' ix' c' x =
     (t : Listing) (e : Edge) → Holds t ls es ix c → WritableLoc e.to → IsEdge e r us m
-    → GrownTo t i e ls' es' ix' x
+    → GrownTo t i e ls' es' ix' c' x

@@ -1,21 +1,21 @@
 -- One edge more in a listing: the next of the edges to be added, and the locations stay good.
 use Prim.Native.Nat.{ℕ}
-use mathlib.Core.Path.{◌≡◌, ap, subst, sym, ◌∙◌}
-use mathlib.Core.Bool.{true, false}
+use mathlib.Core.Path.{◌≡◌, subst, sym}
 use mathlib.Core.List.{List, [], ◌∷◌}
-use native.Mathlib.Omega.{arith}
-use lib.Dec.{eqb, ltb}
+use lib.Dec.{ltb}
 use lib.ListN.{length}
-use borrow.Author.Tests.{eqb-false, eqb-true}
 use Rattle.model.specs.Base.{most_edges, most_locations, place_of}
-use Rattle.model.specs.Edges.{Edge, at, same_loc}
-use Rattle.model.specs.Records.{refusal}
+use Rattle.model.specs.Edges.{Edge, same_loc}
+use Rattle.std.specs.Prelude.{Ok, Err}
+use Rattle.model.specs.Answers.{refusal_in}
+use Rattle.model.specs.Codes.{refusal_for}
+use Rattle.model.specs.declared.codes.Reason.{Reason}
+use Rattle.model.specs.declared.codes.Reason.TheVariants.{EdgesFull, LocationsFull}
 use Rattle.model.specs.Translate.{Listing, add_edges, full, grown, places}
 use Rattle.model.proofs.lists.Lists.{in-append-cases, in_single}
 use Rattle.model.proofs.lists.Logic.{bool_case}
 use Rattle.model.specs.declared.Counts.{Counts}
 use Rattle.listing.specs.Grow.{GrownTo}
-use Rattle.listing.specs.declared.Grown.TheVariants.{Added, Full}
 use Rattle.location_edges.specs.Added.{LocOk, LocsOk}
 
 -- the listing with the edge e of location i
@@ -37,20 +37,13 @@ module _ (t : Listing) (i : ℕ) (e : Edge) (rest : List Edge) (ls es ix : List 
   ce = places most_edges (length es)
 
   -- the first of the edges is added
-  pub add_step : (c : Counts) → GrownTo t i e ls es ix (Added c)
+  pub add_step : (c : Counts) → GrownTo t i e ls es ix c (Ok tt)
       → add_edges cl ce i (e ∷ rest) t ≡ add_edges cl ce i rest (more i e t)
   add_step c G = rw (G.0, add_edges) (rw (G.1, add_edges))
 
   -- no place for the first of the edges
-  pub add_full : (m : ℕ) → GrownTo t i e ls es ix (Full m) → add_edges cl ce i (e ∷ rest) t ≡ full (refusal m i)
-  add_full m G =
-      let lo = G.2 in
-      let hi = G.3 in
-      bool_case (eqb m 12)
-      (λ q. let z = eqb-true m 12 q in
-      let a : ltb (place_of (same_loc e.to) t.locs) cl ≡ true = G.0 ∙ ap (ltb 11) z in
-      rw (a, add_edges) (rw (G.1 z, add_edges) (ap (λ k. full (refusal k i)) (sym z))))
-      (λ q. let y = eqb-false m 12 q in
-      let z : m ≡ 11 = omega arith in
-      let a : ltb (place_of (same_loc e.to) t.locs) cl ≡ false = G.0 ∙ ap (ltb 11) z in
-      rw (a, add_edges) (ap (λ k. full (refusal k i)) (sym z)))
+  pub add_full : (c : Counts) (r : Reason) → GrownTo t i e ls es ix c (Err r)
+      → add_edges cl ce i (e ∷ rest) t ≡ full (refusal_in (refusal_for r i))
+  add_full c LocationsFull G = rw (G, add_edges)
+  add_full c EdgesFull G = rw (G.0, add_edges) (rw (G.1, add_edges))
+  add_full c _ G = absurd G

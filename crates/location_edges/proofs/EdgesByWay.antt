@@ -9,7 +9,9 @@ use mathlib.Core.List.{List, [], ◌∷◌, ◌++◌, map}
 use native.Mathlib.Omega.{arith}
 use native.Mathlib.Numerals.{add-one}
 use lib.ListN.{get_or-eq_default, drop, drop_of_length-le, get_elem?, length}
+use Rattle.std.specs.Prelude.{Option, Some, None}
 use Rattle.model.specs.Base.{joined}
+use Rattle.model.specs.declared.Node.{Node}
 use Rattle.model.specs.Heap.{Heap, next, unused}
 use Rattle.model.specs.Machine.{Effect, accepts, action, answer_of, branch, carry_out, done, entry, fault, is_stop, kind}
 use Rattle.model.specs.Edges.{Edge, Loc, Way, at, edge_by, edges_at, failed, split_heap, step_by, view, ways}
@@ -28,7 +30,7 @@ use Rattle.model.proofs.ways.Views.{view_looks}
 use Rattle.way.specs.Ready.{WayReady}
 use Rattle.way.specs.Way.{IsWay, IsWayOf, view_in, way_by, way_in}
 use Rattle.way.specs.declared.Way as declared
-use Rattle.location_edges.specs.declared.Ways.{Ways}
+use Rattle.way.specs.declared.Looked.{Looked}
 use Rattle.location_edges.specs.Added.{LocOk}
 use Rattle.location_edges.specs.LocationEdges.{AtShape, Counted, WayEdge}
 
@@ -48,12 +50,12 @@ module _ {l : List ℕ} {d : Decoded} {s : ℕ} {h : Heap} {y : declared.Way} (R
   abbrev Accepted : Way → Type 0
   Accepted x = accepts (op_in d) (entry x.pick nodes) x.heap ≡ true
 
-  by_split : (sp : Bool) → y.split ≡ sp → Accepted (way_by sp y h)
-  by_split true e =
-      let g = split_heap y.node.0 nodes h in
-      accept_room (op_in d) (entry 0 nodes) g ((view_looks (action (op_in d)) h y.node.0 (R.is_node e)).roomy g nodes)
+  by_split : (sp : Option Node) → y.split ≡ sp → Accepted (way_by sp y h)
+  by_split (Some n) e =
+      let g = split_heap n.0 nodes h in
+      accept_room (op_in d) (entry 0 nodes) g ((view_looks (action (op_in d)) h n.0 (R.is_node n e)).roomy g nodes)
       (λ q. omega arith)
-  by_split false e =
+  by_split None e =
       let past : next h nodes ≡ unused = get_or-eq_default h.slots unused (omega arith) in
       accept_room (op_in d) (entry y.pick nodes) h (room_of (action (op_in d)) h nodes past) (λ q. R.pick)
 
@@ -105,25 +107,25 @@ module _ (s : ℕ) (d : Decoded) (h : Heap) where
       by_stop true e = joined_none (made s d h) (ways (op_in d) h) (stop_makes e)
       by_stop false e = refl
 
-  module _ (w : Ways) (C : Counted d h w) where
-    count_is : w.count ≡ length (makers d h)
+  module _ (v : Looked) (count : ℕ) (C : Counted d h v count) where
+    count_is : count ≡ length (makers d h)
     count_is = C.number ∙ by_stop (is_stop (kind (op_in d)))
       where
         by_stop : (b : Bool) → cond b 0 (length (ways (op_in d) h)) ≡ length (cond b [] (ways (op_in d) h))
         by_stop true = refl
         by_stop false = refl
 
-    pub edges_none : (j : ℕ) → w.count ≤ j → edges_from s d h j ≡ []
+    pub edges_none : (j : ℕ) → count ≤ j → edges_from s d h j ≡ []
     edges_none j hi =
         let le : length (makers d h) ≤ j = omega (arith, count_is) in
         ap (λ l. joined (map (made s d h) l)) (drop_of_length-le (makers d h) le)
 
-    goes_on : (j : ℕ) → j < w.count → is_stop (kind (op_in d)) ≡ false
+    goes_on : (j : ℕ) → j < count → is_stop (kind (op_in d)) ≡ false
     goes_on j lt =
         bool_case (is_stop (kind (op_in d)))
-        (λ e. let z : w.count ≡ 0 = C.number ∙ rw e in absurd (omega arith)) (λ e. e)
+        (λ e. let z : count ≡ 0 = C.number ∙ rw e in absurd (omega arith)) (λ e. e)
 
-    makers_are : (j : ℕ) → j < w.count → makers d h ≡ ways (op_in d) h
+    makers_are : (j : ℕ) → j < count → makers d h ≡ ways (op_in d) h
     makers_are j lt = ap (λ b. cond b [] (ways (op_in d) h)) (goes_on j lt)
 
 -- ---- way j of a location
@@ -143,12 +145,12 @@ loc_writable : (n : ℕ) (l : Loc) → LocOk n l → WritableLoc l
 loc_writable n (at s h) g = canon_writable h g.0.0 g.0.1
 loc_writable n (failed s f) g = tt
 
-module _ {l : List ℕ} {d : Decoded} {n s : ℕ} {h : Heap} (A : AtShape l d n s h) (w : Ways) (C : Counted d h w)
-    (j : ℕ) (lt : j < w.count) (y : declared.Way) (Y : IsWay (view_in w.view) j y) where
+module _ {l : List ℕ} {d : Decoded} {n s : ℕ} {h : Heap} (A : AtShape l d n s h) (v : Looked) (count : ℕ)
+    (C : Counted d h v count) (j : ℕ) (lt : j < count) (y : declared.Way) (Y : IsWay (view_in v) j y) where
   is_way_of : IsWayOf (view (action (op_in d)) h) j y (kind (op_in d)) h
   is_way_of =
-      subst (λ v. IsWay v j y) C.looks Y (kind (op_in d)) h
-      (omega (arith, count_is s d h w C, ap length (makers_are s d h w C j lt)))
+      subst (λ x. IsWay x j y) C.looks Y (kind (op_in d)) h
+      (omega (arith, count_is s d h v count C, ap length (makers_are s d h v count C j lt)))
 
   ready : WayReady l d s h y
   ready = record {
@@ -157,7 +159,7 @@ module _ {l : List ℕ} {d : Decoded} {n s : ℕ} {h : Heap} (A : AtShape l d n 
     six = A.six;
     statement = A.statement.fields;
     low = omega (arith, A.low, A.statement.few);
-    goes = goes_on s d h w C j lt;
+    goes = goes_on s d h v count C j lt;
     pick = is_way_of.pick;
     guards = is_way_of.guards;
     is_node = is_way_of.is_node;
@@ -178,7 +180,7 @@ module _ {l : List ℕ} {d : Decoded} {n s : ℕ} {h : Heap} (A : AtShape l d n 
       let S = shape_edge s (stmt_in d) h A.is_shape A.six E is_in in
       let fine : LocOk n E.to =
       loc_fine n E.to S.1 (edge_stmt n s (stmt_in d) h A.low A.statement.leads E is_in) in
-      let m = makers_are s d h w C j lt in
+      let m = makers_are s d h v count C j lt in
       let from : drop j (makers d h) ≡ way_in y h ∷ drop (j + 1) (makers d h) =
       ap (drop j) m ∙ drop_elem all j (way_in y h) is_way_lem
       ∙ ap (λ k. way_in y h ∷ drop k all) (sym (add-one j)) ∙ ap (λ x. way_in y h ∷ drop (j + 1) x) (sym m) in

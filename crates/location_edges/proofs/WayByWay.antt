@@ -1,24 +1,25 @@
 -- The edges of a location added way by way: what is left of them gives the whole, and at the end nothing is left.
 use Prim.Native.Nat.{ℕ, ◌+◌, ◌≤◌, ◌<◌}
-use mathlib.Core.Path.{◌≡◌, refl, ap, subst, ◌∙◌}
+use mathlib.Core.Path.{◌≡◌, refl, ap, ◌∙◌}
 use mathlib.Core.List.{List, ◌∷◌}
 use lib.ListN.{length}
 use Rattle.model.specs.Base.{most_edges, most_locations}
 use Rattle.model.specs.Heap.{Heap}
 use Rattle.model.specs.Edges.{Edge, edges_at}
-use Rattle.model.specs.Records.{refusal}
+use Rattle.std.specs.Prelude.{Ok, Err}
+use Rattle.model.specs.Answers.{refusal_in}
+use Rattle.model.specs.Codes.{refusal_for}
+use Rattle.model.specs.declared.codes.Reason.{Reason}
 use Rattle.model.specs.Structs.{stmt_in}
 use Rattle.model.specs.Translate.{Listing, add_edges, full, places}
 use Rattle.model.specs.declared.Counts.{Counts}
 use Rattle.model.specs.declared.Decoded.{Decoded}
 use Rattle.way.specs.Way.{IsWay, view_in}
+use Rattle.way.specs.declared.Looked.{Looked}
 use Rattle.way.specs.declared.Way.{Way}
-use Rattle.listing.specs.Grow.{GrownTo, Holds}
-use Rattle.listing.specs.declared.Grown.{Grown}
-use Rattle.listing.specs.declared.Grown.TheVariants.{Added, Full}
-use Rattle.location_edges.specs.declared.Ways.{Ways}
+use Rattle.listing.specs.Grow.{Holds}
 use Rattle.location_edges.specs.Added.{LocsOk}
-use Rattle.location_edges.specs.LocationEdges.{AreWays, AtShape, EdgesAdded, ShapeGiven, WayAdded, WayGiven}
+use Rattle.location_edges.specs.LocationEdges.{AtShape, Counted, EdgesAdded, ShapeGiven, WayAdded, WayGiven}
 use Rattle.location_edges.proofs.Added.{add_full, add_step, more, more_fine}
 use Rattle.location_edges.proofs.EdgesByWay.{edges_all, edges_none, edges_from, next_way}
 
@@ -48,20 +49,20 @@ module _ (l : List ℕ) (d : Decoded) (ls es ix : List ℕ) (c : Counts) (i : �
   adds_start n s h t A H =
       record { list = t; held = H; fine = λ F. F; rest = ap (λ x. add_edges cl ce i x t) (edges_all s d h) }
 
-  module _ (w : Ways) (ways : AreWays l d w) (ls' es' ix' : List ℕ) (c' : Counts) (j : ℕ)
-      (X : Adds ls' es' ix' c' j) where
+  module _ (v : Looked) (count : ℕ) (ways : (n s : ℕ) (h : Heap) → AtShape l d n s h → Counted d h v count)
+      (ls' es' ix' : List ℕ) (c' : Counts) (j : ℕ) (X : Adds ls' es' ix' c' j) where
     -- no way is left
-    pub adds_end : w.count ≤ j → EdgesAdded l d ls es ix c i ls' es' ix' (Added c')
+    pub adds_end : count ≤ j → EdgesAdded l d ls es ix c i ls' es' ix' c' (Ok tt)
     adds_end hi n s h t A H O =
         let L = X n s h t A H in
-        rw (L.rest, edges_none s d h w (ways n s h A) j hi) (L.held, L.fine O)
+        rw (L.rest, edges_none s d h v count (ways n s h A) j hi) (L.held, L.fine O)
 
-    module _ (lt : j < w.count) (y : Way) (Y : IsWay (view_in w.view) j y) where
+    module _ (lt : j < count) (y : Way) (Y : IsWay (view_in v) j y) where
       -- what is given to way j
       pub way_given : ShapeGiven l d ls es ix c i → WayGiven l d y ls' es' ix' c' i
       way_given S =
           let A = S.here in
-          let N = next_way A w (ways S.statements S.number S.shape A) j lt y Y in
+          let N = next_way A v count (ways S.statements S.number S.shape A) j lt y Y in
           let L = X S.statements S.number S.shape S.list A S.held in
           record {
             number = S.number;
@@ -73,35 +74,36 @@ module _ (l : List ℕ) (d : Decoded) (ls es ix : List ℕ) (c : Counts) (i : �
             low = S.low;
           }
 
-      module _ (ls'' es'' ix'' : List ℕ) (x : Grown) (F : WayAdded l d y ls' es' ix' c' i ls'' es'' ix'' x)
-          (p : length ls'' ≡ length ls) (q : length es'' ≡ length es) where
-        -- no place for the edge of way j
-        pub adds_full : (m : ℕ) → x ≡ Full m → EdgesAdded l d ls es ix c i ls'' es'' ix'' (Full m)
-        adds_full m e n s h t A H O =
-            let L = X n s h t A H in
-            let N = next_way A w (ways n s h A) j lt y Y in
-            let E = N.edge in
-            let u = L.list in
-            let rest = edges_from s d h (j + 1) in
-            let G = subst (GrownTo u i E ls'' es'' ix'') e (F s h E u N.is_edge L.held) in
-            let none : add_edges cl ce i (E ∷ rest) u ≡ full (refusal m i) =
-            rw (p, q) at (add_full u i E rest ls'' es'' ix'' m G) in
-            rw (L.rest ∙ ap (λ z. add_edges cl ce i z u) N.rest ∙ none) refl
+      module _ (ls'' es'' ix'' : List ℕ) (c'' : Counts) (p : length ls'' ≡ length ls) (q : length es'' ≡ length es)
+        where
+          -- no place for the edge of way j
+          pub adds_full : (r : Reason) → WayAdded l d y ls' es' ix' c' i ls'' es'' ix'' c'' (Err r)
+              → EdgesAdded l d ls es ix c i ls'' es'' ix'' c'' (Err r)
+          adds_full r F n s h t A H O =
+              let L = X n s h t A H in
+              let N = next_way A v count (ways n s h A) j lt y Y in
+              let E = N.edge in
+              let u = L.list in
+              let rest = edges_from s d h (j + 1) in
+              let G = F s h E u N.is_edge L.held in
+              let none : add_edges cl ce i (E ∷ rest) u ≡ full (refusal_in (refusal_for r i)) =
+              rw (p, q) at (add_full u i E rest ls'' es'' ix'' c'' r G) in
+              rw (L.rest ∙ ap (λ z. add_edges cl ce i z u) N.rest ∙ none) refl
 
-        -- the next way
-        pub adds_next : (a : Counts) → x ≡ Added a → Adds ls'' es'' ix'' a (j + 1)
-        adds_next a e n s h t A H =
-            let L = X n s h t A H in
-            let N = next_way A w (ways n s h A) j lt y Y in
-            let E = N.edge in
-            let u = L.list in
-            let rest = edges_from s d h (j + 1) in
-            let G = subst (GrownTo u i E ls'' es'' ix'') e (F s h E u N.is_edge L.held) in
-            let step : add_edges cl ce i (E ∷ rest) u ≡ add_edges cl ce i rest (more i E u) =
-            rw (p, q) at (add_step u i E rest ls'' es'' ix'' a G) in
-            record {
-              list = more i E u;
-              held = G.2;
-              fine = λ O. more_fine n i E u (L.fine O) N.fine;
-              rest = L.rest ∙ ap (λ z. add_edges cl ce i z u) N.rest ∙ step;
-            }
+          -- the next way
+          pub adds_next : WayAdded l d y ls' es' ix' c' i ls'' es'' ix'' c'' (Ok tt) → Adds ls'' es'' ix'' c'' (j + 1)
+          adds_next F n s h t A H =
+              let L = X n s h t A H in
+              let N = next_way A v count (ways n s h A) j lt y Y in
+              let E = N.edge in
+              let u = L.list in
+              let rest = edges_from s d h (j + 1) in
+              let G = F s h E u N.is_edge L.held in
+              let step : add_edges cl ce i (E ∷ rest) u ≡ add_edges cl ce i rest (more i E u) =
+              rw (p, q) at (add_step u i E rest ls'' es'' ix'' c'' G) in
+              record {
+                list = more i E u;
+                held = G.2;
+                fine = λ O. more_fine n i E u (L.fine O) N.fine;
+                rest = L.rest ∙ ap (λ z. add_edges cl ce i z u) N.rest ∙ step;
+              }

@@ -1,2 +1,3 @@
 pub mod Added
 pub mod LocationEdges
+pub mod Lent

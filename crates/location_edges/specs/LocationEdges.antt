@@ -1,6 +1,6 @@
 -- The parts of exploring a location: the location as bytes, its statement decoded, the edge by one way, and all edges.
 -- Assumes nothing.
-use Rattle.std.specs.Prelude.{ℕ, ◌≤◌, ◌<◌, ◌≡◌, false, List, [], ◌∷◌, length}
+use Rattle.std.specs.Prelude.{ℕ, ◌≤◌, ◌<◌, ◌≡◌, false, List, [], ◌∷◌, length, Result}
 use Rattle.model.specs.Base.{most_nodes, most_statements, pointer_count}
 use Rattle.model.specs.Heap.{Heap}
 use Rattle.model.specs.Machine.{action, branch, is_stop, kind, target}
@@ -11,14 +11,14 @@ use Rattle.model.specs.Translate.{Listing}
 use Rattle.model.specs.Notions.{Canon, SmallGuards}
 use Rattle.model.specs.Listings.{WritableLoc}
 use Rattle.model.specs.declared.Counts.{Counts}
+use Rattle.model.specs.declared.codes.Reason.{Reason}
 use Rattle.model.specs.declared.Decoded.{Decoded}
 use Rattle.way.specs.Ready.{WayReady}
 use Rattle.way.specs.Way.{view_in, way_in, way_number}
+use Rattle.way.specs.declared.Looked.{Looked}
 use Rattle.way.specs.declared.Way.{Way}
 use Rattle.listing.specs.Grow.{Holds, GrownTo}
-use Rattle.listing.specs.declared.Grown.{Grown}
 use Rattle.location_edges.specs.Added.{LocsOk, AddedTo, added_in}
-use Rattle.location_edges.specs.declared.Ways.{Ways}
 
 -- d is an accepted statement among n: its fields, and where its branches lead
 pub record Among (d : Decoded) (n : ℕ) : Type 0 where
@@ -53,19 +53,16 @@ pub record WayGiven (l : List ℕ) (d : Decoded) (y : Way) (ls es ix : List ℕ)
   pub low : i < 65536
 
 -- whichever edge the way makes and whichever listing was held, the edge is added
-abbrev pub WayAdded : List ℕ → Decoded → Way → List ℕ → List ℕ → List ℕ → Counts → ℕ → List ℕ → List ℕ → List ℕ → Grown
-    → Type 0
-WayAdded l d y ls es ix c i ls' es' ix' x =
+abbrev pub WayAdded : List ℕ → Decoded → Way → List ℕ → List ℕ → List ℕ → Counts → ℕ → List ℕ → List ℕ → List ℕ
+    → Counts → Result (Unit {0}) Reason → Type 0
+WayAdded l d y ls es ix c i ls' es' ix' c' x =
     (s : ℕ) (h : Heap) (E : Edge) (t : Listing) → WayEdge l d s h y E → Holds t ls es ix c
-    → GrownTo t i E ls' es' ix' x
+    → GrownTo t i E ls' es' ix' c' x
 
--- w has what the statement looks at, and the number of its ways
-pub record Counted (d : Decoded) (h : Heap) (w : Ways) : Type 0 where
-  pub looks : view_in w.view ≡ view (action (op_in d)) h
-  pub number : w.count ≡ way_number (kind (op_in d)) (view (action (op_in d)) h) h
-
-abbrev pub AreWays : List ℕ → Decoded → Ways → Type 0
-AreWays l d w = (n s : ℕ) (h : Heap) → AtShape l d n s h → Counted d h w
+-- v is what the statement looks at, and k the number of its ways
+pub record Counted (d : Decoded) (h : Heap) (v : Looked) (k : ℕ) : Type 0 where
+  pub looks : view_in v ≡ view (action (op_in d)) h
+  pub number : k ≡ way_number (kind (op_in d)) (view (action (op_in d)) h) h
 
 -- some location is given, and some listing is held
 pub record ShapeGiven (l : List ℕ) (d : Decoded) (ls es ix : List ℕ) (c : Counts) (i : ℕ) : Type 0 where
@@ -78,8 +75,8 @@ pub record ShapeGiven (l : List ℕ) (d : Decoded) (ls es ix : List ℕ) (c : Co
   pub low : i < 65536
 
 -- whichever location was given and whichever listing was held, the location's edges are added
-abbrev pub EdgesAdded : List ℕ → Decoded → List ℕ → List ℕ → List ℕ → Counts → ℕ → List ℕ → List ℕ → List ℕ → Grown
-    → Type 0
-EdgesAdded l d ls es ix c i ls' es' ix' x =
+abbrev pub EdgesAdded : List ℕ → Decoded → List ℕ → List ℕ → List ℕ → Counts → ℕ → List ℕ → List ℕ → List ℕ → Counts
+    → Result (Unit {0}) Reason → Type 0
+EdgesAdded l d ls es ix c i ls' es' ix' c' x =
     (n s : ℕ) (h : Heap) (t : Listing) → AtShape l d n s h → Holds t ls es ix c → LocsOk n t
-    → AddedTo n i (added_in ls es i (edges_at s (stmt_in d) h) t) ls' es' ix' x
+    → AddedTo n i (added_in ls es i (edges_at s (stmt_in d) h) t) ls' es' ix' c' x

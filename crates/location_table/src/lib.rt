@@ -15,8 +15,7 @@ use model::Statement;
 pub fn places(most: usize, len: usize) -> usize
     ensures { result ≡ places most len }
 {
-    let fit = len / model::RECORD;
-    if fit < most { fit } else { most }
+    most.min(len / model::RECORD)
 }
 
 // Whether a count is within the places of a table of so many bytes.
@@ -44,8 +43,9 @@ pub fn keep_target(locations: &mut [u8], nl: usize, j: usize, target: &[u8]) -> 
         × (locations.new ≡ target_kept locations.old nl j target.now) }
 {
     if j < nl {
-        return nl;
+        nl
+    } else {
+        put_location(locations, nl, target);
+        nl + 1
     }
-    put_location(locations, nl, target);
-    nl + 1
 }

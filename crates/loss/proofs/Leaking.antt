@@ -12,12 +12,16 @@ use Rattle.model.specs.Records.{byte, shape_of, val_byte, val_of}
 use Rattle.model.proofs.records.Bytes.{byte_back, val_cell}
 use Rattle.model.proofs.expansion.Effects.{closed_ptr}
 use Rattle.model.proofs.lists.Lists.{get_or_map, some_inj, some-none}
-use Rattle.model.proofs.lists.Logic.{bool_case, eq-case}
+use Rattle.model.proofs.lists.Logic.{eq-case}
 use Rattle.model.proofs.visits.Order.{used_below}
 use Rattle.model.specs.Notions.{Closed, Used, Views, AllClosed}
 use Rattle.model.proofs.expansion.Writes.{cell_inj, holds_inj}
 use Rattle.model.specs.declared.Decoded.{Decoded}
+use Rattle.std.specs.Prelude.{Option, Some, None}
+use Rattle.model.specs.Codes.{op_number}
+use Rattle.model.specs.declared.Node.{Node}
 use Rattle.way.specs.Ready.{WayReady}
+use Rattle.way.specs.Way.{way_in}
 use Rattle.way.specs.declared.Way.{Way}
 use Rattle.way.proofs.Ready.{location_wide, node_below, node_used, nodes_few, nodes_is, shape_is_lem}
 use Rattle.loss.specs.Loss.{AloneHolds, Leaks, Overwrites}
@@ -43,12 +47,13 @@ value_closed (from w) g h e k = subst (λ (vs : List Val). Closed (next h) (get_
 
 -- ---- the tail of a split
 
-module _ {l : List ℕ} {d : Decoded} {s : ℕ} {h : Heap} {y : Way} (R : WayReady l d s h y) (sp : y.split ≡ true) where
+module _ {l : List ℕ} {d : Decoded} {s : ℕ} {h : Heap} {y : Way} (R : WayReady l d s h y) (n : Node)
+    (sp : y.split ≡ Some n) where
   abbrev k : ℕ
   k = length h.slots
 
   abbrev v : ℕ
-  v = y.node.0
+  v = n.0
 
   -- what a pointer holds before the split it holds after it; u holds the node that is split
   cut_run : (a : Action) (u : ℕ) → cuts a ≡ some u → ptr h u ≡ cell v → Views (view a h) v
@@ -59,14 +64,14 @@ module _ {l : List ℕ} {d : Decoded} {s : ℕ} {h : Heap} {y : Way} (R : WayRea
   cut_run (follow i j) u c e q = some-none c
   cut_run (link i x) u c e q =
       rw (view_is (ptr h i) v q)
-      (write_leaks h R.is_shape.closed v (node_used R sp) (value_of x (split_heap v k h))
+      (write_leaks h R.is_shape.closed v (node_used R n sp) (value_of x (split_heap v k h))
       (value_closed x (split_heap v k h) h refl R.is_shape.closed.0))
   cut_run (splice i j) u c e q =
       let p = pair_is (ptr h i) (ptr h j) v q in
       let f : p.first ≡ v = cell_inj (sym p.first_is ∙ ap (ptr h) (some_inj c) ∙ e) in
-      split_leaks (splice i j) k v p.second h R.is_shape.closed (pair_view p ∙ ap (λ n. two_nodes n p.second) f)
+      split_leaks (splice i j) k v p.second h R.is_shape.closed (pair_view p ∙ ap (λ m. two_nodes m p.second) f)
   cut_run (make i) u c e q = some-none c
-  cut_run (release i) u c e q = rw (view_is (ptr h i) v q) (free_leaks h R.is_shape.closed v (node_used R sp))
+  cut_run (release i) u c e q = rw (view_is (ptr h i) v q) (free_leaks h R.is_shape.closed v (node_used R n sp))
 
 -- ---- the values of a record
 
@@ -103,16 +108,17 @@ leak_stands : (op : Op) (n : ℕ) (h : Heap) → collects (kind op) ≡ false �
 leak_stands op n h c e = ap (λ b. settle b (perform (action op) n h)) c ∙ e
 
 -- the tail of the node that u holds goes with its head's next
-pub cut_leaks : (l : List ℕ) (d : Decoded) (y : Way) → cuts_at d.op ≡ true
-    → (y.split ≡ true) × (y.node.0 ≡ byte l (d.u.0 + 4)) → Leaks l d y
+pub cut_leaks : (l : List ℕ) (d : Decoded) (y : Way) → cuts_at (op_number d.op) ≡ true
+    → y.split ≡ Some (record { 0 = byte l (d.u.0 + 4) }) → Leaks l d y
 cut_leaks l d y c e s h R =
     let u = d.u.0 in
-    let lt : byte l (u + 4) < byte l 3 = omega (arith, e.1, node_below R e.0) in
-    rw e.0
-    (leak_stands (op_in d) (length h.slots) (split_heap y.node.0 (length h.slots) h)
-    (view_collects (kind (op_in d)) h y.node.0 (R.is_node e.0))
-    (cut_run R e.0 (action (op_in d)) u (cuts_op d.op u d.w.0 R.statement.known c)
-    (held_by R u R.statement.is_u lt ∙ ap cell (sym e.1)) (R.is_node e.0)))
+    let n : Node = record { 0 = byte l (u + 4) } in
+    let looked = R.is_node n e in
+    rw e
+    (leak_stands (op_in d) (length h.slots) (split_heap n.0 (length h.slots) h)
+    (view_collects (kind (op_in d)) h n.0 looked)
+    (cut_run R n e (action (op_in d)) u (cuts_op (op_number d.op) u d.w.0 R.statement.known c)
+    (held_by R u R.statement.is_u (node_below R n e)) looked))
 
 -- ---- a node that one pointer alone holds
 
@@ -181,26 +187,29 @@ module _ {l : List ℕ} {d : Decoded} {s : ℕ} {h : Heap} {y : Way} (R : WayRea
           rw (set_is e) (new_leaks H u a used only empty (length h.slots) (omega (arith, A.0, nodes_is R)))
       over_run (release i) e n = some-none e
 
-    another : Overwrites l d.op u d.w.0 → Another (reads (action (op_in d)))
+    another : Overwrites l (op_number d.op) u d.w.0 → Another (reads (action (op_in d)))
     another o =
-        subst Another (sym (reads_op d.op u d.w.0 R.statement.known))
-        (eq-case d.op 2 (λ e. rw (eq-eqb d.op 2 e) (o.0 e, R.statement.is_w))
-        (λ f. rw f (eq-case d.op 3 (λ e. rw (eq-eqb d.op 3 e) (o.1 e, R.statement.is_w)) (λ g. rw g tt))))
+        let op = op_number d.op in
+        subst Another (sym (reads_op op u d.w.0 R.statement.known))
+        (eq-case op 2 (λ e. rw (eq-eqb op 2 e) (o.0 e, R.statement.is_w))
+        (λ f. rw f (eq-case op 3 (λ e. rw (eq-eqb op 3 e) (o.1 e, R.statement.is_w)) (λ g. rw g tt))))
 
-pub alone_leaks : (l : List ℕ) (d : Decoded) (y : Way) → keeps_at d.op ≡ false → cuts_at d.op ≡ false
-    → Overwrites l d.op d.u.0 d.w.0 → AloneHolds l d.u.0 → Leaks l d y
-alone_leaks l d y q c o A s h R =
-    let u = d.u.0 in
-    let a = byte l (u + 4) in
-    let below : a < length h.slots = omega (arith, A.0, nodes_is R) in
-    let v = y.node.0 in
-    let st = sets_op d.op u d.w.0 R.statement.known c q in
-    let an = another R A o in
-    let n = op_collects d.op u d.w.0 R.statement.known ∙ ne_eqb d.op 13 o.2 in
-    let k = length h.slots in
-    bool_case y.split
-    (λ e. rw e (leak_stands (op_in d) k (split_heap v k h) n
-    (over_run R A (split_heap v k h) refl (split_used h v a (node_used R e) (in_use R A))
-    (split_none h v a below (none_next R A)) (action (op_in d)) st an)))
-    (λ e. rw e (leak_stands (op_in d) k h n
-    (over_run R A h refl (in_use R A) (none_next R A) (action (op_in d)) st an)))
+pub alone_leaks : (l : List ℕ) (d : Decoded) (y : Way) → keeps_at (op_number d.op) ≡ false
+    → cuts_at (op_number d.op) ≡ false → Overwrites l (op_number d.op) d.u.0 d.w.0 → AloneHolds l d.u.0 → Leaks l d y
+alone_leaks l d y q c o A s h R = by_split y.split refl
+  where
+    -- the run on any heap that is as the shape but for a split
+    lost : (H : Heap) → H.ptrs ≡ h.ptrs → Used (next H) (byte l (d.u.0 + 4)) → NoNext (next H) (byte l (d.u.0 + 4))
+        → carry_out (op_in d) (length h.slots) H ≡ fault leak
+    lost H ps used empty =
+        let op = op_number d.op in
+        leak_stands (op_in d) (length h.slots) H (op_collects op d.u.0 d.w.0 R.statement.known ∙ ne_eqb op 13 o.2)
+        (over_run R A H ps used empty (action (op_in d)) (sets_op op d.u.0 d.w.0 R.statement.known c q) (another R A o))
+
+    by_split : (sp : Option Node) → y.split ≡ sp → carry_out (op_in d) (length h.slots) (way_in y h).heap ≡ fault leak
+    by_split (Some n) e =
+        let a = byte l (d.u.0 + 4) in
+        let below : a < length h.slots = omega (arith, A.0, nodes_is R) in
+        rw e (lost (split_heap n.0 (length h.slots) h) refl (split_used h n.0 a (node_used R n e) (in_use R A))
+        (split_none h n.0 a below (none_next R A)))
+    by_split None e = rw e (lost h refl (in_use R A) (none_next R A))

@@ -1,2 +1,3 @@
 pub mod Ops
 pub mod Leaking
+pub mod Once

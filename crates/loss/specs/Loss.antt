@@ -1,6 +1,7 @@
 -- A leak that is seen before the statement is run: what is asked of the location's record, and what it says of the
 -- run. Assumes nothing.
 use Rattle.std.specs.Prelude.{ℕ, ◌+◌, ◌<◌, ◌≤◌, ◌≡◌, false, List, length}
+use Rattle.model.specs.Codes.{op_number}
 use Rattle.model.specs.Heap.{Heap}
 use Rattle.model.specs.Machine.{fault, leak, carry_out}
 use Rattle.model.specs.Records.{byte}
@@ -26,7 +27,7 @@ pub record LossReady (l : List ℕ) (d : Decoded) (y : Way) : Type 0 where
   pub number : ℕ
   pub shape : Heap
   pub ready : WayReady l d number shape y
-  pub changes : keeps_at d.op ≡ false
+  pub changes : keeps_at (op_number d.op) ≡ false
 
 -- whichever location was given, the run is a leak
 abbrev pub Leaks : List ℕ → Decoded → Way → Type 0

@@ -1,7 +1,7 @@
 -- A run by its parts: from what each callee ensures to what the next asks, and to what the whole ensures.
 use Prim.Native.Nat.{ℕ, ◌≤◌, ◌<◌}
 use native.Mathlib.Omega.{arith}
-use mathlib.Core.Path.{◌≡◌, ◌∙◌, ap, ap₂, subst, sym}
+use mathlib.Core.Path.{◌≡◌, ◌∙◌, ap, ap₂, refl, subst, sym}
 use mathlib.Core.Bool.{Bool, true, false, cond, ◌||◌}
 use mathlib.Core.List.{List, ◌∷◌}
 use lib.Dec.{eqb}
@@ -10,7 +10,7 @@ use borrow.Author.Tests.{eq-eqb, eqb-true}
 use Rattle.model.specs.Base.{mem}
 use Rattle.model.specs.Heap.{Heap, IsHeap, closed, kept, next, order}
 use Rattle.model.specs.Image.{cell_slot, heap_of}
-use Rattle.model.specs.Machine.{action, collect, collects, done, Fault, at_null, at_undef, effect, fault_number, kind, leak}
+use Rattle.model.specs.Machine.{action, carry_out, collect, collects, done, effect, kind}
 use Rattle.model.proofs.expansion.Collect.{collect_closed, collect_kept, order_collect}
 use Rattle.model.proofs.expansion.Facts.{is_heap_lem, kept_test, test_closed}
 use Rattle.model.proofs.records.Ops.{op_collects}
@@ -18,48 +18,40 @@ use Rattle.model.proofs.lists.Logic.{bool_case, eq-case, or_cases}
 use Rattle.model.proofs.visits.Order.{pigeon, toured, used_below}
 use Rattle.model.specs.Notions.{Used}
 use Rattle.effect.specs.Effect.{HasEffect, effect_of}
-use Rattle.effect.proofs.Laws.{answer_done, answer_fault, effect_closed, image_slots}
+use Rattle.effect.proofs.Laws.{effect_closed, image_slots}
 use Rattle.visit.proofs.Whole.{kept_held}
 use Rattle.visit.proofs.Laws.{kept_marked, visited_length}
 use Rattle.visit.specs.Visit.{Held, VisitReady, Visited}
-use Rattle.machine.proofs.Laws.{run_collects, run_fault, run_keeps}
+use Rattle.machine.proofs.Laws.{run_collects, run_keeps}
 use Rattle.model.specs.Structs.{op_in}
 use Rattle.model.specs.declared.Decoded.{Decoded}
-use Rattle.machine.specs.declared.Ran.{Ran}
+use Rattle.std.specs.Prelude.{Result, Ok, Err}
+use Rattle.std.specs.Result.{IfOk}
+use Rattle.model.specs.Codes.{fault_in, op_number}
+use Rattle.model.specs.declared.codes.Fault.{Fault}
 use Rattle.collection.specs.Left.{left_bytes}
 use Rattle.collection.proofs.Laws.{left_heap, left_held, left_length}
-use Rattle.machine.specs.Run.{Bytes, IsRun, RunReady, Settled, all_marked, bytes, heap_in, kept_by}
+use Rattle.machine.specs.Run.{Bytes, IsRun, RunDone, RunReady, Settled, all_marked, bytes, heap_in, kept_by}
 
-abbrev ran : ℕ → ℕ → Ran
-ran f n = record { fault = f; visited = n }
+-- what a run answers that visited n cells, by what becomes of those that it lost
+abbrev pub at_end : Result (Unit {0}) Fault → ℕ → Result ℕ Fault
+at_end (Ok _) n = Ok n
+at_end (Err f) n = Err f
 
-fault_most : (f : Fault) → fault_number f ≤ 3
-fault_most at_null = omega arith
-fault_most at_undef = omega arith
-fault_most leak = omega arith
+end_fault : (r : Result (Unit {0}) Fault) (n : ℕ) → fault_in (at_end r n) ≡ fault_in r
+end_fault (Ok _) n = refl
+end_fault (Err f) n = refl
+
+end_done : (r : Result (Unit {0}) Fault) (n : ℕ) (P : ℕ → Type 0) → (fault_in r ≡ 0 → P n) → IfOk (at_end r n) P
+end_done (Ok _) n P h = h refl
+end_done (Err f) n P h = tt
 
 -- ---- a run: r and the image afterwards are what the effect answers
 module _ {d : Decoded} {x : ℕ} {before : Bytes} {visit seen : List ℕ} (p : RunReady d x before visit seen)
-    (after : Bytes) {r : ℕ}
-    (has : HasEffect (effect (op_in d) x) before.pointers before.cells r after.pointers after.cells) where
-  gave : effect_of r (heap_in after) ≡ effect (op_in d) x (heap_in before)
-  gave = has.outcome
-
-  -- a fault
-  pub run_faults : (visit' seen' : List ℕ) → (r ≡ 0 → ⊥) → IsRun d x before after visit' seen' (ran r 0)
-  run_faults visit' seen' n = record {
-    outcome = run_fault (op_in d) x r (heap_in before) (heap_in after) gave n;
-    is_heap = λ z. absurd (n z);
-    visited = λ z. absurd (n z);
-    few = λ z. absurd (n z);
-    held = λ z. absurd (n z);
-    known = let a = answer_fault (action (op_in d)) x (heap_in before) p.ready.is_closed r (heap_in after) gave n in
-        omega (arith, fault_most a.0, a.2);
-  }
-
-  module _ (z : r ≡ 0) where
+    (after : Bytes) where
+  module _ (has : HasEffect (effect (op_in d) x) before.pointers before.cells 0 after.pointers after.cells) where
     is_done_lem : effect (op_in d) x (heap_in before) ≡ done (heap_in after)
-    is_done_lem = answer_done r (heap_in after) (effect (op_in d) x (heap_in before)) gave z
+    is_done_lem = sym has.outcome
 
     -- the heap is closed, and has as many cells
     done_closed : closed (heap_in after) ≡ true
@@ -106,63 +98,64 @@ module _ {d : Decoded} {x : ℕ} {before : Bytes} {visit seen : List ℕ} (p : R
           eq-case n (length after.cells)
           (λ q. rw (eq-eqb n (length after.cells) q) (sym (kept_marked v ∙ all_kept q room))) (λ q. rw q)
 
-      -- f is the fault for lost cells, and ds the cells afterwards
-      module _ (same : length order' ≡ length visit) {f : ℕ} {ds : List ℕ}
-          (S : Settled d.op after.cells marks n f ds) where
+      -- r is the fault for lost cells, and ds the cells afterwards
+      module _ (same : length order' ≡ length visit) (r : Result (Unit {0}) Fault) {ds : List ℕ}
+          (S : Settled (op_number d.op) after.cells marks n (fault_in r) ds) where
         abbrev g : Heap
         g = heap_in after
 
+        abbrev image : Bytes
+        image = bytes after.pointers ds
+
         abbrev Run : Type 0
-        Run = IsRun d x before (bytes after.pointers ds) order' marks (ran f n)
+        Run = IsRun d x before image order' marks (at_end r n)
+
+        ended : effect_of (fault_in r) (heap_in image) ≡ carry_out (op_in d) x (heap_in before)
+            → (fault_in r ≡ 0 → RunDone image order' marks n) → Run
+        ended o h = record {
+          outcome = ap (λ f. effect_of f (heap_in image)) (end_fault r n) ∙ o;
+          done = end_done r n _ h;
+        }
 
         -- the fault and the cells, where it is known whether lost cells are collected
-        by_op : (b : Bool) → eqb d.op 13 ≡ b → (f ≡ cond (b || kept_by after.cells marks n) 0 3)
+        by_op : (b : Bool) → eqb (op_number d.op) 13 ≡ b → (fault_in r ≡ cond (b || kept_by after.cells marks n) 0 3)
             × (ds ≡ cond b (left_bytes marks 0 after.cells) after.cells) × (collects (kind (op_in d)) ≡ b)
         by_op b e = (
           S.fault ∙ ap (λ y. cond (y || kept_by after.cells marks n) 0 3) e,
           S.cells ∙ ap (λ y. cond y (left_bytes marks 0 after.cells) after.cells) e,
-          op_collects d.op d.u.0 d.w.0 p.ready.known ∙ e,
+          op_collects (op_number d.op) d.u.0 d.w.0 p.ready.known ∙ e,
         )
 
-        collecting : eqb d.op 13 ≡ true → Run
+        collecting : eqb (op_number d.op) 13 ≡ true → Run
         collecting e =
             let (fe, de, ce) = by_op true e in
             let cl = test_closed g done_closed in
             let he : heap_of after.pointers ds ≡ collect g = ap (heap_of after.pointers) de ∙ left_heap v in
-            record {
-              outcome = ap₂ effect_of fe he ∙ run_collects (op_in d) x (heap_in before) g is_done_lem ce;
-              is_heap = λ _. subst IsHeap (sym he) (is_heap_lem (collect g) (collect_closed g cl) (collect_kept g cl));
-              visited = λ _. v.visited ∙ sym (ap order he ∙ order_collect g cl);
-              few = λ _. omega (arith, v.few, ap length de, left_length marks 0 after.cells);
-              held = λ _. subst (λ l. Held after.pointers l marks) (sym de) (left_held v);
-              known = omega (arith, fe);
-            }
+            ended (ap₂ effect_of fe he ∙ run_collects (op_in d) x (heap_in before) g is_done_lem ce) (λ _. record {
+              is_heap = subst IsHeap (sym he) (is_heap_lem (collect g) (collect_closed g cl) (collect_kept g cl));
+              visited = v.visited ∙ sym (ap order he ∙ order_collect g cl);
+              few = omega (arith, v.few, ap length de, left_length marks 0 after.cells);
+              held = subst (λ l. Held after.pointers l marks) (sym de) (left_held v);
+            })
 
         kept_is : kept g ≡ kept_by after.cells marks n
         kept_is = sym (kept_marked v) ∙ sym (number_first (omega (arith, visit_ready.room)))
 
-        keeping : eqb d.op 13 ≡ false → Run
+        keeping : eqb (op_number d.op) 13 ≡ false → Run
         keeping e =
             let (fe, de, ce) = by_op false e in
             let he : heap_of after.pointers ds ≡ g = ap (heap_of after.pointers) de in
+            let keeps = run_keeps (op_in d) x (heap_in before) g is_done_lem ce in
             bool_case (kept_by after.cells marks n)
-            (λ k. let i = kept_is ∙ k in let none : f ≡ 0 = fe ∙ rw k in record {
-              outcome = ap₂ effect_of none he ∙ run_keeps (op_in d) x (heap_in before) g is_done_lem ce true i;
-              is_heap = λ _. subst IsHeap (sym he) (record { is_closed = done_closed; is_kept = i });
-              visited = λ _. v.visited ∙ sym (ap order he);
-              few = λ _. omega (arith, v.few, ap length de);
-              held = λ _. subst (λ l. Held after.pointers l marks) (sym de) (kept_held v i);
-              known = omega arith;
-            })
-            (λ k. let three : f ≡ 3 = fe ∙ rw k in record {
-              outcome = ap₂ effect_of three he
-                  ∙ run_keeps (op_in d) x (heap_in before) g is_done_lem ce false (kept_is ∙ k);
-              is_heap = λ z. absurd (omega arith);
-              visited = λ z. absurd (omega arith);
-              few = λ z. absurd (omega arith);
-              held = λ z. absurd (omega arith);
-              known = omega arith;
-            })
+            (λ k. let i = kept_is ∙ k in let none : fault_in r ≡ 0 = fe ∙ rw k in
+            ended (ap₂ effect_of none he ∙ keeps true i) (λ _. record {
+              is_heap = subst IsHeap (sym he) (record { is_closed = done_closed; is_kept = i });
+              visited = v.visited ∙ sym (ap order he);
+              few = omega (arith, v.few, ap length de);
+              held = subst (λ l. Held after.pointers l marks) (sym de) (kept_held v i);
+            }))
+            (λ k. let three : fault_in r ≡ 3 = fe ∙ rw k in
+            ended (ap₂ effect_of three he ∙ keeps false (kept_is ∙ k)) (λ z. absurd (omega arith)))
 
         pub run_settled : Run
-        run_settled = bool_case (eqb d.op 13) collecting keeping
+        run_settled = bool_case (eqb (op_number d.op) 13) collecting keeping

@@ -1,15 +1,17 @@
 -- What a run of a statement on a lent heap image asks and gives. Assumes nothing.
-use Rattle.std.specs.Prelude.{ℕ, ◌<◌, ◌≤◌, ◌≡◌, Bool, cond, not, ◌||◌, List, map, eqb, length, get_or, take}
+use Rattle.std.specs.Prelude.{ℕ, ◌<◌, ◌≤◌, ◌≡◌, Bool, cond, not, ◌||◌, List, map, eqb, length, get_or, take, Result}
+use Rattle.std.specs.Result.{IfOk}
+use Rattle.model.specs.Codes.{fault_in}
 use Rattle.model.specs.Heap.{Heap, IsHeap, each_used, order}
 use Rattle.model.specs.Image.{cell_slot, heap_of}
 use Rattle.model.specs.Machine.{action, carry_out}
 use Rattle.model.specs.Notions.{Room}
 use Rattle.model.specs.Structs.{op_in}
 use Rattle.model.specs.declared.Decoded.{Decoded}
+use Rattle.model.specs.declared.codes.Fault.{Fault}
 use Rattle.effect.specs.Effect.{EffectReady, effect_of}
 use Rattle.visit.specs.Visit.{Held}
 use Rattle.collection.specs.Left.{left_bytes}
-use Rattle.machine.specs.declared.Ran.{Ran}
 
 -- a heap image
 pub record Bytes : Type 0 where
@@ -43,12 +45,14 @@ pub record Settled (op : ℕ) (cs s : List ℕ) (n r : ℕ) (left : List ℕ) : 
   pub fault : r ≡ cond (eqb op 13 || kept_by cs s n) 0 3
   pub cells : left ≡ cond (eqb op 13) (left_bytes s 0 cs) cs
 
--- The fault and the image afterwards are what the machine's run gives; without a fault the visited cells stand in
--- their order, and the marks tell the core cells.
-pub record IsRun (d : Decoded) (x : ℕ) (before after : Bytes) (visit seen : List ℕ) (r : Ran) : Type 0 where
-  pub outcome : effect_of r.fault (heap_in after) ≡ carry_out (op_in d) x (heap_in before)
-  pub is_heap : r.fault ≡ 0 → IsHeap (heap_in after)
-  pub visited : r.fault ≡ 0 → take r.visited visit ≡ order (heap_in after)
-  pub few : r.fault ≡ 0 → r.visited ≤ length after.cells
-  pub held : r.fault ≡ 0 → Held after.pointers after.cells seen
-  pub known : r.fault ≤ 3
+-- A run that has no fault: the visited cells, n of them, stand in their order, and the marks tell the core cells.
+pub record RunDone (after : Bytes) (visit seen : List ℕ) (n : ℕ) : Type 0 where
+  pub is_heap : IsHeap (heap_in after)
+  pub visited : take n visit ≡ order (heap_in after)
+  pub few : n ≤ length after.cells
+  pub held : Held after.pointers after.cells seen
+
+-- The fault and the image afterwards are what the machine's run gives.
+pub record IsRun (d : Decoded) (x : ℕ) (before after : Bytes) (visit seen : List ℕ) (r : Result ℕ Fault) : Type 0 where
+  pub outcome : effect_of (fault_in r) (heap_in after) ≡ carry_out (op_in d) x (heap_in before)
+  pub done : IfOk r (RunDone after visit seen)

@@ -3,42 +3,37 @@
 #![tactic(auto)]
 
 ghost use Rattle.std.specs.Prelude.{◌≡◌, ◌≤◌, length};
+ghost use Rattle.model.specs.Codes.{fault_in, op_number};
 ghost use Rattle.machine.specs.Run.{IsRun, RunReady, Settled, bytes, kept_by};
 
-use model::Decoded;
-
-// What a run gives: the fault (0 for none) and, without one, how many cells were visited.
-#[derive(Clone, Copy)]
-pub struct Ran {
-    pub fault: u8,
-    pub visited: usize,
-}
+use model::{Decoded, Fault, Op};
 
 // Whether no cell is lost, where n cells have marks: if that is all of them, there is nothing to look for.
 fn keeps_all(cells: &[u8], seen: &[u8], n: usize) -> bool
     requires { length cells.now ≤ length seen.now }
     ensures { result ≡ kept_by cells.now seen.now n }
 {
-    if n == cells.len() {
-        return true;
-    }
-    visit::nothing_lost(cells, seen)
+    n == cells.len() || visit::nothing_lost(cells, seen)
 }
 
-// What becomes of lost cells, where n cells have marks: drop collects them, at any other statement they are fault 3.
-// Answers the fault, 0 for none.
-pub fn settle(op: u8, cells: &mut [u8], seen: &[u8], n: usize) -> u8
+// What becomes of lost cells, where n cells have marks: drop collects them, at any other statement they are a leak.
+pub fn settle(op: Op, cells: &mut [u8], seen: &[u8], n: usize) -> Result<(), Fault>
     requires { length cells.old ≤ length seen.now }
-    ensures { Settled op cells.old seen.now n result cells.new }
+    ensures { Settled (op_number op) cells.old seen.now n (fault_in result) cells.new }
 {
-    if op == 13 {
+    if op == Op::LetGo {
         collection::collect(cells, seen);
-        return 0;
+        return Ok(());
     }
-    if keeps_all(&cells[..], seen, n) { 0 } else { 3 }
+    if keeps_all(&cells[..], seen, n) {
+        Ok(())
+    } else {
+        Err(Fault::Leak)
+    }
 }
 
-// Runs a statement: faults 1 and 2 first, then the effect, then what it lost.
+// Runs a statement: the faults of its effect first, then the effect, then what it lost. Answers how many cells were
+// visited.
 pub fn run(
     d: Decoded,
     x: usize,
@@ -46,22 +41,13 @@ pub fn run(
     cells: &mut [u8],
     order: &mut [u8],
     seen: &mut [u8],
-) -> Ran
+) -> Result<usize, Fault>
     requires { RunReady d x (bytes pointers.old cells.old) order.old seen.old }
     ensures { IsRun d x (bytes pointers.old cells.old)
         (bytes pointers.new cells.new) order.new seen.new result }
 {
-    let fault = effect::run_effect(d, x, pointers, cells);
-    if fault != 0 {
-        return Ran {
-            fault: fault,
-            visited: 0,
-        };
-    }
+    effect::run_effect(d, x, pointers, cells)?;
     let n = visit::visit(&pointers[..], &cells[..], order, seen);
-    let lost = settle(d.op, cells, &seen[..], n);
-    Ran {
-        fault: lost,
-        visited: n,
-    }
+    settle(d.op, cells, &seen[..], n)?;
+    Ok(n)
 }

@@ -8,3 +8,4 @@ pub mod Finding
 pub mod Digits
 pub mod Sorted
 pub mod Highest
+pub mod Chains

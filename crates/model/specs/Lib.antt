@@ -8,6 +8,7 @@ pub mod Translate
 pub mod Image
 pub mod Part
 pub mod Search
+pub mod Codes
 pub mod Answers
 pub mod Runs
 pub mod Structs

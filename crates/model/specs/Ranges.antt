@@ -1,6 +1,6 @@
 -- 02, job 9, "Counters known only within ranges": which starts follow a path, for all tables, locations, ranges and
 -- paths. Assumes nothing.
-use Rattle.std.specs.Prelude.{ℕ, suc, max, min, ◌+◌, ◌≤◌, ◌<◌, ◌≡◌, Bool, true, false, ◌&&◌, cond, not, List, [], ◌∷◌, ◌++◌, map, eqb, leb, ltb, get_or, length, replicate, set, take}
+use Rattle.std.specs.Prelude.{ℕ, suc, max, min, ◌+◌, ◌≤◌, ◌<◌, ◌≡◌, Bool, true, false, ◌&&◌, cond, not, List, [], ◌∷◌, ◌++◌, map, eqb, leb, ltb, get_or, length, replicate, set, take, Result, Ok, Err}
 use Rattle.std.proofs.Math.Option.{Option, none, some}
 use Rattle.model.specs.Base.{most_nodes, numbers, place_of}
 use Rattle.model.specs.Heap.{Heap}
@@ -10,7 +10,10 @@ use Rattle.model.specs.Records.{GuardCode, byte, filled, record_at, word}
 use Rattle.model.specs.Runs.{Config, Forced, Matched, State, Supply, applied, fed, final, guards_of, move_of, nodes_at, running, step_of, trace, updates_of}
 use Rattle.model.specs.Translate.{Tables}
 use Rattle.model.specs.Walking.{most_moves}
-use Rattle.model.specs.declared.Ranged.{Ranged}
+use Rattle.model.specs.declared.Ranged as declared
+use Rattle.model.specs.declared.Ranged.TheVariants as answer
+use Rattle.model.specs.declared.codes.RangeRefusal.{RangeRefusal}
+use Rattle.model.specs.declared.codes.RangeRefusal.TheVariants as refusal
 
 -- "a lowest and highest value for each of its counters"
 pub record Box : Type 0 where
@@ -127,12 +130,27 @@ ranging t l rs ns =
 abbrev pub numbers_of : Box → List ℕ
 numbers_of b = filled most_nodes b.lows ++ filled most_nodes b.highs
 
+-- the outcome in numbers: the refusal's, 0 for none; its place, or the first position where none can go on; whether
+-- some start follows the path, 1 or 0; the location reached and the ranges there
+pub record Ranged : Type 0 where
+  pub refusal : ℕ
+  pub place : ℕ
+  pub follows : ℕ
+  pub location : ℕ
+  pub ranges : List ℕ
+
 -- The outcome in numbers. "A path to a fault has no final ranges": a fault has no nodes.
 abbrev pub ranged_to : Ranging → Ranged
 ranged_to (follows l b) =
     record { refusal = 0; place = 0; follows = 1; location = l; ranges = numbers_of b }
 ranged_to (ends_at i) = record { refusal = 0; place = i; follows = 0; location = 0; ranges = replicate 24 0 }
 ranged_to (refused_at x p) = record { refusal = x; place = p; follows = 0; location = 0; ranges = replicate 24 0 }
+
+-- what the code answers: a refusal is 22 or 23
+abbrev pub ranged_of : Ranging → Result declared.Ranged RangeRefusal
+ranged_of (follows l b) = Ok (answer.Reached l (filled most_nodes b.lows) (filled most_nodes b.highs))
+ranged_of (ends_at i) = Ok (answer.Stuck i)
+ranged_of (refused_at x p) = Err (cond (eqb x 22) (refusal.Range p) (refusal.Path p))
 
 -- ---- the words of the promises
 

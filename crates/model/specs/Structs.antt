@@ -1,23 +1,25 @@
 -- What the structs that the code passes by value stand for. Assumes nothing.
-use Rattle.std.specs.Prelude.{ℕ, zero, suc, ◌≤◌, ◌<◌, Bool, ◌&&◌, ◌||◌, List, [], ◌∷◌, ◌++◌, map, ◌≡◌, eqb, leb, length, take}
+use Rattle.std.specs.Prelude.{ℕ, zero, suc, ◌≤◌, ◌<◌, Bool, ◌&&◌, ◌||◌, List, [], ◌∷◌, ◌++◌, map, ◌≡◌, eqb, leb, length, take, Result, Ok, Err}
 use Rattle.model.specs.Base.{most_nodes, pointer_count}
 use Rattle.model.specs.Edges.{Edge, Guard, is_more, is_one}
 use Rattle.model.specs.Machine.{Op, Stmt}
 use Rattle.model.specs.Records.{GuardCode, Row, byte, failed_node, first_failed, guard_code, loc_record, op_count, op_of, update_code}
 use Rattle.model.specs.Translate.{Tables}
+use Rattle.model.specs.Codes.{op_at, op_number, reason_in, reason_node, reason_number}
 use Rattle.model.specs.declared.Counts.{Counts}
 use Rattle.model.specs.declared.Decoded.{Decoded}
 use Rattle.model.specs.declared.EdgeMade.{EdgeMade}
-use Rattle.model.specs.declared.Failure.{Failure}
 use Rattle.model.specs.declared.Guard as declared
 use Rattle.model.specs.declared.Guards.{Guards}
+use Rattle.model.specs.declared.codes.Reason.{Reason}
+use Rattle.model.specs.declared.tables.Tables.{Tables as LentTables}
 
 -- ---- a statement's record, decoded
 
 -- the struct that the record r is decoded into
 abbrev pub decoded : List ℕ → Decoded
 decoded r = record {
-  op = byte r 1;
+  op = op_at (byte r 1);
   u = record { 0 = byte r 2 };
   w = record { 0 = byte r 3 };
   first = record { 0 = byte r 4 };
@@ -25,11 +27,11 @@ decoded r = record {
 }
 
 abbrev pub op_in : Decoded → Op
-op_in d = op_of d.op d.u.0 d.w.0
+op_in d = op_of (op_number d.op) d.u.0 d.w.0
 
 -- the fields of an accepted statement
 pub record DecodedOk (d : Decoded) : Type 0 where
-  pub known : d.op < op_count
+  pub known : op_number d.op < op_count
   pub is_u : d.u.0 < pointer_count
   pub is_w : d.w.0 < pointer_count
 
@@ -46,19 +48,33 @@ stmt_in d = record { op = op_in d; first_target = d.first.0; second_target = d.s
 
 -- ---- the first check that fails
 
-abbrev pub failing : ℕ → ℕ → Failure
-failing n v = record { number = n; node = record { 0 = v } }
+-- in numbers: its own, 0 for none, and that of the node that is told with it, 0 for none
+pub record Failed : Type 0 where
+  pub number : ℕ
+  pub node : ℕ
+
+abbrev pub failing : ℕ → ℕ → Failed
+failing n v = record { number = n; node = v }
 
 -- a failure tells the first of the checks that does not pass, and its node
-pub record Tells (cs : List Row) (f : Failure) : Type 0 where
+pub record Tells (cs : List Row) (f : Failed) : Type 0 where
   pub number : f.number ≡ first_failed cs
-  pub node : f.node.0 ≡ failed_node cs
+  pub node : f.node ≡ failed_node cs
+
+-- what the code answers
+abbrev pub failed_in : {A : Type 0} → Result A Reason → Failed
+failed_in (Ok _) = failing 0 0
+failed_in (Err r) = failing (reason_number r) (reason_node r)
 
 -- ---- the counts of the two tables
 
 -- the two tables as a reader has them, with their counts in use
 abbrev pub tables_in : List ℕ → List ℕ → Counts → Tables
 tables_in ls es c = record { loc_bytes = ls; edge_bytes = es; loc_count = c.locations; edge_count = c.edges }
+
+-- the same, lent together
+abbrev pub tables_lent : LentTables → Tables
+tables_lent t = tables_in t.locations.now t.edges.now t.counts
 
 -- ---- guards
 

@@ -1,6 +1,6 @@
 -- 02, job 7, "Walking the automaton": one move and a walk, for all tables, counts, configurations and edge numbers.
 -- Assumes nothing.
-use Rattle.std.specs.Prelude.{ℕ, zero, suc, ◌^◌, Bool, true, false, ◌&&◌, List, [], ◌∷◌, leb, ltb, length, take}
+use Rattle.std.specs.Prelude.{ℕ, zero, suc, ◌^◌, Bool, true, false, ◌&&◌, List, [], ◌∷◌, leb, ltb, length, take, Option, Some, None, Result, Ok, Err}
 use Rattle.std.proofs.Math.Option.{none, some}
 use Rattle.model.specs.Base.{all, most_nodes}
 use Rattle.model.specs.Image.{counters_of}
@@ -9,8 +9,9 @@ use Rattle.model.specs.Records.{filled}
 use Rattle.model.specs.Runs.{Config, move_of, nodes_at}
 use Rattle.model.specs.Translate.{Tables}
 use Rattle.model.specs.declared.Configuration.{Configuration}
-use Rattle.model.specs.declared.Moved.{Moved}
-use Rattle.model.specs.declared.Walked.{Walked}
+use Rattle.model.specs.Codes.{move_refusal_number}
+use Rattle.model.specs.declared.Walked as declared
+use Rattle.model.specs.declared.codes.MoveRefusal.{MoveRefusal}
 
 -- "A configuration does when its location isn't below the count, or a counter is 0 below k or not 0 past it."
 abbrev pub configuration_keeps : Tables → Configuration → Bool
@@ -31,6 +32,11 @@ configuration_of c = record { location = c.loc; counters = filled most_nodes c.v
 -- "21, when a counter would pass 32 bits": none does
 abbrev pub in_counters : List ℕ → Bool
 in_counters = all (λ v. ltb v (2 ^ 32))
+
+-- what a move gives: the refusal's number, 0 for none, and the configuration
+pub record Moved : Type 0 where
+  pub refusal : ℕ
+  pub configuration : Configuration
 
 -- "a refused move changes nothing"
 abbrev pub stays_with : ℕ → Configuration → Moved
@@ -56,6 +62,12 @@ moved t c n =
 abbrev pub most_moves : ℕ
 most_moves = 4096
 
+-- what a walk gives: the refusal's number, 0 for none, how many moves were made, and the configuration
+pub record Walked : Type 0 where
+  pub refusal : ℕ
+  pub made : ℕ
+  pub configuration : Configuration
+
 abbrev pub walked_to : ℕ → ℕ → Configuration → Walked
 walked_to x made c = record { refusal = x; made = made; configuration = c }
 
@@ -77,3 +89,17 @@ walked t c ns =
       | false ↦ walked_to 20 0 c
       | true ↦ moves_along t 0 c ns
     ]
+
+-- ---- what the code answers
+
+-- of a move from c, which stays c where it is refused
+abbrev pub moved_of : Configuration → Result Configuration MoveRefusal → Moved
+moved_of c (Ok d) = stays_with 0 d
+moved_of c (Err r) = stays_with (move_refusal_number r) c
+
+abbrev pub refused_in : Option MoveRefusal → ℕ
+refused_in None = 0
+refused_in (Some r) = move_refusal_number r
+
+abbrev pub walked_of : declared.Walked → Walked
+walked_of w = walked_to (refused_in w.refused) w.made w.configuration

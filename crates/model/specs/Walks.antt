@@ -6,10 +6,8 @@ use Rattle.model.specs.Machine.{Stmt}
 use Rattle.model.specs.Records.{record_at, word}
 use Rattle.model.specs.Runs.{Advance, Config, Matched, State, Supply, fed, final, guards_hold, guards_of, move_of, nodes_at, step_of, trace}
 use Rattle.model.specs.Translate.{Tables}
-use Rattle.model.specs.Walking.{configuration_of, in_automaton, in_counters, keeps, walked_to}
+use Rattle.model.specs.Walking.{Moved, Walked, configuration_of, in_automaton, in_counters, keeps, walked_to}
 use Rattle.model.specs.declared.Configuration.{Configuration}
-use Rattle.model.specs.declared.Moved.{Moved}
-use Rattle.model.specs.declared.Walked.{Walked}
 
 -- a location in use, and a counter of 1 or more for each of its nodes
 pub record Stands (t : Tables) (a : Config) : Type 0 where

@@ -2,6 +2,12 @@
 // Numbers of three kinds that must not be mixed up, each a type of its own.
 #![tactic(auto)]
 
+pub mod codes;
+pub mod tables;
+
+pub use codes::{Fault, MoveRefusal, NoRecord, Op, RangeRefusal, Reason, Refusal};
+pub use tables::{Tables, record_at};
+
 // The sizes that the request names.
 pub const POINTERS: usize = 6;
 
@@ -23,85 +29,45 @@ pub const MOST_MOVES: usize = 4096;
 
 pub const OPS: u8 = 14;
 
+// The bytes of values that name no node or cell, and of a cell that is not in use: bytes, since images and records are
+// lent by callers in C.
+pub const UNUSED: u8 = 0xfd;
+
+pub const NULL: u8 = 0xfe;
+
+pub const UNDEFINED: u8 = 0xff;
+
 // A pointer's number, 0 to 5.
-#[derive(Clone, Copy)]
+#[derive(Clone, Copy, PartialEq, Eq)]
 pub struct Pointer(pub u8);
 
 // A node's number; in a shape 0 to 11.
-#[derive(Clone, Copy)]
+#[derive(Clone, Copy, PartialEq, Eq)]
 pub struct Node(pub u8);
 
 // A statement's number, 0 to 63.
-#[derive(Clone, Copy)]
+#[derive(Clone, Copy, PartialEq, Eq)]
 pub struct Statement(pub u8);
 
-// The first check of a record that fails: its number, 0 for none, and the node that is told with it, 0 for none.
-#[derive(Clone, Copy)]
-pub struct Failure {
-    pub number: u8,
-    pub node: Node,
-}
-
-// What `translate` answers: the two record counts, or a refusal's number, place and node.
-#[derive(Clone, Copy)]
-pub enum Translated {
-    Listed {
-        locations: usize,
-        edges: usize,
-    },
-    Refused {
-        number: u8,
-        place: usize,
-        node: Node,
-    },
-}
-
-// How a call ends that tells no node.
-#[derive(Clone, Copy)]
-pub enum Ended {
-    Accepted,
-    Refused { number: u8, place: usize },
-}
-
-// What `unfold` answers: how it ended, with a refusal's node too.
-#[derive(Clone, Copy)]
-pub enum Unfolded {
-    Accepted,
-    Refused {
-        number: u8,
-        place: usize,
-        node: Node,
-    },
-}
-
-// What `fold` answers: how it ended, the H record and the counters.
+// What `fold` makes of a heap image: the H record and the counters.
 #[derive(Clone, Copy)]
 pub struct Folded {
-    pub ended: Ended,
     pub shape: [u8; 32],
     pub counters: [u32; 12],
 }
 
-// What a plain step answers.
+// How a plain step ends that is not refused.
 #[derive(Clone, Copy)]
 pub enum Stepped {
     Went { branch: u8, next: Statement },
-    Faulted { fault: u8 },
+    Faulted(Fault),
     Stopped,
-    Refused { number: u8, place: usize },
-}
-
-// What a search answers: the number of the record that it found, or none.
-#[derive(Clone, Copy)]
-pub enum Found {
-    At { number: usize },
-    Nothing,
 }
 
 // A statement's record, decoded: the op, its pointers and its targets.
 #[derive(Clone, Copy)]
 pub struct Decoded {
-    pub op: u8,
+    pub op: Op,
     pub u: Pointer,
     pub w: Pointer,
     pub first: Statement,
@@ -156,29 +122,24 @@ pub struct Configuration {
     pub counters: [u32; 12],
 }
 
-// What a move gives: the refusal's number, 0 for none, and the configuration.
-#[derive(Clone, Copy)]
-pub struct Moved {
-    pub refusal: u8,
-    pub configuration: Configuration,
-}
-
-// What a walk gives: the refusal's number, 0 for none, how many moves were made, and the configuration.
+// How far a walk came: how many moves were made, where it stands then, and why the next one is refused, if one is.
 #[derive(Clone, Copy)]
 pub struct Walked {
-    pub refusal: u8,
     pub made: usize,
     pub configuration: Configuration,
+    pub refused: Option<MoveRefusal>,
 }
 
-// What the call for ranges gives: the refusal's number, 0 for none, with its place; whether some start within the
-// ranges follows the path (1 or 0), and if not, as the place, the first position where none can go on; else the
-// location reached, and the ranges of its counters: the lowest values of twelve, then the highest, 0 past the last.
+// What is said of a path and ranges for its start: how many of its edges some start follows, where none follows all; or
+// where it leads, and the lowest and the highest values of the counters there, 0 past the last.
 #[derive(Clone, Copy)]
-pub struct Ranged {
-    pub refusal: u8,
-    pub place: usize,
-    pub follows: u8,
-    pub location: usize,
-    pub ranges: [u32; 24],
+pub enum Ranged {
+    Stuck {
+        position: usize,
+    },
+    Reached {
+        location: usize,
+        lows: [u32; 12],
+        highs: [u32; 12],
+    },
 }

@@ -2,11 +2,11 @@
 use Prim.Native.Nat.{ℕ, zero, suc, ◌+◌, ◌-◌, ◌*◌, ◌/◌, ◌%◌, ◌^◌, ◌≤◌, ◌<◌}
 use mathlib.Core.Path.{◌≡◌, refl, sym, ap, ap₂, ◌∙◌}
 use mathlib.Core.Bool.{Bool, true, false}
-use mathlib.Core.List.{List, [], ◌∷◌, ◌++◌, map, append-nil}
+use mathlib.Core.List.{List, [], ◌∷◌, ◌++◌, map}
 use native.Mathlib.Nat.{pow-suc}
 use native.Mathlib.Omega.{arith}
 use lib.Dec.{ltb}
-use lib.ListN.{drop, drop_of_length-le, get_or, length, length-drop, length-map, replicate, set, take, take-append-drop}
+use lib.ListN.{drop, get_or, length, length-drop, length-map, replicate, set, take, take-append-drop}
 use lib.Pow.{pow_mono}
 use lib.Seq.{ext_get_or, get_or-take, length-take-le, take_all}
 use borrow.Author.Tests.{lt-ltb}
@@ -20,7 +20,6 @@ use Rattle.model.proofs.lists.Loops.{test_end, test_fail, test_pass}
 use Rattle.model.proofs.lists.Numbers.{length_numbers, map_number}
 use Rattle.model.proofs.lists.Slices.{map_end, map_fill, map_step}
 use Rattle.model.proofs.records.Bytes.{added_none, all_zero_lem, filled_length}
-use Rattle.answers.specs.Numbers.{over}
 use Rattle.moving.specs.Advanced.{Carries, advanced, standing}
 
 -- a counter of 32 bits
@@ -90,12 +89,6 @@ module _ (r cs : List ℕ) (n : ℕ) where
 
   pub filled_twelve : n ≤ 12 → length (filled 12 (map (applied cs) us)) ≡ 12
   filled_twelve h = filled_length 12 (map (applied cs) us) (omega (arith, length-map us (applied cs), us_length))
-
--- a list over another that is as long
-pub over_same : (xs l : List ℕ) → length xs ≡ length l → over xs l ≡ xs
-over_same xs l e =
-    let h : length l ≤ length xs = omega arith in
-    ap₂ ◌++◌ (take_all (length l) xs (omega arith)) (drop_of_length-le l h) ∙ append-nil xs
 
 -- a move along an edge that leads on: the new counters do not fit, or take the place of the old
 module _ (r : List ℕ) (k : ℕ) (c : Configuration) where

@@ -8,7 +8,7 @@ use native.Mathlib.Omega.{arith}
 use lib.Dec.{eqb, leb, ltb}
 use lib.ListN.{drop, get_or, length, length-drop, length-take, take}
 use lib.Seq.{get_or-take}
-use borrow.Author.Tests.{eq-eqb, eqb-true, le-ltb, lt-ltb, ltb-true, ne_eqb}
+use borrow.Author.Tests.{eqb-true, le-ltb, lt-ltb, ltb-true}
 use Rattle.model.specs.Base.{all}
 use Rattle.model.specs.Image.{counters_of}
 use Rattle.model.specs.Layout.{guard_there, guard_keeps, keeps_layout}
@@ -24,16 +24,7 @@ use Rattle.model.proofs.records.LayoutFacts.{EdgeKept, layout_kept, layout_nodes
 use Rattle.model.proofs.runs.OneMove.{moved_done, moved_none, moved_over}
 use Rattle.moving.specs.Advanced.{Ready, advanced, standing}
 
--- ---- a guard on a counter
-
-pub no_guard : (t c : ℕ) → t ≡ 0 → true ≡ guard_holds t c
-no_guard t c e = sym (ap (λ b. cond b true (cond (eqb t 1) (eqb c 1) (eqb t 2 && leb 2 c))) (eq-eqb t 0 e))
-
-pub one_guard : (t c : ℕ) → t ≡ 1 → eqb c 1 ≡ guard_holds t c
-one_guard t c e = rw e
-
-pub more_guard : (t c : ℕ) → (t ≡ 0 → ⊥) → (t ≡ 1 → ⊥) → eqb t 2 && leb 2 c ≡ guard_holds t c
-more_guard t c z o = sym (rw (ne_eqb t 0 z, ne_eqb t 1 o))
+-- ---- guards on counters
 
 pub both_hold : (cs : List ℕ) (a b : GuardCode) {gs : List GuardCode} → a ∷ b ∷ [] ≡ gs
     → guard_holds a.test (get_or cs a.node 0) && guard_holds b.test (get_or cs b.node 0) ≡ guards_hold cs gs
@@ -157,8 +148,8 @@ module _ (t : Tables) (c : Configuration) (n : ℕ) (k : keeps t c ≡ true) whe
   pub in_table : n < t.edge_count → 32 * n + 32 ≤ length t.edge_bytes
   in_table lt = let m = layout_room t layout in omega arith
 
-  pub ready : n < t.edge_count → length cs ≡ 12 → Ready r t.loc_bytes c.location cs
-  ready lt l =
+  pub ready : n < t.edge_count → Ready r t.loc_bytes c.location cs
+  ready lt =
       let m = layout_room t layout in
       let K = kept lt in
       let i = in_table lt in
@@ -167,6 +158,5 @@ module _ (t : Tables) (c : Configuration) (n : ℕ) (k : keeps t c ≡ true) whe
         target = omega (arith, K.target);
         few = layout_nodes t layout (word r 4) K.target;
         source = omega (arith, source_there);
-        twelve = l;
         zeros = zeros;
       }

@@ -1,42 +1,31 @@
 -- What is handed back where the record is there, and where it is not.
-use Prim.Native.Nat.{◌*◌, ◌+◌, ◌-◌, ◌<◌, ◌≤◌, suc, zero, ℕ}
-use mathlib.Core.Path.{◌≡◌, ◌∙◌, ap, refl, sym}
+use Prim.Native.Nat.{◌*◌, ◌+◌, ◌-◌, suc, zero, ℕ}
+use mathlib.Core.Path.{◌≡◌, ap, refl, sym}
 use mathlib.Core.Bool.{true, false}
-use mathlib.Core.List.{List}
 use native.Mathlib.Omega.{arith}
-use lib.ListN.{drop, length, take}
-use Rattle.model.specs.Part.{Part, answerable, meant, meant_table, onward, part_bytes, record_part}
+use lib.ListN.{drop, take}
+use Rattle.model.specs.Part.{Part, answerable, meant, meant_table, part_bytes, record_part}
+use Rattle.model.specs.Records.{is_accepted, is_refused, refusal}
 use Rattle.model.specs.Translate.{Tables}
-use Rattle.model.proofs.listings.Parts.{part_accepts, part_false, part_inside, part_true}
-use Rattle.answers.specs.Numbers.{IsTold}
+use Rattle.model.proofs.listings.Parts.{part_false, part_true}
 
--- 0 means the locations, and any other mark the edges
-pub meant_locations : {A : Type 0} {mark : ℕ} (l e : A) → mark ≡ 0 → l ≡ meant mark l e
-meant_locations l e h = ap (λ m. meant m l e) (sym h)
-
-pub meant_edges : {A : Type 0} (mark : ℕ) (l e : A) → (mark ≡ 0 → ⊥) → e ≡ meant mark l e
-meant_edges zero l e h = absurd (h refl)
-meant_edges (suc m) l e h = refl
+-- what is read of the one that is meant
+pub meant_read : {A B : Type 0} (f : A → B) (mark : ℕ) (l e : A) → f (meant mark l e) ≡ meant mark (f l) (f e)
+meant_read f zero l e = refl
+meant_read f (suc m) l e = refl
 
 module _ (t : Tables) (mark n : ℕ) where
-  -- what the contract says of the part ps at the place r, where the table lies at q, the number k and the place p
-  abbrev pub Handed : List ℕ → ℕ × ℕ → ℕ × ℕ → ℕ → ℕ → Type 0
-  Handed ps r q k p = (ps ≡ part_bytes t mark n)
-      × ((r ≡ onward q (record_part t mark n).begins) × IsTold (record_part t mark n).verdict k p)
+  module _ (there : answerable t mark n ≡ true) where
+    pub part_is : take (32 * n + 32 - 32 * n) (drop (32 * n) (meant_table t mark)) ≡ part_bytes t mark n
+    part_is =
+        let s : 32 * n + 32 - 32 * n ≡ 32 = omega arith in
+        rw (part_true t mark n there) (ap (λ k. take k (drop (32 * n) (meant_table t mark))) s)
 
-  pub inside : answerable t mark n ≡ true → (32 * n + 32 ≤ length (meant_table t mark)) × (n < 2048)
-  inside e = part_inside t mark n ((part_accepts t mark n).0 (ap (λ (p : Part). p.verdict) (part_true t mark n e)))
+    pub begins_is : 32 * n ≡ (record_part t mark n).begins
+    begins_is = sym (ap (λ (p : Part). p.begins) (part_true t mark n there))
 
-  pub handed : {ps : List ℕ} {r : ℕ × ℕ} (q : ℕ × ℕ) → answerable t mark n ≡ true
-      → ps ≡ take (32 * n + 32 - 32 * n) (drop (32 * n) (meant_table t mark)) → r ≡ onward q (32 * n)
-      → Handed ps r q 0 0
-  handed q e h w =
-      let s : 32 * n + 32 - 32 * n ≡ 32 = omega arith in
-      rw (part_true t mark n e) (
-        h ∙ ap (λ k. take k (drop (32 * n) (meant_table t mark))) s,
-        (w, record { number = refl; place = refl }),
-      )
+    pub accepted_is : is_accepted ≡ (record_part t mark n).verdict
+    accepted_is = sym (ap (λ (p : Part). p.verdict) (part_true t mark n there))
 
-  pub none_handed : {ps : List ℕ} {r : ℕ × ℕ} (q : ℕ × ℕ) → answerable t mark n ≡ false
-      → ps ≡ take 0 (meant_table t mark) → r ≡ onward q 0 → Handed ps r q 17 0
-  none_handed q e h w = rw (part_false t mark n e) (h, (w, record { number = refl; place = refl }))
+  pub refused_is : answerable t mark n ≡ false → is_refused (refusal 17 0) ≡ (record_part t mark n).verdict
+  refused_is e = sym (ap (λ (p : Part). p.verdict) (part_false t mark n e))

@@ -1,81 +1,68 @@
 // One record out of two tables, as a part of whichever table was meant.
 #![tactic(auto)]
 
-ghost use Rattle.std.specs.Prelude.{◌≡◌, ◌-◌, ◌≤◌, drop, length, take};
+ghost use Rattle.std.specs.Prelude.{◌≡◌, IfOk};
+ghost use Rattle.model.specs.Answers.{refusal_of};
 ghost use Rattle.model.specs.Part.{answerable, meant, onward, part_bytes, record_part};
-ghost use Rattle.model.specs.Structs.{tables_in};
-ghost use Rattle.answers.specs.Numbers.{IsTold};
+ghost use Rattle.model.specs.Structs.{tables_lent};
+ghost use Rattle.answers.specs.Numbers.{told};
+ghost use Rattle.part.specs.Ended.{ended_by};
 
 use location_table::in_places;
-use model::Counts;
+use model::{MOST_EDGES, MOST_LOCATIONS, NoRecord, RECORD, Tables};
 
-// The count of the table that the mark means.
-fn meant_count(counts: Counts, mark: usize) -> usize
-    ensures { result ≡ meant mark counts.locations counts.edges }
+// Of two things, the one that the mark means. The mark is a number, and no enum: one above 1 may be given to the call,
+// which docs/DECISIONS.md names, and is refused there.
+fn meant<T: Copy>(mark: usize, of_locations: T, of_edges: T) -> T
+    ensures { result ≡ meant mark of_locations of_edges }
 {
-    if mark == 0 {
-        counts.locations
-    } else {
-        counts.edges
-    }
+    if mark == 0 { of_locations } else { of_edges }
 }
 
 // Whether there is such a record. Both counts are looked at, whichever table is meant.
-fn answerable(locations: &[u8], edges: &[u8], counts: Counts, mark: usize, number: usize) -> bool
-    ensures { result
-        ≡ answerable (tables_in locations.now edges.now counts) mark number }
+fn answerable(tables: Tables, mark: usize, number: usize) -> bool
+    ensures { result ≡ answerable (tables_lent tables.entry) mark number }
 {
-    let fit = in_places(model::MOST_LOCATIONS, counts.locations, locations.len())
-        & in_places(model::MOST_EDGES, counts.edges, edges.len());
-    (mark <= 1) & fit & (number < meant_count(counts, mark))
-}
-
-// The part of the table that the mark means, from begin to end.
-fn part_of<'a>(
-    locations: &'a [u8],
-    edges: &'a [u8],
-    mark: usize,
-    begin: usize,
-    end: usize,
-) -> &'a [u8]
-    requires { (begin ≤ end) × (end ≤ length (meant mark locations.now edges.now)) }
-    ensures part { result.now
-        ≡ take (end - begin) (drop begin (meant mark locations.now edges.now)) }
-    ensures stands { result.ref_ptr ≡ onward (meant mark locations.entry.ref_ptr edges.entry.ref_ptr) begin }
-{
-    if mark == 0 {
-        return &locations[begin..end];
-    }
-    &edges[begin..end]
+    let counts = tables.counts;
+    let fit = in_places(MOST_LOCATIONS, counts.locations, tables.locations.len())
+        & in_places(MOST_EDGES, counts.edges, tables.edges.len());
+    (mark <= 1) & fit & (number < meant(mark, counts.locations, counts.edges))
 }
 
 // The record with a number, as a part of the table that the mark means: 0 for locations, 1 for edges. It is no copy:
-// it lies in that table, where the record begins. Where it is refused the part is empty. The refusal's number, 0 for
-// none, and its place are told beside it.
-pub fn record_part<'a>(
-    locations: &'a [u8],
-    edges: &'a [u8],
-    counts: Counts,
-    mark: usize,
-    number: usize,
-    refusal: &mut u8,
-    place: &mut usize,
-) -> &'a [u8]
-    ensures part { result.now
-        ≡ part_bytes (tables_in locations.now edges.now counts) mark number }
-    ensures stands { result.ref_ptr ≡ onward (meant mark locations.entry.ref_ptr edges.entry.ref_ptr)
-        (record_part (tables_in locations.now edges.now counts) mark number).begins }
-    ensures told { IsTold
-        (record_part (tables_in locations.now edges.now counts) mark number).verdict
-        refusal.new place.new }
+// it lies in that table, where the record begins.
+pub fn record_part<'a>(tables: Tables<'a>, mark: usize, number: usize) -> Result<&'a [u8], NoRecord>
+    ensures part { IfOk result (λ r. r.now ≡ part_bytes (tables_lent tables.entry) mark number) }
+    ensures stands { IfOk result (λ r. r.ref_ptr
+        ≡ onward (meant mark tables.entry.locations.ref_ptr tables.entry.edges.ref_ptr)
+        (record_part (tables_lent tables.entry) mark number).begins) }
+    ensures ended { ended_by result ≡ (record_part (tables_lent tables.entry) mark number).verdict }
 {
-    *place = 0;
-    if !answerable(locations, edges, counts, mark, number) {
-        *refusal = 17;
-        return part_of(locations, edges, mark, 0, 0);
+    if !answerable(tables, mark, number) {
+        return Err(NoRecord);
     }
-    *refusal = 0;
-    let begin = model::RECORD * number;
-    let end = begin + model::RECORD;
-    part_of(locations, edges, mark, begin, end)
+    let table = meant(mark, tables.locations, tables.edges);
+    let begin = RECORD * number;
+    Ok(&table[begin..begin + RECORD])
+}
+
+// The same in numbers: answers the refusal's number, 0 for none, and writes its place, where the record begins in its
+// table, and its length over the start of `answer`.
+pub fn tell_part(tables: Tables, mark: usize, number: usize, answer: &mut [usize]) -> u8
+    ensures number { result ≡ (refusal_of (record_part (tables_lent tables.entry) mark number).verdict).number }
+    ensures tells { answer.new ≡ told answer.old
+        (refusal_of (record_part (tables_lent tables.entry) mark number).verdict).place
+        (record_part (tables_lent tables.entry) mark number).begins
+        (record_part (tables_lent tables.entry) mark number).size }
+{
+    match record_part(tables, mark, number) {
+        Ok(part) => {
+            answers::tell(answer, 0, RECORD * number, part.len());
+            0
+        }
+        Err(refusal) => {
+            answers::tell(answer, 0, 0, 0);
+            refusal.number()
+        }
+    }
 }

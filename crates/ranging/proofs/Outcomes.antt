@@ -1,19 +1,21 @@
--- The outcome of ranges and a path, in each of its cases, and in numbers.
-use Prim.Native.Nat.{ℕ, suc, ◌<◌, ◌≤◌}
-use mathlib.Core.Path.{◌≡◌, ◌∙◌, ap, ap₂, refl, sym}
+-- The outcome of ranges and a path, in each of its cases.
+use Prim.Native.Nat.{ℕ, suc}
+use mathlib.Core.Path.{◌≡◌, ◌∙◌, ap, refl, sym}
 use mathlib.Core.Bool.{true}
 use mathlib.Core.Option.{Option, none, some}
-use mathlib.Core.List.{List, [], ◌∷◌, ◌++◌}
+use mathlib.Core.List.{List, [], ◌∷◌}
 use native.Mathlib.Omega.{arith}
 use lib.ListN.{length}
-use Rattle.model.specs.Ranges.{Box, Ranging, along, askable, cut_by, ends_at, first_wrong, follows, led_to, linked, linked_part, moved_box, ranged_to, ranging, reached, refused_at, start_box}
+use Rattle.std.specs.Prelude.{Ok, Err}
+use Rattle.model.specs.Ranges.{Box, Ranging, along, askable, cut_by, ends_at, first_wrong, follows, led_to, linked_part, moved_box, ranged_of, ranging, reached, refused_at, start_box}
 use Rattle.model.specs.Records.{record_at}
 use Rattle.model.specs.Runs.{guards_of, nodes_at}
 use Rattle.model.specs.Translate.{Tables}
-use Rattle.model.specs.declared.Ranged.{Ranged}
+use Rattle.model.specs.declared.Ranged.TheVariants as answer
 use Rattle.model.proofs.runs.Follows.{along_none, along_some}
-use Rattle.model.proofs.runs.Ranged.{linked_all, ranging_went, wrong_most}
-use Rattle.ranging.specs.Follow.{FollowReady, IsFollowed, ranged, zeros}
+use Rattle.model.proofs.runs.Ranged.{ranging_went}
+use Rattle.range_edge.specs.declared.Ranges.{Ranges}
+use Rattle.ranging.specs.Follow.{FollowReady, IsFollowed}
 
 -- ---- a path that is followed, and one that is not
 
@@ -33,43 +35,32 @@ along_reached t (n ∷ ns) i l b m c e =
         absurd (let z : ◌≡◌ {A = ℕ} 0 1 = cc in omega arith)
     by (some d) q r = r d (sym (along_some t i l b n ns d q) ∙ e)
 
--- in numbers
-ends_numbers : (o : Ranging) (len made : ℕ) (lows highs : List ℕ) → IsFollowed o len made lows highs → made < len
-    → ranged_to (ends_at made) ≡ ranged_to o
-ends_numbers (follows m c) len made lows highs F lt = absurd (omega (arith, F.0))
-ends_numbers (ends_at i) len made lows highs F lt = ap (λ j. ranged_to (ends_at j)) F.0
-ends_numbers (refused_at x p) len made lows highs F lt = absurd F
+ends : (o : Ranging) (i : ℕ) → IsFollowed o (Err i) → Ok (answer.Stuck i) ≡ ranged_of o
+ends (follows m c) i F = absurd F
+ends (ends_at j) i F = cc
+ends (refused_at x p) i F = absurd F
 
-follows_numbers : (o : Ranging) (len made : ℕ) (lows highs : List ℕ) → IsFollowed o len made lows highs → len ≤ made
-    → (to : ℕ) → ((m : ℕ) (c : Box) → o ≡ follows m c → to ≡ m) → ranged 0 0 1 to (lows ++ highs) ≡ ranged_to o
-follows_numbers (follows m c) len made lows highs F le to h =
-    ap₂ (λ l rs. ranged 0 0 1 l rs) (h m c refl) (ap₂ ◌++◌ F.1 F.2)
-follows_numbers (ends_at i) len made lows highs F le to h = absurd (omega (arith, F.0, F.1))
-follows_numbers (refused_at x p) len made lows highs F le to h = absurd F
-
-module _ (t : Tables) (l : ℕ) (b : Box) (ns : List ℕ) (made : ℕ) (lows highs : List ℕ)
-    (F : IsFollowed (along t 0 l b ns) (length ns) made lows highs) where
-  pub is_ended : made < length ns → ranged_to (ends_at made) ≡ ranged_to (along t 0 l b ns)
-  is_ended = ends_numbers (along t 0 l b ns) (length ns) made lows highs F
-
-  pub is_done_lem : length ns ≤ made → (to : ℕ) → to ≡ reached t l ns
-      → ranged 0 0 1 to (lows ++ highs) ≡ ranged_to (along t 0 l b ns)
-  is_done_lem le to e = follows_numbers (along t 0 l b ns) (length ns) made lows highs F le to
-      (λ m c q. e ∙ along_reached t ns 0 l b m c q)
+done : (o : Ranging) (r : Ranges) → IsFollowed o (Ok r) → (to : ℕ) → ((m : ℕ) (c : Box) → o ≡ follows m c → to ≡ m)
+    → Ok (answer.Reached to r.lows r.highs) ≡ ranged_of o
+done (follows m c) r F to h = cc (h m c refl, F.0, F.1)
+done (ends_at i) r F to h = absurd (let z : ◌≡◌ {A = ℕ} 0 1 = cc in omega arith)
+done (refused_at x p) r F to h = absurd F
 
 -- ---- where nothing is refused
 
-module _ (t : Tables) (l : ℕ) (rs ns : List ℕ) (a : askable t l ns ≡ true) (h : length ns ≤ linked_part t l ns)
-    (w : nodes_at t l ≤ first_wrong (nodes_at t l) rs) where
-  pub kept_is : {r : Ranged} → r ≡ ranged_to (along t 0 l (start_box (nodes_at t l) rs) ns)
-      → r ≡ ranged_to (ranging t l rs ns)
-  kept_is e = e ∙ sym (ap ranged_to (ranging_went t l rs ns a h w))
+module _ (t : Tables) (l : ℕ) (rs ns : List ℕ) (a : askable t l ns ≡ true) (h : linked_part t l ns ≡ length ns)
+    (w : first_wrong (nodes_at t l) rs ≡ nodes_at t l) where
+  pub follow_ready : FollowReady t l rs ns
+  follow_ready = record { asked = a; linked = h; ranges = w }
 
-  pub follow_ready : FollowReady t l rs ns zeros zeros
-  follow_ready = record {
-    asked = a;
-    linked = linked_all t l rs ns a h;
-    ranges = omega (arith, wrong_most (nodes_at t l) rs);
-    no_lows = refl;
-    no_highs = refl;
-  }
+  went : along t 0 l (start_box (nodes_at t l) rs) ns ≡ ranging t l rs ns
+  went = sym (ranging_went t l rs ns a (omega arith) (omega arith))
+
+  pub is_stuck : (i : ℕ) → IsFollowed (along t 0 l (start_box (nodes_at t l) rs) ns) (Err i)
+      → Ok (answer.Stuck i) ≡ ranged_of (ranging t l rs ns)
+  is_stuck i F = ends _ i F ∙ ap ranged_of went
+
+  pub is_reached : (r : Ranges) → IsFollowed (along t 0 l (start_box (nodes_at t l) rs) ns) (Ok r)
+      → (to : ℕ) → to ≡ reached t l ns → Ok (answer.Reached to r.lows r.highs) ≡ ranged_of (ranging t l rs ns)
+  is_reached r F to e = done _ r F to (λ m c q. e ∙ along_reached t ns 0 l (start_box (nodes_at t l) rs) m c q)
+      ∙ ap ranged_of went

@@ -9,22 +9,18 @@ use Rattle.model.specs.Ranges.{low_given, start_box}
 use Rattle.model.specs.Records.{filled}
 use Rattle.model.proofs.lists.Lists.{map_same}
 use Rattle.model.proofs.lists.Numbers.{length_numbers}
-use Rattle.ranging.specs.Follow.{zeros}
 
 drop_zeros : (n m : ℕ) → drop n (replicate {A = ℕ} m 0) ≡ replicate (m - n) 0
 drop_zeros zero m = let e : m ≡ m - 0 = omega arith in ap (λ j. replicate j 0) e
 drop_zeros (suc n) zero = let e : 0 ≡ 0 - suc n = omega arith in ap (λ j. replicate j 0) e
 drop_zeros (suc n) (suc m) = drop_zeros n m ∙ ap (λ j. replicate j 0) (let e : m - n ≡ suc m - suc n = omega arith in e)
 
--- the given ends from a place on, over twelve zeros
-pub read_filled : (rs : List ℕ) (from k : ℕ) {before after : List ℕ} → before ≡ zeros
-    → after ≡ map (λ i. get_or rs (from + i) 0) (numbers 0 k) ++ drop k before
-    → after ≡ filled 12 (map (λ i. get_or rs (from + i) 0) (numbers 0 k))
-read_filled rs from k z e =
-    let xs = map (λ i. get_or rs (from + i) 0) (numbers 0 k) in
-    let n : length xs ≡ k = length-map (numbers 0 k) (λ i. get_or rs (from + i) 0) ∙ length_numbers 0 k in
-    e ∙ ap (λ l. xs ++ drop k l) z ∙ ap (λ l. xs ++ l) (drop_zeros k 12)
-    ∙ ap (λ m. xs ++ replicate (12 - m) 0) (sym n)
+-- over twelve zeros
+pub put_filled : (f : ℕ → ℕ) (k : ℕ) → map f (numbers 0 k) ++ drop k (replicate 12 0) ≡ filled 12 (map f (numbers 0 k))
+put_filled f k =
+    let xs = map f (numbers 0 k) in
+    let n : length xs ≡ k = length-map (numbers 0 k) f ∙ length_numbers 0 k in
+    ap (λ l. xs ++ l) (drop_zeros k 12) ∙ ap (λ m. xs ++ replicate (12 - m) 0) (sym n)
 
 pub lows_read : (rs : List ℕ) (k : ℕ) → map (λ i. get_or rs (0 + i) 0) (numbers 0 k) ≡ (start_box k rs).lows
 lows_read rs k = map_same (λ i. get_or rs (0 + i) 0) (low_given rs) (numbers 0 k)

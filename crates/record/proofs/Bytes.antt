@@ -3,8 +3,8 @@ use Prim.Native.Nat.{ℕ, suc, ◌+◌, ◌-◌, ◌*◌, ◌/◌, ◌%◌, ◌�
 use mathlib.Core.Path.{◌≡◌, refl, sym, ap, ap₂, ◌∙◌}
 use mathlib.Core.List.{List, [], ◌∷◌, ◌++◌, append_assoc, append-nil, map, map-map}
 use native.Mathlib.Omega.{arith}
-use lib.ListN.{length, get_or, set, take, drop, replicate, length-append, length-drop, length-map}
-use lib.Seq.{length-take-le, sets-eq}
+use lib.ListN.{length, get_or, take, drop, replicate, length-append, length-drop, length-map}
+use lib.Seq.{drop-drop, length-take-le}
 use borrow.Rule.Slice.PartMut.{mid_of, put_mid}
 use Rattle.model.specs.Base.{joined}
 use Rattle.model.specs.Heap.{Heap}
@@ -51,11 +51,15 @@ updates_length us k h = joined_length (take k us) ∙ ap (λ n. 2 * n) (length-t
 abbrev pub with_updates : List ℕ → List ℕ → ℕ → List ℕ
 with_updates p us j = take 8 p ++ (update_bytes us j ++ drop (8 + 2 * j) p)
 
+-- a number of two bytes, as the library writes it
+pub low_high : (u : ℕ) → u < 65536 → u % 256 ∷ u / 256 % 256 ∷ [] ≡ two_bytes u
+low_high u h = let e : u / 256 % 256 ≡ u / 256 = omega arith in ap (λ b. u % 256 ∷ b ∷ []) e
+
 -- one update more
-pub updates_turn : (p us : List ℕ) (j : ℕ) → 8 + 2 * (j + 1) ≤ length p → j < length us
-    → set (set (with_updates p us j) (8 + 2 * j) (get_or us j 0 % 256)) (9 + 2 * j) (get_or us j 0 / 256)
-    ≡ with_updates p us (j + 1)
-updates_turn p us j h k =
+pub updates_turn : (p us b : List ℕ) (j : ℕ) → 8 + 2 * (j + 1) ≤ length p → j < length us
+    → b ≡ two_bytes (get_or us j 0)
+    → put_mid (8 + 2 * j) (10 + 2 * j - (8 + 2 * j)) (with_updates p us j) b ≡ with_updates p us (j + 1)
+updates_turn p us b j h k e =
     let u = get_or us j 0 in
     let n = 8 + 2 * j in
     let pre = take 8 p ++ update_bytes us j in
@@ -64,22 +68,21 @@ updates_turn p us j h k =
     (updates_length us j (omega arith)) in
     let x = pre ++ drop n p in
     let lw : length x ≡ length p = omega (arith, length-append pre (drop n p), length-drop n p) in
-    let s = sets-eq (two_bytes u) x n (omega arith) in
+    let two : 10 + 2 * j - n ≡ 2 = omega arith in
     let next : n + 2 ≡ 8 + 2 * (j + 1) = omega arith in
     let more : update_bytes us (j + 1) ≡ update_bytes us j ++ two_bytes u = joined_next two_bytes us j k in
-    let second : 9 + 2 * j ≡ suc n = omega arith in
-    rw (second, ← append_assoc (take 8 p) (update_bytes us j) (drop n p)) s
-    ∙ append_assoc (take n x) (two_bytes u) (drop (n + 2) x) ∙ put_next p x pre (two_bytes u) n 2 lw (omega arith) refl
+    ap (λ (z : List ℕ). put_mid n (10 + 2 * j - n) z b) (sym (append_assoc (take 8 p) (update_bytes us j) (drop n p)))
+    ∙ ap₂ (λ (m : ℕ) (y : List ℕ). put_mid n m x y) two e
+    ∙ ap (λ z. take n x ++ (two_bytes u ++ z)) (drop-drop 2 n x)
+    ∙ put_next p x pre (two_bytes u) n 2 lw (omega arith) refl
     ∙ ap (λ m. (pre ++ two_bytes u) ++ drop m p) next ∙ rw more (simp append_assoc)
 
--- the first eight bytes of an edge's record, of which byte 1 is b
-abbrev pub head_with : EdgeFields → ℕ → List ℕ
-head_with e b =
-    let g = code_in e.guards.first in
-    0x45 ∷ b ∷ (two_bytes e.from ++ (two_bytes e.to ++ g.test ∷ g.node ∷ []))
-
+-- the first eight bytes of an edge's record
 abbrev pub edge_head : EdgeFields → List ℕ
-edge_head e = head_with e (branch_byte e.branch (code_in e.guards.second))
+edge_head e =
+    let g = code_in e.guards.first in
+    0x45 ∷ branch_byte e.branch (code_in e.guards.second)
+    ∷ (two_bytes e.from ++ (two_bytes e.to ++ g.test ∷ g.node ∷ []))
 
 -- the record of an edge, its first eight bytes and then its updates in a record of zeros
 pub edge_is : (e : EdgeFields) (us z : List ℕ) → e.nodes ≤ 12 → e.nodes ≤ length us

@@ -1,29 +1,11 @@
--- What a copy leaves: a record over the front of a part, a list over another of its length, and the record of a
--- location.
+-- What a copy leaves: the record of a location.
 use Prim.Native.Nat.{ℕ, ◌≤◌}
-use mathlib.Core.Path.{◌≡◌, ap, ap₂, refl, sym, ◌∙◌}
-use mathlib.Core.List.{List, [], ◌∷◌, ◌++◌, append-nil}
+use mathlib.Core.Path.{◌≡◌, ap, sym, ◌∙◌}
+use mathlib.Core.List.{List, [], ◌∷◌, ◌++◌}
 use native.Mathlib.Omega.{arith}
-use lib.ListN.{drop, drop_of_length-le, length, set, take}
-use lib.Seq.{take-length}
+use lib.ListN.{length}
 use Rattle.model.specs.Records.{byte}
 use Rattle.record.specs.Written.{location_bytes}
-
-pub copied_front : (from to : List ℕ) → length from ≡ 32 → take (length from) from ++ drop (length from) to ≡ from
-    ++ drop 32 to
-copied_front from to h = ap₂ (λ l n. l ++ drop n to) (take-length from) h
-
-pub copied_whole : (from to : List ℕ) → length to ≤ length from → take (length from) from ++ drop (length from) to
-    ≡ from
-copied_whole from to h = ap₂ ◌++◌ (take-length from) (drop_of_length-le to h) ∙ append-nil from
-
--- a record copied whole, then its first three bytes
-pub location_stored : (s f : ℕ) (rec z : List ℕ) → 3 ≤ length rec → set (set (set (rec ++ z) 0 0x4c) 1 s) 2 f
-    ≡ location_bytes s f rec ++ z
-location_stored s f [] z h = absurd (omega arith)
-location_stored s f (a ∷ []) z h = absurd (omega arith)
-location_stored s f (a ∷ b ∷ []) z h = absurd (omega arith)
-location_stored s f (a ∷ b ∷ c ∷ r) z h = refl
 
 -- an L record with its own statement and fault is itself
 location_same : (r : List ℕ) → 3 ≤ length r → byte r 0 ≡ 0x4c → location_bytes (byte r 1) (byte r 2) r ≡ r

@@ -6,7 +6,9 @@ use mathlib.Core.List.{List, [], ◌∷◌, ◌++◌, append-nil, map}
 use native.Mathlib.Omega.{arith}
 use lib.ListN.{drop, get_or, length, length-append, length-map, replicate, take}
 use borrow.Rule.Slice.PartMut.{mid_of, put_mid}
+use Rattle.std.specs.Prelude.{Some}
 use Rattle.model.specs.Base.{mem}
+use Rattle.model.specs.declared.Node.{Node}
 use Rattle.model.specs.Heap.{next}
 use Rattle.model.specs.Image.{cell_slot, heap_of}
 use Rattle.model.specs.Notions.{NoDup, Used}
@@ -61,10 +63,10 @@ module _ {ps cs visit held : List ℕ} {w : Weights} {t us : List ℕ} (L : Leav
   cell_below : (c : ℕ) → mem c visit ≡ true → c ≤ w.nodes
   cell_below c q = omega (arith, used_below (heap_of ps cs).slots c (cell_used c q), length-map cs cell_slot, L.few)
 
-  tail_visited : w.split ≡ true → mem w.nodes visit ≡ true
-  tail_visited e =
+  tail_visited : (n : Node) → w.split ≡ Some n → mem w.nodes visit ≡ true
+  tail_visited n e =
       subst (λ l. mem w.nodes l ≡ true) (sym L.image.visited)
-      (heap_kept (heap_of ps cs) L.image.is_heap w.nodes (L.has_tail e))
+      (heap_kept (heap_of ps cs) L.image.is_heap w.nodes (L.has_tail n e))
 
   different : NoDup visit
   different = subst NoDup (sym L.image.visited) tour_facts.nodup

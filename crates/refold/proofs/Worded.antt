@@ -6,7 +6,7 @@ use mathlib.Core.List.{List, [], ◌∷◌, ◌++◌, append_assoc, append-nil, 
 use native.Mathlib.Omega.{arith}
 use lib.Dec.{ltb}
 use lib.ListN.{drop, get_or, length, length-append, length-drop, length-map, replicate, replicate-append-replicate, take, take-append-drop}
-use lib.Seq.{drop_at, drop-drop, get_or-drop, get_or-take, length-take-le, take_all, take_at}
+use lib.Seq.{drop_at, drop-drop, length-take-le, take_at}
 use borrow.Author.Tests.{ltb-false, ltb-true}
 use Rattle.model.specs.Notions.{In}
 use Rattle.model.proofs.lists.Digits.{Below}
@@ -14,7 +14,7 @@ use Rattle.model.proofs.lists.Lists.{in_get_or_lem, in_map}
 use Rattle.model.proofs.lists.Logic.{bool_case}
 use Rattle.word.specs.Words.{bytes_of, number_of}
 use Rattle.word.proofs.Codes.{Bytes, bytes_pad}
-use Rattle.folding.specs.Fold.{InTable, LastsIn, fold_byte}
+use Rattle.folding.specs.Fold.{fold_byte}
 use Rattle.refold.specs.Worded.{shape_bytes, shape_words}
 
 -- ---- values in terms of nodes are bytes
@@ -169,19 +169,3 @@ put_next w x t a n =
     let back : drop (a + 8) (w ++ drop a t) ≡ drop (a + 8) t =
     sym (drop-drop 8 a (w ++ drop a t)) ∙ ap (drop 8) (drop_at w (drop a t) a n) ∙ drop-drop 8 a t in
     ap₂ (λ y z. y ++ (x ++ z)) front back ∙ sym (append_assoc w x (drop (a + 8) t))
-
--- ---- the last cells in two parts
-
-pub front_in : (m cs last : List ℕ) (n : ℕ) → n ≤ length last → LastsIn m cs last → LastsIn m cs (take n last)
-front_in m cs last n h A i lt =
-    let k : i < n = omega (arith, length-take-le n last h) in
-    let e : get_or (take n last) i 0 ≡ get_or last i 0 = get_or-take n last i 0 k in
-    subst (λ c. (c < length cs) × InTable m (get_or cs c 0)) (sym e) (A i (omega arith))
-
-pub rest_is : (last : List ℕ) (n : ℕ) → take (length last - n) (drop n last) ≡ drop n last
-rest_is last n = take_all (length last - n) (drop n last) (omega (arith, length-drop n last))
-
-pub back_in : (m cs last : List ℕ) (n : ℕ) → n ≤ length last → LastsIn m cs last → LastsIn m cs (drop n last)
-back_in m cs last n h A i lt =
-    subst (λ c. (c < length cs) × InTable m (get_or cs c 0)) (sym (get_or-drop n last i 0))
-    (A (n + i) (omega (arith, length-drop n last)))

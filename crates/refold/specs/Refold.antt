@@ -1,5 +1,5 @@
 -- What folding the heap that a run leaves asks and gives. Assumes nothing.
-use Rattle.std.specs.Prelude.{ℕ, ◌+◌, ◌≤◌, ◌<◌, ◌≡◌, true, List, ◌∷◌, map, length, take, drop}
+use Rattle.std.specs.Prelude.{ℕ, ◌+◌, ◌≤◌, ◌<◌, ◌≡◌, List, ◌∷◌, map, length, take, drop, Some}
 use Rattle.model.specs.Base.{most_nodes, record_size}
 use Rattle.model.specs.Edges.{at, update_of}
 use Rattle.model.specs.Heap.{next}
@@ -7,6 +7,7 @@ use Rattle.model.specs.Image.{heap_of}
 use Rattle.model.specs.Notions.{Used}
 use Rattle.model.specs.Records.{loc_record, update_code}
 use Rattle.model.specs.Shape.{segments, shape}
+use Rattle.model.specs.declared.Node.{Node}
 use Rattle.folding.specs.Shape.{ShapeReady}
 use Rattle.cell_sum.specs.Codes.{weight_in}
 use Rattle.cell_sum.specs.declared.Weights.{Weights}
@@ -18,8 +19,8 @@ pub record LeaveReady (ps cs visit held : List ℕ) (w : Weights) (t us : List �
   pub few_old : w.nodes ≤ most_nodes
   pub few : length cs ≤ w.nodes + 1
   pub short : length visit ≤ 13
-  pub is_node : w.split ≡ true → w.node.0 < w.nodes
-  pub has_tail : w.split ≡ true → Used (next (heap_of ps cs)) w.nodes
+  pub is_node : (n : Node) → w.split ≡ Some n → n.0 < w.nodes
+  pub has_tail : (n : Node) → w.split ≡ Some n → Used (next (heap_of ps cs)) w.nodes
   pub wide : length t ≡ record_size
   pub room : 13 ≤ length us
 

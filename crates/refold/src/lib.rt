@@ -1,20 +1,13 @@
 // What a run leaves, folded by the marks of the run.
 #![tactic(auto)]
 
-ghost use Rattle.std.specs.Prelude.{◌≡◌, min, ◌<◌, length};
+ghost use Rattle.std.specs.Prelude.{◌≡◌, ◌<◌, length};
 ghost use Rattle.model.specs.Base.{record_size};
 ghost use Rattle.folding.specs.Fold.{folded_bytes};
 ghost use Rattle.refold.specs.Refold.{IsLeft, LeaveReady};
 ghost use Rattle.refold.specs.Worded.{ShapeFits, shape_bytes, shape_words};
 
 use cell_sum::Weights;
-
-// How many of m successors stand in the record's second word, with the last two pointers.
-fn in_second(m: usize) -> usize
-    ensures { result ≡ min m 6 }
-{
-    if m < 6 { m } else { 6 }
-}
 
 // Writes the six pointers, the first six successors and the others over a record, each as a number, behind four zeros:
 // by words, since the record is read as words soon after.
@@ -36,10 +29,11 @@ fn write_shape(pointers: &[u8], cells: &[u8], last: &[u8], node: &[u8], target: 
         ≡ shape_bytes (folded_bytes node.now pointers.now cells.now
         last.now) }
 {
-    let half = in_second(last.len());
+    // six of the successors stand in the second word, with the last two pointers
+    let (first, rest) = last.split_at(last.len().min(6));
     let p = folding::code_values(pointers, node);
-    let low = folding::code_successors(cells, &last[..half], node);
-    let high = folding::code_successors(cells, &last[half..], node);
+    let low = folding::code_successors(cells, first, node);
+    let high = folding::code_successors(cells, rest, node);
     put_words(p, low, high, target);
 }
 

@@ -1,9 +1,11 @@
 // Looking for a record among those of a table: a known location, or a shape among those before it.
 #![tactic(auto)]
 
-ghost use Rattle.std.specs.Prelude.{◌≡◌, ◌+◌, ◌*◌, ◌≤◌, eqb, length, take, drop};
+ghost use Rattle.std.specs.Prelude.{◌≡◌, ◌+◌, ◌*◌, ◌<◌, ◌≤◌, IfSome, eqb, length, take, drop};
+ghost use Rattle.model.specs.Answers.{found_of};
 ghost use Rattle.model.specs.Base.{same_list, record_size};
-ghost use Rattle.search.specs.Search.{found_at, key_at};
+ghost use Rattle.model.specs.Search.{equal_at, highest_below};
+ghost use Rattle.search.specs.Search.{key_at};
 
 use word::eight;
 
@@ -25,7 +27,8 @@ fn same_eight(table: &[u8], at: usize, rec: &[u8], from: usize) -> bool
     eight(table, at) == eight(rec, from)
 }
 
-// Whether the 32 bytes at `at` are those of rec.
+// Whether the 32 bytes at `at` are those of rec. By words and not as arrays: a record is looked for right after it was
+// written by words, and the processor would wait to read it otherwise (tried: a sixth to a fifth slower).
 pub fn same_at(table: &[u8], at: usize, rec: &[u8]) -> bool
     requires { (at + record_size ≤ length table.now) × (length rec.now ≡ record_size) }
     ensures { result ≡ same_list eqb (take record_size (drop at table.now)) rec.now }
@@ -39,25 +42,21 @@ fn same_by_key(table: &[u8], at: usize, rec: &[u8], k: u64) -> bool
     requires { (at + record_size ≤ length table.now) × (length rec.now ≡ record_size) × (k ≡ key_at rec.now 0) }
     ensures { result ≡ same_list eqb (take record_size (drop at table.now)) rec.now }
 {
-    if key(table, at) != k {
-        return false;
-    }
-    same_at(table, at, rec)
+    key(table, at) == k && same_at(table, at, rec)
 }
 
-// The newest of the table's first `count` records that equals rec, or `count`: looked for from the newest back, as 02,
+// The newest of the table's first `count` records that equals rec, or none: looked for from the newest back, as 02,
 // job 8, asks.
-pub fn find(table: &[u8], count: usize, rec: &[u8]) -> usize
+pub fn find(table: &[u8], count: usize, rec: &[u8]) -> Option<usize>
     requires { (record_size * count ≤ length table.now) × (length rec.now ≡ record_size) }
-    ensures { result ≡ found_at table.now rec.now count }
+    ensures found { found_of result ≡ highest_below count (equal_at table.now rec.now) }
+    ensures below { IfSome result (λ i. i < count) }
 {
     let k = key(rec, 0);
-    let mut i = count;
-    while 0 < i {
-        i -= 1;
+    for i in (0..count).rev() {
         if same_by_key(table, model::RECORD * i, rec, k) {
-            return i;
+            return Some(i);
         }
     }
-    count
+    None
 }

@@ -6,7 +6,7 @@ use mathlib.Core.List.{List, [], ◌∷◌, ◌++◌, map, map-append}
 use native.Mathlib.Numerals.{add-one}
 use native.Mathlib.Omega.{arith}
 use lib.Dec.{eqb}
-use lib.ListN.{length, get_or, take, drop, set, length-map, get_or-append, take-append-drop}
+use lib.ListN.{length, get_or, take, drop, set, length-map, length-set, get_or-append, take-append-drop}
 use lib.Seq.{drop-drop, drop-set-lt, get_or_at, get_or-set_other, get_or-set_same, get_or-take, get_or-append_seam}
 use lib.Seq.{length-take-le, take_at, take-suc-set, take-take}
 use borrow.Author.Tests.{eqb-false, eqb-true}
@@ -185,6 +185,13 @@ pub record Alike (t t₀ : CutTables) : Type 0 where
   pub node : length t.node ≡ length t₀.node
   pub last : length t.last ≡ length t₀.last
   pub size : length t.size ≡ length t₀.size
+
+pub enter_alike : {c j w : ℕ} {t t' t₀ : CutTables} → Entered c j w t t' → Alike t t₀ → Alike t' t₀
+enter_alike {c} {j} {w} {t} e a = record {
+  node = ap length e.node ∙ length-set t.node c j ∙ a.node;
+  last = ap length e.last ∙ length-set t.last j c ∙ a.last;
+  size = ap length e.size ∙ length-set t.size j w ∙ a.size;
+}
 
 module _ {o held : List ℕ} {t₀ : CutTables} (c : CutReady o held t₀) (i : ℕ) (b : i < length o)
     (t : CutTables) (a : Alike t t₀) (k : ℕ) (is : IsCut (segs held (take i o)) t k) where

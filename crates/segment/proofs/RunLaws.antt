@@ -10,6 +10,7 @@ use lib.ListN.{length, get_or, take, drop, set, drop_of_length-le, length-append
 use lib.Seq.{drop-drop, drop-set-lt, get_or-append_seam, get_or-drop, get_or-set_other, get_or-set_same, get_or-take}
 use lib.Seq.{length-take-le, take-suc-set}
 use borrow.Author.Tests.{eqb-false}
+use Rattle.std.specs.List.{position_or_len}
 use Rattle.model.specs.Base.{mem}
 use Rattle.model.specs.Shape.{Seg, cells, cut_from, last, last_from, size}
 use Rattle.model.specs.Notions.{NoDup, flat, seg_at, seg}
@@ -27,14 +28,11 @@ inner_low held [] = omega arith
 inner_low held (d ∷ l) =
     bool_case (held_core held d) (λ t. rw t (omega arith)) (λ t. rw t (omega (arith, inner_low held l)))
 
--- a step of the search for its end: it ends at a core cell, and goes on behind any other
-pub inner_ends : (held l : List ℕ) (i : ℕ) → i < length l → held_core held (get_or l i 0) ≡ true
-    → inner held (drop i l) ≡ 0
-inner_ends held l i h t = ap (inner held) (drop_step l i h) ∙ rw t
-
-pub inner_goes : (held l : List ℕ) (i : ℕ) → i < length l → held_core held (get_or l i 0) ≡ false
-    → inner held (drop i l) ≡ suc (inner held (drop (i + 1) l))
-inner_goes held l i h t = ap (inner held) (drop_step l i h) ∙ rw t
+-- its end is the place of the first core cell, or that of the end
+pub inner_place : (held l : List ℕ) → inner held l ≡ position_or_len (held_core held) l
+inner_place held [] = refl
+inner_place held (d ∷ l) =
+    bool_case (held_core held d) (λ t. rw t) (λ t. rw t (ap suc (inner_place held l) ∙ omega arith))
 
 -- the segment that begins with c, and the cut of what is left
 run_from : (held : List ℕ) (c : ℕ) (cur l : List ℕ)

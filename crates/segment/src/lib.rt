@@ -4,8 +4,17 @@
 ghost use Rattle.std.specs.Prelude.{◌≡◌, ◌+◌, ◌-◌, ◌<◌, ◌≤◌, length, get_or, drop};
 ghost use Rattle.model.specs.Base.{most_cells};
 ghost use Rattle.segment.specs.Cut.{CutReady, Entered, IsCut, Put, PutReady, Within, held_core, inner, named, segs, cut_tables};
+ghost use Rattle.segment.specs.Lent.{SameTables, tables_in};
 
 use model::Node;
+
+// The tables that a cut fills: of each cell its segment's number, of each segment its last cell and its size.
+#[derive(Drop)]
+struct Tables<'a> {
+    node: &'a mut [u8],
+    last: &'a mut [u8],
+    size: &'a mut [u32],
+}
 
 // The node of the last of k segments.
 fn last_node(k: usize) -> Node
@@ -15,46 +24,35 @@ fn last_node(k: usize) -> Node
     Node((k - 1) as u8)
 }
 
-// The segment of node n begins with the cell.
-fn begin(head: u8, n: Node, node: &mut [u8], last: &mut [u8], size: &mut [u32])
-    requires { (head < length node.old) × (n.0 < length last.old) × (n.0 < length size.old) }
-    ensures { Entered head n.0 1
-        (cut_tables node.old last.old size.old)
-        (cut_tables node.new last.new size.new) }
-{
-    let j = n.0 as usize;
-    node[head as usize] = n.0;
-    last[j] = head;
-    size[j] = 1;
-}
-
-// The cell goes behind the segment of node n.
-fn extend(c: u8, n: Node, node: &mut [u8], last: &mut [u8], size: &mut [u32])
-    requires { (c < length node.old) × (n.0 < length last.old) × (n.0 < length size.old)
-        × (get_or size.old n.0 0 < most_cells) }
-    ensures { Entered c n.0 (get_or size.old n.0 0 + 1)
-        (cut_tables node.old last.old size.old)
-        (cut_tables node.new last.new size.new) }
-{
-    let j = n.0 as usize;
-    node[c as usize] = n.0;
-    last[j] = c;
-    size[j] += 1;
-}
-
-// One cell more, where k segments have begun: a core cell begins one, any other goes behind the last.
-fn put(c: u8, k: usize, held: &[u8], node: &mut [u8], last: &mut [u8], size: &mut [u32]) -> usize
-    requires { PutReady c k held.now (cut_tables node.old last.old size.old) }
-    ensures { Put (held_core held.now c) c k
-        (cut_tables node.old last.old size.old)
-        (cut_tables node.new last.new size.new) result }
-{
-    if 2 <= held[c as usize] {
-        begin(c, Node(k as u8), node, last, size);
-        return k + 1;
+impl Tables<'_> {
+    // The cell is the last so far of the segment of node n, which has so many cells with it.
+    fn enter(&mut self, c: u8, n: Node, count: u32)
+        requires { (c < length self.old.node.now) × (n.0 < length self.old.last.now)
+            × (n.0 < length self.old.size.now) }
+        ensures entered { Entered c n.0 count (tables_in self.old) (tables_in self.new) }
+        ensures same { SameTables self.old self.new }
+    {
+        let j = n.0 as usize;
+        self.node[c as usize] = n.0;
+        self.last[j] = c;
+        self.size[j] = count;
     }
-    extend(c, last_node(k), node, last, size);
-    k
+
+    // One cell more, where k segments have begun: a core cell begins one, any other goes behind the last.
+    fn put(&mut self, c: u8, k: usize, held: &[u8]) -> usize
+        requires { PutReady c k held.now (tables_in self.old) }
+        ensures put { Put (held_core held.now c) c k (tables_in self.old) (tables_in self.new) result }
+        ensures same { SameTables self.old self.new }
+    {
+        if 2 <= held[c as usize] {
+            self.enter(c, Node(k as u8), 1);
+            return k + 1;
+        }
+        let n = last_node(k);
+        let count = self.size[n.0 as usize] + 1;
+        self.enter(c, n, count);
+        k
+    }
 }
 
 // Cuts the order before each core cell. Of each segment it keeps the last cell and the size, of each cell the number
@@ -65,28 +63,23 @@ pub fn cut(order: &[u8], held: &[u8], node: &mut [u8], last: &mut [u8], size: &m
         (cut_tables node.new last.new size.new) result }
     ensures past { drop result size.new ≡ drop result size.old }
 {
+    let mut tables = Tables { node, last, size };
     let mut k = 0;
-    let mut i = 0;
-    while i < order.len() {
-        k = put(order[i], k, held, node, last, size);
-        i += 1;
+    for c in order {
+        k = tables.put(*c, k, held);
     }
     k
 }
 
-// The place of the first core cell from `from` on, or where the order ends: so far goes the segment that begins before.
-fn run_end(order: &[u8], held: &[u8], from: usize) -> usize
-    requires { Within order.now held.now }
-    ensures { result ≡ from + inner held.now (drop from order.now) }
+// How many of the cells come before the first core cell, or all: so far goes a segment that begins before them.
+fn run_length(cells: &[u8], held: &[u8]) -> usize
+    requires { Within cells.now held.now }
+    ensures { result ≡ inner held.now cells.now }
 {
-    let mut i = from;
-    while i < order.len() {
-        if 2 <= held[order[i] as usize] {
-            return i;
-        }
-        i += 1;
-    }
-    i
+    cells
+        .iter()
+        .position(|c| 2 <= held[*c as usize])
+        .unwrap_or(cells.len())
 }
 
 // Each of the cells gets the node.
@@ -94,10 +87,8 @@ fn name_cells(cells: &[u8], n: Node, node: &mut [u8])
     requires { Within cells.now node.old }
     ensures { node.new ≡ named cells.now n.0 node.old }
 {
-    let mut i = 0;
-    while i < cells.len() {
-        node[cells[i] as usize] = n.0;
-        i += 1;
+    for c in cells {
+        node[*c as usize] = n.0;
     }
 }
 
@@ -116,9 +107,10 @@ pub fn cut_long(
 {
     let mut k = 0;
     let mut i = 0;
+    // counts no index: each turn goes to the end of a segment
     while i < order.len() {
         let next = i + 1;
-        let end = run_end(order, held, next);
+        let end = next + run_length(&order[next..], held);
         name_cells(&order[i..end], Node(k as u8), node);
         last[k] = order[end - 1];
         size[k] = (end - i) as u32;

@@ -1,12 +1,14 @@
 -- The run by a way: what it asks and what it gives. Assumes nothing.
-use Rattle.std.specs.Prelude.{ℕ, ◌+◌, ◌≤◌, ◌≡◌, List, length, get_or, take}
+use Rattle.std.specs.Prelude.{ℕ, ◌+◌, ◌≤◌, ◌≡◌, List, length, get_or, take, Result, Ok, Err}
 use Rattle.model.specs.Base.{pointer_count}
+use Rattle.model.specs.Codes.{fault_code}
 use Rattle.model.specs.Heap.{Heap, IsHeap, order}
 use Rattle.model.specs.Image.{heap_of}
-use Rattle.model.specs.Machine.{branch, carry_out}
+use Rattle.model.specs.Machine.{branch, carry_out, done}
 use Rattle.model.specs.Records.{byte, shape_of}
 use Rattle.model.specs.Structs.{op_in}
 use Rattle.model.specs.declared.Decoded.{Decoded}
+use Rattle.model.specs.declared.codes.Fault.{Fault}
 use Rattle.effect.specs.Effect.{effect_of}
 use Rattle.visit.specs.Visit.{Held}
 use Rattle.machine.specs.Run.{Bytes}
@@ -30,14 +32,19 @@ pub record RunsReady (l : List ℕ) (d : Decoded) (y : Way) (image : Bytes) (vis
 abbrev pub left_in : Bytes → Gone → Heap
 left_in image r = heap_of image.pointers (take r.cells image.cells)
 
--- what the run gave, and the image afterwards, are those of the statement run on the way's heap; without a fault the
--- visited cells stand in their order, and the marks tell the core cells
-pub record WayRan (l : List ℕ) (d : Decoded) (y : Way) (image : Bytes) (visit seen : List ℕ) (r : Gone) : Type 0 where
-  pub outcome : effect_of r.fault (left_in image r) ≡ carry_out (op_in d) (byte l 3) (way_in y (shape_of l)).heap
+-- a run without fault: the image afterwards is that of the statement run on the way's heap, the visited cells stand in
+-- their order, and the marks tell the core cells
+pub record WayDone (l : List ℕ) (d : Decoded) (y : Way) (image : Bytes) (visit seen : List ℕ) (r : Gone) : Type 0 where
+  pub outcome : done (left_in image r) ≡ carry_out (op_in d) (byte l 3) (way_in y (shape_of l)).heap
   pub branch : r.branch ≡ branch (op_in d) y.pick (shape_of l)
-  pub known : r.fault ≤ 3
   pub count : r.cells ≤ byte l 3 + 1
-  pub is_heap : r.fault ≡ 0 → IsHeap (left_in image r)
-  pub visited : r.fault ≡ 0 → take r.visited visit ≡ order (left_in image r)
-  pub few : r.fault ≡ 0 → r.visited ≤ r.cells
-  pub held : r.fault ≡ 0 → Held image.pointers (take r.cells image.cells) seen
+  pub is_heap : IsHeap (left_in image r)
+  pub visited : take r.visited visit ≡ order (left_in image r)
+  pub few : r.visited ≤ r.cells
+  pub held : Held image.pointers (take r.cells image.cells) seen
+
+-- what the run gave, and the image afterwards: a fault is that of the statement run on the way's heap
+abbrev pub WayRan : List ℕ → Decoded → Way → Bytes → List ℕ → List ℕ → Result Gone Fault → Type 0
+WayRan l d y image visit seen (Ok r) = WayDone l d y image visit seen r
+WayRan l d y image visit seen (Err f) =
+    (g : Heap) → effect_of (fault_code f) g ≡ carry_out (op_in d) (byte l 3) (way_in y (shape_of l)).heap

@@ -4,14 +4,13 @@
 ghost use Rattle.machine.specs.Run.{bytes};
 ghost use Rattle.shape_run.specs.WayRun.{RunsReady, WayRan};
 
-use model::Decoded;
+use model::{Decoded, Fault};
 use way::Way;
 
-// What the run by a way gives beside the heap image: the fault (0 for none), the branch, how many cells there are, and
+// What the run by a way gives beside the heap image, where it has no fault: the branch, how many cells there are, and
 // how many were visited.
 #[derive(Clone, Copy)]
 pub struct Gone {
-    pub fault: u8,
     pub branch: u8,
     pub cells: usize,
     pub visited: usize,
@@ -26,7 +25,7 @@ pub fn run_way(
     cells: &mut [u8],
     order: &mut [u8],
     seen: &mut [u8],
-) -> Gone
+) -> Result<Gone, Fault>
     requires { RunsReady location.now d way (bytes pointers.old cells.old) order.old seen.old }
     ensures { WayRan location.now d way (bytes pointers.new cells.new)
         order.new seen.new result }
@@ -34,11 +33,10 @@ pub fn run_way(
     let k = location[3] as usize;
     let n = way::open_way(location, d.op, way, pointers, cells);
     let branch = branch::branch_of(d, way.pick, &pointers[..]);
-    let ran = machine::run(d, k, pointers, &mut cells[..n], order, seen);
-    Gone {
-        fault: ran.fault,
-        branch: branch,
+    let visited = machine::run(d, k, pointers, &mut cells[..n], order, seen)?;
+    Ok(Gone {
+        branch,
         cells: n,
-        visited: ran.visited,
-    }
+        visited,
+    })
 }

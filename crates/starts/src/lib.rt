@@ -18,10 +18,12 @@ fn put_start(input: &[u8], i: usize, locations: &mut [u8], j: usize)
     ensures { locations.new
         ≡ placed locations.old j (location_bytes 0 0 (record_at input.now i)) }
 {
-    let at = model::RECORD * j;
-    let start = model::RECORD * i;
-    let end = start + model::RECORD;
-    record::write_location(&mut locations[at..], Statement(0), 0, &input[start..end]);
+    record::write_location(
+        &mut locations[model::RECORD * j..],
+        Statement(0),
+        0,
+        model::record_at(input, i),
+    );
 }
 
 // Enters the m starting shapes behind n statements as locations 0 on, in input order, into a cleared table.
@@ -30,9 +32,7 @@ pub fn enter_starts(input: &[u8], n: usize, m: usize, locations: &mut [u8])
     ensures { locations.new
         ≡ table_of (length locations.old) (map loc_record (start_locs n input.now)) }
 {
-    let mut j = 0;
-    while j < m {
+    for j in 0..m {
         put_start(input, n + j, locations, j);
-        j += 1;
     }
 }

@@ -1,9 +1,8 @@
 -- The records of a table one after the other, and a location's record test by test.
-use Prim.Native.Nat.{ℕ, suc, ◌+◌, ◌-◌, ◌≤◌, ◌<◌}
+use Prim.Native.Nat.{ℕ, ◌≤◌, ◌<◌}
 use mathlib.Core.Path.{◌≡◌, refl, sym, ap, ap₂, ◌∙◌}
 use mathlib.Core.Bool.{Bool, true, false, ◌&&◌, ◌||◌, and-false, cond, not}
-use mathlib.Core.List.{List, [], ◌∷◌}
-use native.Mathlib.Numerals.{add-one}
+use mathlib.Core.List.{List}
 use native.Mathlib.Omega.{arith}
 use lib.Dec.{eqb, leb, ltb}
 use lib.ListN.{drop}
@@ -17,16 +16,6 @@ use Rattle.model.proofs.lists.Lists.{all_in}
 use Rattle.model.proofs.lists.Logic.{and_both, bool_case, not-false}
 use Rattle.model.proofs.lists.Numbers.{numbers_in}
 use Rattle.model.proofs.records.LayoutFacts.{location_few}
-
--- the numbers from i on
-pub numbers_next : (i n : ℕ) → i < n → numbers i (n - i) ≡ i ∷ numbers (i + 1) (n - (i + 1))
-numbers_next i n h = let e : n - i ≡ suc (n - (i + 1)) = omega arith in rw (e, add-one)
-
-pub numbers_end : (i n : ℕ) → n ≤ i → numbers i (n - i) ≡ []
-numbers_end i n h = let e : n - i ≡ 0 = omega arith in rw e
-
-pub numbers_all : (n : ℕ) → numbers 0 (n - 0) ≡ numbers 0 n
-numbers_all n = let e : n - 0 ≡ n = omega arith in rw e
 
 none_of : (a b c : Bool) → not a || not b || not c ≡ not (a && b && c)
 none_of true true c = refl

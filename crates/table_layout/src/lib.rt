@@ -5,19 +5,19 @@ ghost use Rattle.std.specs.Prelude.{◌≡◌, ℕ, ◌*◌, ◌<◌, ◌≤◌,
 ghost use Rattle.model.specs.Base.{all, most_nodes, numbers, record_size};
 ghost use Rattle.model.specs.Layout.{edge_keeps_in, keeps_layout, location_keeps};
 ghost use Rattle.model.specs.Records.{byte, record_at};
-ghost use Rattle.model.specs.Structs.{tables_in};
+ghost use Rattle.model.specs.Structs.{tables_lent};
 
 use edge_layout::edge_keeps;
 use layout::fields::all_zero;
 use location_table::in_places;
-use model::Counts;
+use model::{MOST_EDGES, MOST_LOCATIONS, Tables, record_at};
 
 // Whether a location's record keeps the layout.
 fn location_keeps(rec: &[u8]) -> bool
     requires { length rec.now ≡ record_size }
     ensures { result ≡ location_keeps rec.now }
 {
-    if (rec[0] != 0x4c) | (64 <= rec[1]) | (3 < rec[2]) {
+    if (rec[0] != b'L') | (64 <= rec[1]) | (3 < rec[2]) {
         return false;
     }
     if rec[2] == 0 {
@@ -31,49 +31,29 @@ fn locations_keep(locations: &[u8], count: usize) -> bool
     requires { record_size * count ≤ length locations.now }
     ensures { result ≡ all (λ n. location_keeps (record_at locations.now n)) (numbers 0 count) }
 {
-    let mut i = 0;
-    while i < count {
-        let at = model::RECORD * i;
-        let end = at + model::RECORD;
-        if !location_keeps(&locations[at..end]) {
-            return false;
-        }
-        i += 1;
-    }
-    true
+    (0..count).all(|n| location_keeps(record_at(locations, n)))
 }
 
 // Whether the first records of the edge table keep the layout, where those of the location table do.
-fn edges_keep(locations: &[u8], edges: &[u8], counts: Counts) -> bool
-    requires { (record_size * counts.locations ≤ length locations.now)
-        × (record_size * counts.edges ≤ length edges.now)
-        × ((i : ℕ) → i < counts.locations → byte (record_at locations.now i) 3 ≤ most_nodes) }
-    ensures { result ≡ all (λ n. edge_keeps_in (tables_in locations.now edges.now counts)
-        (record_at edges.now n)) (numbers 0 counts.edges) }
+fn edges_keep(tables: Tables) -> bool
+    requires { (record_size * tables.counts.locations ≤ length tables.locations.now)
+        × (record_size * tables.counts.edges ≤ length tables.edges.now)
+        × ((i : ℕ) → i < tables.counts.locations → byte (record_at tables.locations.now i) 3 ≤ most_nodes) }
+    ensures { let t = tables_lent tables.entry in
+        result ≡ all (λ n. edge_keeps_in t (record_at t.edge_bytes n)) (numbers 0 t.edge_count) }
 {
-    let mut i = 0;
-    while i < counts.edges {
-        let at = model::RECORD * i;
-        let end = at + model::RECORD;
-        if !edge_keeps(locations, counts.locations, &edges[at..end]) {
-            return false;
-        }
-        i += 1;
-    }
-    true
+    (0..tables.counts.edges).all(|n| edge_keeps(tables, record_at(tables.edges, n)))
 }
 
 // Whether the two tables keep the layout.
-pub fn tables_keep(locations: &[u8], edges: &[u8], counts: Counts) -> bool
-    ensures { result ≡ keeps_layout (tables_in locations.now edges.now counts) }
+pub fn tables_keep(tables: Tables) -> bool
+    ensures { result ≡ keeps_layout (tables_lent tables.entry) }
 {
-    if !(in_places(model::MOST_LOCATIONS, counts.locations, locations.len())
-        & in_places(model::MOST_EDGES, counts.edges, edges.len()))
+    let counts = tables.counts;
+    if !(in_places(MOST_LOCATIONS, counts.locations, tables.locations.len())
+        & in_places(MOST_EDGES, counts.edges, tables.edges.len()))
     {
         return false;
     }
-    if !locations_keep(locations, counts.locations) {
-        return false;
-    }
-    edges_keep(locations, edges, counts)
+    locations_keep(tables.locations, counts.locations) && edges_keep(tables)
 }

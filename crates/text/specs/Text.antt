@@ -1,10 +1,11 @@
 -- The text of an outcome, as the request's P1 fixes it: "prints each L, then each E, as 64 hex digits a line, or
 -- `refused`, number and place in base 10 with one space between". Assumes nothing.
-use Rattle.std.specs.Prelude.{ℕ, zero, suc, ◌+◌, ◌/◌, ◌%◌, true, false, cond, List, [], ◌∷◌, ◌++◌, ltb}
+use Rattle.std.specs.Prelude.{ℕ, zero, suc, ◌+◌, ◌/◌, ◌%◌, true, false, cond, List, [], ◌∷◌, ◌++◌, ltb, Result}
 use Rattle.model.specs.Records.{Refusal, is_accepted, is_refused, tells_node}
 use Rattle.model.specs.Answers.{outcome_of}
 use Rattle.model.specs.Translate.{Outcome}
-use Rattle.model.specs.declared.Translated.{Translated}
+use Rattle.model.specs.declared.Counts.{Counts}
+use Rattle.model.specs.declared.codes.Refusal as declared
 use Rattle.hex_lines.specs.Lines.{lines_of, Stand}
 
 -- ---- a refusal
@@ -46,5 +47,5 @@ text_of o =
     ]
 
 -- the records that an outcome counts stand in the tables, and the text has room for them
-abbrev pub Stands : Translated → List ℕ → List ℕ → Type 0
+abbrev pub Stands : Result Counts declared.Refusal → List ℕ → List ℕ → Type 0
 Stands o ls es = Stand (outcome_of o ls es).tables.loc_count ls (outcome_of o ls es).tables.edge_count es

@@ -1,6 +1,5 @@
 -- What an answer of the translator says: its counts have their records in the tables, and its outcome has its text;
--- and what is printed for
--- the part of an input that was read.
+-- and what is printed for the part of an input that was read.
 use Prim.Native.Nat.{ℕ, ◌≤◌, ◌<◌}
 use native.Mathlib.Omega.{arith}
 use mathlib.Core.Path.{◌≡◌, sym, ap, ◌∙◌}
@@ -9,18 +8,20 @@ use lib.Dec.{leb}
 use lib.ListN.{length, take}
 use lib.Seq.{take_all}
 use borrow.Author.Tests.{leb-false, leb-true}
-use Rattle.std.proofs.Common.{Option, None, Some, IfSome, subst}
+use Rattle.std.proofs.Common.{Option, None, Some, IfSome, Result, subst}
 use Rattle.std.proofs.lemmas.List.{take-append-le}
 use Rattle.std.specs.Io.KnownBytes.{Appends, Consumes, IsAtEnd}
 use Rattle.model.specs.Answers.{outcome_of}
 use Rattle.model.specs.Translate.{translate}
-use Rattle.model.specs.declared.Translated.{Translated}
+use Rattle.model.specs.declared.Counts.{Counts}
+use Rattle.model.specs.declared.codes.Refusal.{Refusal}
 use Rattle.model.proofs.lists.Logic.{bool_case}
 use Rattle.model.proofs.listings.Outcomes.{fitting}
 use Rattle.text.specs.Text.{Stands, text_of}
 use Rattle.translate.specs.Printed.{printed}
 
-module _ (s : List ℕ) (a b : ℕ) (o : Translated) (ls es : List ℕ) (e : outcome_of o ls es ≡ translate s a b) where
+module _ (s : List ℕ) (a b : ℕ) (o : Result Counts Refusal) (ls es : List ℕ)
+    (e : outcome_of o ls es ≡ translate s a b) where
   pub counts_stand : length ls ≡ a → length es ≡ b → Stands o ls es
   counts_stand p q =
       let l = ap (λ x. x.tables.loc_count) e in

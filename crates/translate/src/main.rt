@@ -9,18 +9,17 @@ ghost use Rattle.translate.specs.Printed.{printed};
 
 use std::io::{Read, Result, Write};
 
-// A table for 1,024 locations.
-fn location_table() -> [u8; 32768]
-    ensures { 32768 ≡ length result }
-{
-    [0; 32768]
-}
+// The bytes of a table for 1,024 locations.
+const LOCATION_BYTES: usize = 32768;
 
 // Room for the longest text: a line of 65 bytes for each of 1,024 locations and 2,048 edges.
-fn text_room() -> [u8; 199680]
-    ensures { 199680 ≡ length result }
+const TEXT_BYTES: usize = 199680;
+
+// So many bytes, all zero.
+fn zeros<const N: usize>() -> [u8; N]
+    ensures { length result ≡ N }
 {
-    [0; 199680]
+    [0; N]
 }
 
 // The whole text for an input: the bytes before the place that is answered.
@@ -29,7 +28,7 @@ fn write_answer(input: &[u8], n: usize, text: &mut [u8]) -> usize
     ensures prefix_len { IsPrefixLen result text.new }
     ensures text_after { take result text.new ≡ printed (take n input.now) }
 {
-    let mut locations = location_table();
+    let mut locations = zeros::<LOCATION_BYTES>();
     let mut edges = io::large_buffer();
     let outcome = automaton::translate(&input[..n], &mut locations, &mut edges);
     text::write_outcome(outcome, &locations, &edges, text)
@@ -43,6 +42,7 @@ fn read_full<R: Read>(from: &mut R, buffer: &mut [u8]) -> Result<usize>
     ensures whole { IfOk result (λ n. n < length buffer.new → IsAtEnd (R.remaining from.new)) }
 {
     let mut done = 0;
+    // counts no index, but bytes: the library reads all of a buffer or fails, and a short input is whole here
     while done < buffer.len() {
         let n = from.read(&mut buffer[done..])?;
         if n == 0 {
@@ -60,7 +60,7 @@ fn answer<R: Read, W: Write>(from: &mut R, to: &mut W) -> Result<()>
         Appends (W.contents to.old) (W.contents to.new) (printed input))) }
 {
     let mut input = io::buffer();
-    let mut text = text_room();
+    let mut text = zeros::<TEXT_BYTES>();
     let n = read_full(from, &mut input)?;
     let end = write_answer(&input, n, &mut text);
     to.write_all(&text[..end])

@@ -7,11 +7,10 @@ use mathlib.Core.Logic.{inl, inr}
 use mathlib.Core.List.{List, [], ◌∷◌, ◌++◌, map, map-append}
 use native.Mathlib.Numerals.{add-one}
 use native.Mathlib.Omega.{arith}
-use lib.Dec.{leb, ltb}
-use lib.ListN.{drop, length, length-drop, take}
-use lib.Seq.{length-take-le}
+use lib.Dec.{ltb}
+use lib.ListN.{drop, length, take}
 use borrow.Author.Tests.{le-ltb, lt-ltb}
-use Rattle.model.specs.Base.{all, sum}
+use Rattle.model.specs.Base.{sum}
 use Rattle.model.specs.Heap.{Slot, Val, cell, holds, null, undef}
 use Rattle.model.specs.Image.{cell_bytes_of, first_cell, spread, strand, strands, unfold_heap}
 use Rattle.model.specs.Records.{byte, shape_of, slot_byte, val_byte, val_of}
@@ -79,26 +78,15 @@ module _ (r vs ps cs : List ℕ) (ready : UnfoldReady r vs ps cs) where
   pub ready_twelve : length vs ≡ 12
   ready_twelve = (counters_fit_lem (byte r 3) vs (length cs) ready.fit).0
 
-  pub ready_positive : all (leb 1) (take (byte r 3) vs) ≡ true
-  ready_positive = (counters_fit_lem (byte r 3) vs (length cs) ready.fit).1
-
   pub ready_total : sum (λ v. v) vs ≤ length cs
   ready_total = (counters_fit_lem (byte r 3) vs (length cs) ready.fit).3
 
   pub ready_nodes : sum (λ v. v) (take (byte r 3) vs) ≤ length cs
   ready_nodes = omega (arith, ready_total, sum_take (byte r 3) vs)
 
-  pub ready_counters : length (take (byte r 3) vs) ≡ byte r 3
-  ready_counters = length-take-le (byte r 3) vs (omega (arith, ready_twelve, ready_few))
-
   -- the successors, as the part of the record that ends with the last one
   successors_end : 10 + byte r 3 - 10 ≡ byte r 3
   successors_end = omega arith
-
-  pub ready_successors : length (take (10 + byte r 3 - 10) (drop 10 r)) ≡ byte r 3
-  ready_successors =
-      ap (λ n. length (take n (drop 10 r))) successors_end
-      ∙ length-take-le (byte r 3) (drop 10 r) (omega (arith, ready.wide, ready_few, length-drop 10 r))
 
   -- and with the table of first cells its image is the unfolded heap's
   module _ (fs : List ℕ) (first : FirstCells vs fs) (same : length fs ≡ length vs) where

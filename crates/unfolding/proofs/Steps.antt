@@ -2,21 +2,14 @@
 -- strand.
 use Prim.Native.Nat.{ℕ, zero, suc, ◌+◌, ◌-◌, ◌≤◌, ◌<◌}
 use mathlib.Core.Path.{◌≡◌, sym, ap, ap₂, ◌∙◌}
-use mathlib.Core.Bool.{true}
-use mathlib.Core.List.{List, [], ◌∷◌, ◌++◌, append_assoc, append-nil}
+use mathlib.Core.List.{List, [], ◌∷◌, ◌++◌, append_assoc}
 use native.Mathlib.Nat.{add_assoc, suc-add}
 use native.Mathlib.Omega.{arith}
-use lib.Dec.{leb}
-use lib.ListN.{length, drop, get_or, replicate, take, drop_of_length-le, length-drop}
-use lib.Seq.{length-take-le}
-use borrow.Author.Tests.{leb-true}
-use borrow.Rule.Slice.PartMut.{mid_of, put_mid}
-use Rattle.model.specs.Base.{all, sum}
+use lib.ListN.{length, drop, get_or, take, drop_of_length-le}
+use Rattle.model.specs.Base.{sum}
 use Rattle.model.specs.Image.{first_cell}
-use Rattle.model.proofs.lists.Lists.{all_at}
-use Rattle.model.proofs.lists.Slices.{drop_step, part_from}
-use Rattle.unfolding.specs.Bytes.{image_bytes, placed_byte, strand_bytes, strands_bytes}
-use Rattle.model.proofs.lists.Loops.{sum_step}
+use Rattle.model.proofs.lists.Slices.{drop_step}
+use Rattle.unfolding.specs.Bytes.{placed_byte, strand_bytes, strands_bytes}
 
 pub first_next : (vs : List ℕ) (n : ℕ) → n < length vs → first_cell vs (n + 1) ≡ first_cell vs n + get_or vs n 0
 first_next [] n h = absurd (omega arith)
@@ -55,12 +48,6 @@ pub strands_end : (fs ss cs : List ℕ) (b n : ℕ) → length ss ≤ n → stra
 unfolding strands_bytes
 strands_end fs ss cs b n h = ap (λ l. strands_bytes fs b l (drop n cs)) (drop_of_length-le ss h)
 
--- node n has a cell, and its cells, from cell b on, are within m
-pub node_room : (vs : List ℕ) (n b m : ℕ) → n < length vs → all (leb 1) vs ≡ true
-    → b + sum (λ v. v) (drop n vs) ≡ sum (λ v. v) vs → sum (λ v. v) vs ≤ m → (1 ≤ get_or vs n 0)
-    × (b + get_or vs n 0 ≤ m)
-node_room vs n b m h p e q = (leb-true 1 (get_or vs n 0) (all_at (leb 1) vs 0 n p h), omega (arith, sum_step vs n h))
-
 -- cells l with the strand of node n written, as k: the other strands follow
 pub strands_push : (fs ss cs l k : List ℕ) (b n : ℕ) → n < length ss → length ss ≡ length cs
     → take (b + get_or cs n 0) k ≡ take b l ++ strand_bytes b (get_or cs n 0) (placed_byte fs (get_or ss n 0))
@@ -71,14 +58,3 @@ strands_push fs ss cs l k b n h e w =
     let x = strand_bytes b (get_or cs n 0) (placed_byte fs (get_or ss n 0)) in
     ap (λ t. t ++ rest) w ∙ append_assoc (take b l) x rest
     ∙ ap (λ t. take b l ++ t) (sym (strands_step fs ss cs b n h e))
-
--- cells c, of which the first t hold l, with the part behind them filled
-pub image_done : (c l ys : List ℕ) (t n : ℕ) → length c ≡ n → t ≤ n → take t c ≡ l
-    → ys ≡ replicate (length (mid_of t (length c - t) c)) 0xfd
-    → put_mid t (length c - t) c ys ≡ image_bytes n l
-image_done c l ys t n e h w f =
-    let k : length (drop t c) ≤ length c - t = omega (arith, length-drop t c) in
-    let p : drop (length c - t) (drop t c) ≡ [] = drop_of_length-le (drop t c) k in
-    let s : length (mid_of t (length c - t) c) ≡ n - length l =
-    omega (arith, ap length (part_from c t), length-drop t c, length-take-le t c (omega arith), ap length w) in
-    ap₂ ◌++◌ w (ap (λ z. ys ++ z) p ∙ append-nil ys ∙ f ∙ ap (λ m. replicate m 0xfd) s)

@@ -1,14 +1,12 @@
 // The heap image that a shape with counters unfolds to: cells are numbered from 0, node by node, head to tail.
 #![tactic(auto)]
 
-ghost use Rattle.std.specs.Prelude.{◌≡◌, true, ◌++◌, map, ◌+◌, ◌<◌, ◌≤◌, leb, length, get_or, take};
+ghost use Rattle.std.specs.Prelude.{◌≡◌, true, ◌++◌, map, ◌+◌, ◌<◌, ◌≤◌, leb, length, take};
 ghost use Rattle.model.specs.Base.{all, sum, most_cells};
 ghost use Rattle.model.specs.Image.{unfold_heap, cell_bytes_of};
 ghost use Rattle.model.specs.Records.{byte, shape_of, val_byte};
 ghost use Rattle.unfolding.specs.Bytes.{FirstCells, image_bytes, placed_byte, strand_bytes, strands_bytes};
 ghost use Rattle.unfolding.specs.Ready.{UnfoldReady};
-
-use model::Node;
 
 // Enters the first cell of each node into the table.
 fn first_cells(counters: &[u32], firsts: &mut [u8])
@@ -16,32 +14,17 @@ fn first_cells(counters: &[u32], firsts: &mut [u8])
     ensures { FirstCells counters.now firsts.new }
 {
     let mut at: u32 = 0;
-    let mut n = 0;
-    while n < counters.len() {
+    for (n, counter) in counters.iter().enumerate() {
         firsts[n] = at as u8;
-        at += counters[n];
-        n += 1;
+        at += *counter;
     }
-}
-
-// The first cell of node n.
-fn first_of(firsts: &[u8], n: Node) -> u8
-    requires { n.0 < length firsts.now }
-    ensures { result ≡ get_or firsts.now n.0 0 }
-{
-    let i = n.0 as usize;
-    firsts[i]
 }
 
 // What a value of the shape is in the heap: a node becomes its first cell.
 fn placed(firsts: &[u8], value: u8) -> u8
     ensures { result ≡ placed_byte firsts.now value }
 {
-    if (value as usize) < firsts.len() {
-        first_of(firsts, Node(value))
-    } else {
-        value
-    }
+    firsts.get(value as usize).copied().unwrap_or(value)
 }
 
 // Writes the heap's pointers for those of the shape.
@@ -49,10 +32,8 @@ fn place_pointers(firsts: &[u8], values: &[u8], pointers: &mut [u8])
     requires { length values.now ≡ length pointers.old }
     ensures { pointers.new ≡ map (placed_byte firsts.now) values.now }
 {
-    let mut i = 0;
-    while i < values.len() {
-        pointers[i] = placed(firsts, values[i]);
-        i += 1;
+    for (i, value) in values.iter().enumerate() {
+        pointers[i] = placed(firsts, *value);
     }
 }
 
@@ -63,10 +44,8 @@ fn write_strand(cells: &mut [u8], at: usize, count: usize, value: u8)
         ≡ take at cells.old ++ strand_bytes at count value }
 {
     let last = at + count - 1;
-    let mut i = at;
-    while i < last {
+    for i in at..last {
         cells[i] = (i + 1) as u8;
-        i += 1;
     }
     cells[last] = value;
 }
@@ -80,13 +59,10 @@ fn write_strands(firsts: &[u8], successors: &[u8], counters: &[u32], cells: &mut
         ≡ strands_bytes firsts.now 0 successors.now counters.now }
 {
     let mut at = 0;
-    let mut n = 0;
-    while n < counters.len() {
-        let count = counters[n] as usize;
-        let value = placed(firsts, successors[n]);
-        write_strand(cells, at, count, value);
+    for (n, counter) in counters.iter().enumerate() {
+        let count = *counter as usize;
+        write_strand(cells, at, count, placed(firsts, successors[n]));
         at += count;
-        n += 1;
     }
     at
 }
@@ -99,7 +75,7 @@ fn write_cells(firsts: &[u8], successors: &[u8], counters: &[u32], cells: &mut [
         (strands_bytes firsts.now 0 successors.now counters.now) }
 {
     let count = write_strands(firsts, successors, counters, cells);
-    fill::fill(&mut cells[count..], 0xfd);
+    cells[count..].fill(model::UNUSED);
 }
 
 // Writes the image of the shape in rec, unfolded by the counters.

@@ -35,11 +35,9 @@ pub fn carry_updates(updates: &mut [u16])
     requires { most_nodes ≤ length updates.old }
     ensures { (j : ℕ) → j < most_nodes → get_or updates.new j 0 ≡ 4096 + 2 ^ j }
 {
-    let mut j: u8 = 0;
-    while j < 12 {
+    for j in 0..12 {
         let n = Node(j);
         set_code(updates, n, 0x1000 + flag(n));
-        j += 1;
     }
 }
 
@@ -59,6 +57,7 @@ fn sum_of(set: u16, counters: &[u32]) -> u64
 {
     let mut left = set;
     let mut sum: u64 = 0;
+    // counts no index: each turn takes the lowest bit off, so that it costs a turn for each counter of the set
     while 0 < left {
         let k = u16::trailing_zeros(left);
         sum += counters[k as usize] as u64;
@@ -73,8 +72,5 @@ pub fn apply(update: u16, counters: &[u32]) -> u64
     ensures { result ≡ applied counters.now update }
 {
     let sum = sum_of(update & 0x0fff, counters) + (update / 4096 % 4) as u64;
-    if sum == 0 {
-        return 0;
-    }
-    sum - 1
+    sum.saturating_sub(1)
 }

@@ -36,7 +36,7 @@ fn exclude(guards: Guards) -> bool
 {
     let a = guards.first;
     let b = guards.second;
-    (((a.test == 1) & (b.test == 2)) | ((a.test == 2) & (b.test == 1))) & (a.node.0 == b.node.0)
+    (((a.test == 1) & (b.test == 2)) | ((a.test == 2) & (b.test == 1))) & (a.node == b.node)
 }
 
 // Whether an update could give less than 1: the least counters that pass the guards are 1 and 2.
@@ -67,20 +67,6 @@ fn update_keeps(update: u16, nodes: u8, guards: Guards) -> bool
     !falls(update, nodes, guards)
 }
 
-// Whether an update adds none of the counters that are seen.
-fn apart(seen: u16, update: u16) -> bool
-    ensures { result ≡ eqb (bit_and seen (update % 4096)) 0 }
-{
-    seen & (update & 0x0fff) == 0
-}
-
-// The counters that are seen with those of one more update.
-fn seen_with(seen: u16, update: u16) -> u16
-    ensures { result ≡ bit_or seen (update % 4096) }
-{
-    seen | (update & 0x0fff)
-}
-
 // Whether the updates of an edge's record keep the layout, one for each of the target's nodes.
 pub fn updates_keep(rec: &[u8], nodes: u8, new: usize, guards: Guards) -> bool
     requires { (length rec.now ≡ record_size) × (nodes ≤ most_nodes) × (new ≤ most_nodes)
@@ -88,15 +74,15 @@ pub fn updates_keep(rec: &[u8], nodes: u8, new: usize, guards: Guards) -> bool
     ensures { result ≡ all (update_keeps nodes (codes_in guards)) (updates_of new rec.now)
         && added_once (updates_of new rec.now) }
 {
+    // The old counters that earlier updates add.
     let mut seen: u16 = 0;
-    let mut j = 0;
-    while j < new {
+    for j in 0..new {
         let update = word::two(rec, 8 + 2 * j);
-        if !(update_keeps(update, nodes, guards) & apart(seen, update)) {
+        let old = update & 0x0fff;
+        if !(update_keeps(update, nodes, guards) & (seen & old == 0)) {
             return false;
         }
-        seen = seen_with(seen, update);
-        j += 1;
+        seen |= old;
     }
     true
 }

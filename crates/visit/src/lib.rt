@@ -13,7 +13,8 @@ ghost use Rattle.visit.specs.Steps.{WalkReady, Walked, lost_at};
 
 // Follows nexts from the value start until null, undefined or a cell seen before. A new cell is put behind the count
 // cells of the order; the answer is how many there are then. The mark of a cell counts its holders, to 2 at most:
-// start is what a pointer holds, and a pointer counts twice.
+// start is what a pointer holds, and a pointer counts twice. The order is lent with its count beside it: fixed memory,
+// no heap, and room that differs from caller to caller.
 fn walk_from(cells: &[u8], order: &mut [u8], seen: &mut [u8], count: usize, start: u8) -> usize
     requires { WalkReady cells.now order.old seen.old count start }
     ensures { Walked cells.now (take count order.old) seen.old start
@@ -22,7 +23,7 @@ fn walk_from(cells: &[u8], order: &mut [u8], seen: &mut [u8], count: usize, star
     let mut n = count;
     let mut v = start as usize;
     let mut holders: u8 = 2;
-    // null and undefined are past the last cell
+    // A while, since it follows successors and counts no index. Null and undefined are past the last cell.
     while v < cells.len() {
         if seen[v] != 0 {
             seen[v] = 2;
@@ -43,11 +44,9 @@ pub fn visit(pointers: &[u8], cells: &[u8], order: &mut [u8], seen: &mut [u8]) -
     requires { VisitReady pointers.now cells.now order.old seen.old }
     ensures { Visited pointers.now cells.now order.new seen.new result }
 {
-    let mut n: usize = 0;
-    let mut i = 0;
-    while i < pointers.len() {
-        n = walk_from(cells, order, seen, n, pointers[i]);
-        i += 1;
+    let mut n = 0;
+    for start in pointers {
+        n = walk_from(cells, order, seen, n, *start);
     }
     n
 }
@@ -59,7 +58,7 @@ pub fn visit(pointers: &[u8], cells: &[u8], order: &mut [u8], seen: &mut [u8]) -
 fn kept_too(before: bool, b: u8, mark: u8) -> bool
     ensures { result ≡ not (lost_at b mark) && before }
 {
-    before & ((b == 0xfd) | (mark != 0))
+    before & ((b == model::UNUSED) | (mark != 0))
 }
 
 // Whether every cell in use has a mark. All cells are looked at: that is quicker than to stop at the first that is
@@ -70,10 +69,8 @@ pub fn nothing_lost(cells: &[u8], seen: &[u8]) -> bool
         (map cell_slot cells.now) }
 {
     let mut kept = true;
-    let mut i = 0;
-    while i < cells.len() {
-        kept = kept_too(kept, cells[i], seen[i]);
-        i += 1;
+    for (i, b) in cells.iter().enumerate() {
+        kept = kept_too(kept, *b, seen[i]);
     }
     kept
 }

@@ -1,18 +1,34 @@
 -- A walk in tables and a configuration that keep the layout, move by move.
 use Prim.Native.Nat.{ℕ, ◌+◌, ◌≤◌, ◌<◌}
-use mathlib.Core.Path.{◌≡◌, refl, sym, ap, subst, ◌∙◌}
+use mathlib.Core.Path.{◌≡◌, refl, sym, ap, ap₂, subst, ◌∙◌}
 use mathlib.Core.Bool.{true}
 use mathlib.Core.List.{List, ◌∷◌}
 use native.Mathlib.Numerals.{add-one}
 use native.Mathlib.Omega.{arith}
 use lib.ListN.{drop, drop_of_length-le, get_or, length}
+use Rattle.std.specs.Prelude.{Err}
+use Rattle.model.specs.Codes.{move_refusal_number}
 use Rattle.model.specs.Translate.{Tables}
-use Rattle.model.specs.Walking.{keeps, moved, moves_along, walked_to}
+use Rattle.model.specs.Walking.{Moved, keeps, moved, moved_of, moves_along, stays_with, walked_to}
 use Rattle.model.specs.declared.Configuration.{Configuration}
-use Rattle.model.specs.declared.Moved.{Moved}
+use Rattle.model.specs.declared.codes.MoveRefusal.{MoveRefusal}
+use Rattle.model.specs.declared.codes.MoveRefusal.TheVariants.{CounterTooLarge, NotMade}
 use Rattle.model.proofs.lists.Slices.{drop_step}
 use Rattle.model.proofs.runs.Along.{along_done, along_refused, number-case}
 use Rattle.model.proofs.runs.OneMove.{move_done, move_told}
+use Rattle.moving.specs.Advanced.{moved_by}
+
+-- a refusal has a number
+pub told_nonzero : (r : MoveRefusal) → move_refusal_number r ≡ 0 → ⊥
+told_nonzero NotMade e = omega arith
+told_nonzero CounterTooLarge e = omega arith
+
+-- and changes nothing
+pub refused_is : (t : Tables) (c : Configuration) (n : ℕ) (r : MoveRefusal) {cs : List ℕ}
+    → moved_by c.location (Err r) cs ≡ moved t c n → moved_of c (Err r) ≡ moved t c n
+refused_is t c n r e =
+    let x : move_refusal_number r ≡ (moved t c n).refusal = ap (λ (m : Moved). m.refusal) e in
+    ap₂ stays_with x (sym ((move_told t c n).stays (λ z. told_nonzero r (x ∙ z))))
 
 -- after i moves from c₀ the walk stands at c, which keeps the layout, and the rest of the path decides
 pub record Standing (t : Tables) (c₀ : Configuration) (ns : List ℕ) (i : ℕ) (c : Configuration) : Type 0 where

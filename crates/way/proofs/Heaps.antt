@@ -1,7 +1,9 @@
 -- The heap that a way opens: it is closed, new finds its cell free, and a run on it is one on the way's heap.
 use Prim.Native.Nat.{ℕ, zero, suc, ◌<◌}
 use mathlib.Core.Path.{◌≡◌, refl, sym, subst, fun_ext, ◌∙◌}
-use mathlib.Core.Bool.{Bool, true, false}
+use mathlib.Core.Bool.{true, false}
+use Rattle.std.specs.Prelude.{Option, Some, None}
+use Rattle.model.specs.declared.Node.{Node}
 use mathlib.Core.List.{List, [], ◌∷◌, ◌++◌}
 use native.Mathlib.Omega.{arith}
 use lib.ListN.{get_or-eq_default, get_or, length}
@@ -37,44 +39,44 @@ unused_closed h k =
 
 -- ---- the opened heap
 
-pub opened_closed : (sp : Bool) (op n : ℕ) (h : Heap) → ClosedHeap h → (sp ≡ true → Used (next h) n)
-    → closed (opened_heap sp op n h) ≡ true
-opened_closed true op n h c u = closed_test (split_heap n (length h.slots) h)
-    (split_closed n (length h.slots) h (u refl) c)
-opened_closed false op n h c u =
+pub opened_closed : (sp : Option Node) (op : ℕ) (h : Heap) → ClosedHeap h
+    → ((n : Node) → sp ≡ Some n → Used (next h) n.0) → closed (opened_heap sp op h) ≡ true
+opened_closed (Some n) op h c u = closed_test (split_heap n.0 (length h.slots) h)
+    (split_closed n.0 (length h.slots) h (u n refl) c)
+opened_closed None op h c u =
     bool_case (makes_at op) (λ e. rw e (closed_test (with_unused h) (unused_closed h c))) (λ e. rw e (closed_test h c))
 
 -- new is not split, and its cell is not in use
-new_whole : (a : Action) (sp : Bool) (n : ℕ) (h : Heap) → (sp ≡ true → Views (view a h) n) → makes a ≡ true → sp
-    ≡ false
-new_whole a true n h v e = clash e (view_makes a h n (v refl))
-new_whole a false n h v e = refl
+new_whole : (a : Action) (sp : Option Node) (h : Heap) → ((n : Node) → sp ≡ Some n → Views (view a h) n.0)
+    → makes a ≡ true → sp ≡ None
+new_whole a (Some n) h v e = clash e (view_makes a h n.0 (v n refl))
+new_whole a None h v e = refl
 
 -- the action by the op's number
-module _ (op u w : ℕ) (lt : op < op_count) (sp : Bool) (n : ℕ) (h : Heap)
-    (v : sp ≡ true → Views (view (action (op_of op u w)) h) n) where
+module _ (op u w : ℕ) (lt : op < op_count) (sp : Option Node) (h : Heap)
+    (v : (n : Node) → sp ≡ Some n → Views (view (action (op_of op u w)) h) n.0) where
   abbrev a : Action
   a = action (op_of op u w)
 
-  pub opened_room : Room a (opened_heap sp op n h) (length h.slots)
+  pub opened_room : Room a (opened_heap sp op h) (length h.slots)
   opened_room = λ e.
-      rw (new_whole a sp n h v e, sym (makes_op op u w lt) ∙ e)
+      rw (new_whole a sp h v e, sym (makes_op op u w lt) ∙ e)
       (past_last h.slots (length h.slots) ∙ get_or-eq_default h.slots unused (omega arith))
 
   pub opened_end : past_end a (length h.slots) (opened_count sp op (length h.slots)) ≡ false
   opened_end = end_makes a (length h.slots) (opened_count sp op (length h.slots)) (λ e.
-      rw (new_whole a sp n h v e, sym (makes_op op u w lt) ∙ e) (omega arith))
+      rw (new_whole a sp h v e, sym (makes_op op u w lt) ∙ e) (omega arith))
 
   -- a run on it is one on the way's heap
-  pub opened_run : (y : Way) → y.split ≡ sp → y.node.0 ≡ n
-      → carry_out (op_of op u w) (length h.slots) (opened_heap sp op n h) ≡ carry_out (op_of op u w) (length h.slots)
+  pub opened_run : (y : Way) → y.split ≡ sp
+      → carry_out (op_of op u w) (length h.slots) (opened_heap sp op h) ≡ carry_out (op_of op u w) (length h.slots)
       (way_in y h).heap
-  opened_run y e f = by_split sp e
+  opened_run y e = by_split sp e
     where
-      by_split : (b : Bool) → y.split ≡ b
-          → carry_out (op_of op u w) (length h.slots) (opened_heap b op n h)
+      by_split : (b : Option Node) → y.split ≡ b
+          → carry_out (op_of op u w) (length h.slots) (opened_heap b op h)
           ≡ carry_out (op_of op u w) (length h.slots) (way_in y h).heap
-      by_split true q = rw (q, f)
-      by_split false q = rw q (bool_case (makes_at op)
+      by_split (Some n) q = rw q
+      by_split None q = rw q (bool_case (makes_at op)
           (λ m. rw m (run_makes (op_of op u w) h (makes_op op u w lt ∙ m)))
           (λ m. rw m))

@@ -1,12 +1,14 @@
 -- Opening a shape: the bytes are those of the opened heap, and new runs on the opened heap as it does on the shape.
 use Prim.Native.Nat.{ℕ, zero, suc, ◌+◌, ◌≤◌, ◌<◌}
-use mathlib.Core.Bool.{Bool, true, false, ◌||◌}
-use mathlib.Core.List.{List, [], ◌∷◌, ◌++◌, append-nil, map, map-append}
+use mathlib.Core.Bool.{Bool, true, ◌||◌}
+use Rattle.std.specs.Prelude.{Option, Some, None}
+use Rattle.model.specs.declared.Node.{Node}
+use mathlib.Core.List.{List, [], ◌∷◌, ◌++◌, map, map-append}
 use mathlib.Core.Path.{◌≡◌, refl, ap, ap₂, sym, ◌∙◌}
 use native.Mathlib.Omega.{arith}
 use lib.Dec.{eqb, ltb}
-use lib.ListN.{drop, drop_of_length-le, get_or, length, length-drop, length-map, set, take}
-use lib.Seq.{drop-drop, get_or-take, length-take-le, set-append_left, take-add, take-append-le, take-set-lt, take-take}
+use lib.ListN.{drop, get_or, length, length-drop, length-map, set, take}
+use lib.Seq.{drop-drop, length-take-le, take-add, take-append-le, take-take}
 use borrow.Author.Tests.{eqb-true, ltb-true, ne_eqb}
 use Rattle.model.specs.Base.{all}
 use Rattle.model.specs.Heap.{Heap, Slot, unused, holds, cell, undef}
@@ -16,7 +18,6 @@ use Rattle.model.specs.Records.{byte, shape_of, val_of, value_byte}
 use Rattle.model.proofs.lists.Lists.{get_or_map, map_set}
 use Rattle.model.proofs.lists.Logic.{and_l, and_r, bool_case, or_cases, clash}
 use Rattle.way.specs.Way.{OpenReady, opened_bytes, opened_count, opened_heap, with_unused, makes_at}
-use Rattle.way.proofs.ListLaws.{take_push}
 
 put_end : (l : List Slot) (s : Slot) → put l (length l) s ≡ l ++ s ∷ []
 put_end [] s = refl
@@ -30,17 +31,6 @@ put_front : (l : List Slot) (n : ℕ) (s t : Slot) → n < length l → put (l +
 put_front [] n s t h = absurd (omega arith)
 put_front (x ∷ l) zero s t h = refl
 put_front (x ∷ l) (suc n) s t h = ap (λ r. x ∷ r) (put_front l n s t (omega arith))
-
--- the stores of a split: cell k takes over what cell n holds, and cell n holds k
-pub split_bytes : (l : List ℕ) (k n : ℕ) → n < k → k < length l
-    → take (k + 1) (set (set l k (get_or l n 0)) n k)
-    ≡ set (take k l) n (length (take k l)) ++ get_or (take k l) n 0 ∷ []
-split_bytes l k n h lt =
-    let len : length (take k l) ≡ k = length-take-le k l (omega arith) in
-    take-set-lt (k + 1) (set l k (get_or l n 0)) n k (omega arith)
-    ∙ ap (λ t. set t n k) (take_push l k (get_or l n 0) lt)
-    ∙ set-append_left (take k l) (get_or l n 0 ∷ []) n k (rw len h)
-    ∙ ap₂ (λ m v. set (take k l) n m ++ v ∷ []) (sym len) (sym (get_or-take k l n 0 h))
 
 -- a value's byte is no mark of a cell not in use
 value_slot : (k b : ℕ) → k ≤ 12 → value_byte k b ≡ true → cell_slot b ≡ holds (val_of b)
@@ -94,48 +84,39 @@ module _ (ss : List ℕ) (few : length ss ≤ 12) (values : all (value_byte (len
       ∙ ap (λ l. put l n (holds (cell (length ss)))) (sym (put_end t (get_or t n unused))
       ∙ ap (λ m. put t m (get_or t n unused)) same_length)
 
-  pub opened_heap_lem : (ps : List ℕ) (sp : Bool) (op n : ℕ) → (sp ≡ true → n < length ss)
-      → heap_of ps (opened_bytes sp op n ss) ≡ opened_heap sp op n (shape_with ps ss)
-  opened_heap_lem ps true op n h = λ i. record {
+  pub opened_heap_lem : (ps : List ℕ) (sp : Option Node) (op : ℕ) → ((n : Node) → sp ≡ Some n → n.0 < length ss)
+      → heap_of ps (opened_bytes sp op ss) ≡ opened_heap sp op (shape_with ps ss)
+  opened_heap_lem ps (Some n) op h = λ i. record {
     ptrs = map val_of ps;
-    slots = (split_slots n (h refl) ∙ ap (λ m. put
-        (put (map (λ b. holds (val_of b)) ss) m (get_or (map (λ b. holds (val_of b)) ss) n unused)) n (holds (cell m)))
-        (sym same_length)) i;
+    slots = (split_slots n.0 (h n refl) ∙ ap (λ m. put
+        (put (map (λ b. holds (val_of b)) ss) m (get_or (map (λ b. holds (val_of b)) ss) n.0 unused)) n.0
+        (holds (cell m))) (sym same_length)) i;
   }
-  opened_heap_lem ps false op n h = bool_case (makes_at op)
+  opened_heap_lem ps None op h = bool_case (makes_at op)
       (λ e. rw e (λ i. record {
         ptrs = map val_of ps;
         slots = (map-append cell_slot ss (0xfd ∷ []) ∙ ap (λ l. l ++ unused ∷ []) same_slots) i;
       }))
       (λ e. rw e (λ i. record { ptrs = map val_of ps; slots = same_slots i }))
 
-pub count_most : (sp : Bool) (op k : ℕ) → opened_count sp op k ≤ k + 1
-count_most true op k = omega arith
-count_most false op k = bool_case (makes_at op) (λ e. rw e (omega arith)) (λ e. rw e (omega arith))
+pub count_most : (sp : Option Node) (op k : ℕ) → opened_count sp op k ≤ k + 1
+count_most (Some n) op k = omega arith
+count_most None op k = bool_case (makes_at op) (λ e. rw e (omega arith)) (λ e. rw e (omega arith))
 
 all_after : (q : ℕ → Bool) (l m : List ℕ) → all q (l ++ m) ≡ true → all q m ≡ true
 all_after q [] m h = h
 all_after q (x ∷ l) m h = all_after q l m (and_r (q x) (all q (l ++ m)) h)
 
 -- a ready record: what stands after the copies, and the opened heap
-module _ (r p c : List ℕ) (op n : ℕ) (sp : Bool) (R : OpenReady r p c n sp) where
-  pub ready_pointers : take 6 (drop 4 r) ++ drop (length (take 6 (drop 4 r))) p ≡ take 6 (drop 4 r)
-  ready_pointers =
-      let len : length (take 6 (drop 4 r)) ≡ 6 =
-      length-take-le 6 (drop 4 r) (omega (arith, R.wide, length-drop 4 r)) in
-      let most : length p ≤ length (take 6 (drop 4 r)) = omega (arith, R.six) in
-      ap (λ l. take 6 (drop 4 r) ++ l) (drop_of_length-le p most) ∙ append-nil (take 6 (drop 4 r))
-
+module _ (r p c : List ℕ) (op : ℕ) (sp : Option Node) (R : OpenReady r p c sp) where
   successors_length : length (take (byte r 3) (drop 10 r)) ≡ byte r 3
   successors_length = length-take-le (byte r 3) (drop 10 r) (omega (arith, R.wide, R.few, length-drop 10 r))
 
-  pub ready_cells : take (byte r 3) (take 12 (drop 10 r) ++ drop (length (take 12 (drop 10 r))) c)
-      ≡ take (byte r 3) (drop 10 r)
-  ready_cells =
+  pub ready_cells : (z : List ℕ) → take (byte r 3) (take 12 (drop 10 r) ++ z) ≡ take (byte r 3) (drop 10 r)
+  ready_cells z =
       let f = take 12 (drop 10 r) in
       let all : length f ≡ 12 = length-take-le 12 (drop 10 r) (omega (arith, R.wide, length-drop 10 r)) in
-      take-append-le (byte r 3) f (drop (length f) c) (omega (arith, R.few))
-      ∙ take-take (byte r 3) 12 (drop 10 r) (omega (arith, R.few))
+      take-append-le (byte r 3) f z (omega (arith, R.few)) ∙ take-take (byte r 3) 12 (drop 10 r) (omega (arith, R.few))
 
   successors_values : all (value_byte (byte r 3)) (take (byte r 3) (drop 10 r)) ≡ true
   successors_values =
@@ -143,13 +124,13 @@ module _ (r p c : List ℕ) (op n : ℕ) (sp : Bool) (R : OpenReady r p c n sp) 
       (rw (take-add 6 (byte r 3) (drop 4 r)) at R.values) in
       rw (drop-drop 6 4 r) at v
 
-  pub ready_heap : heap_of (take 6 (drop 4 r)) (opened_bytes sp op n (take (byte r 3) (drop 10 r)))
-      ≡ opened_heap sp op n (shape_of r)
+  pub ready_heap : heap_of (take 6 (drop 4 r)) (opened_bytes sp op (take (byte r 3) (drop 10 r)))
+      ≡ opened_heap sp op (shape_of r)
   ready_heap =
       let ss = take (byte r 3) (drop 10 r) in
       let len = successors_length in
-      opened_heap_lem ss (omega (arith, R.few)) (rw len successors_values) (take 6 (drop 4 r)) sp op n
-      (λ t. rw len (R.is_node t))
+      opened_heap_lem ss (omega (arith, R.few)) (rw len successors_values) (take 6 (drop 4 r)) sp op
+      (λ n t. rw len (R.is_node n t))
 
 -- ---- new on the opened heap
 

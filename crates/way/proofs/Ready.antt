@@ -1,6 +1,6 @@
 -- What a ready way says of the bytes: the location's record holds the shape.
 use Prim.Native.Nat.{ℕ, ◌+◌, ◌≤◌, ◌<◌}
-use mathlib.Core.Path.{◌≡◌, sym, ap, subst, ◌∙◌}
+use mathlib.Core.Path.{◌≡◌, refl, sym, ap, subst, ◌∙◌}
 use mathlib.Core.Bool.{true}
 use mathlib.Core.List.{List}
 use native.Mathlib.Omega.{arith}
@@ -19,6 +19,8 @@ use Rattle.way.specs.Way.{OpenReady}
 use Rattle.way.specs.Ready.{WayReady}
 use Rattle.way.specs.declared.Way.{Way}
 use Rattle.model.specs.declared.Decoded.{Decoded}
+use Rattle.model.specs.declared.Node.{Node}
+use Rattle.std.specs.Prelude.{Option, None, Some}
 use Rattle.model.specs.Machine.{action}
 use Rattle.model.specs.Structs.{op_in}
 
@@ -47,13 +49,13 @@ module _ {l : List ℕ} {d : Decoded} {s : ℕ} {h : Heap} {y : Way} (R : WayRea
   nodes_few = omega (arith, nodes_is, writable.few)
 
   -- a node that is split is one of the shape's, in use
-  pub node_used : y.split ≡ true → Used (next h) y.node.0
-  node_used t = view_used (action (op_in d)) h R.is_shape.closed.0 y.node.0 (R.is_node t)
+  pub node_used : (n : Node) → y.split ≡ Some n → Used (next h) n.0
+  node_used n t = view_used (action (op_in d)) h R.is_shape.closed.0 n.0 (R.is_node n t)
 
-  pub node_below : y.split ≡ true → y.node.0 < byte l 3
-  node_below t = omega (arith, used_below h.slots y.node.0 (node_used t), nodes_is)
+  pub node_below : (n : Node) → y.split ≡ Some n → n.0 < byte l 3
+  node_below n t = omega (arith, used_below h.slots n.0 (node_used n t), nodes_is)
 
-  pub open_ready : (ps cs : List ℕ) → length ps ≡ 6 → 13 ≤ length cs → OpenReady l ps cs y.node.0 y.split
+  pub open_ready : (ps cs : List ℕ) → length ps ≡ 6 → 13 ≤ length cs → OpenReady l ps cs y.split
   open_ready ps cs six room = record {
     wide = location_wide;
     few = nodes_few;
@@ -63,3 +65,8 @@ module _ {l : List ℕ} {d : Decoded} {s : ℕ} {h : Heap} {y : Way} (R : WayRea
     room = room;
     is_node = node_below;
   }
+
+-- whether a node is split
+pub split-case {ℓ} : {C : Type ℓ} (sp : Option Node) → ((n : Node) → sp ≡ Some n → C) → (sp ≡ None → C) → C
+split-case (Some n) f g = f n refl
+split-case None f g = g refl

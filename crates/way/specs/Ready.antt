@@ -1,5 +1,5 @@
 -- A way out of a location that is ready to be taken. Assumes nothing.
-use Rattle.std.specs.Prelude.{ℕ, ◌≤◌, ◌<◌, ◌≡◌, true, false, List, length}
+use Rattle.std.specs.Prelude.{ℕ, ◌≤◌, ◌<◌, ◌≡◌, false, List, length, Some}
 use Rattle.model.specs.Base.{pointer_count, most_statements}
 use Rattle.model.specs.Edges.{at, view}
 use Rattle.model.specs.Heap.{Heap}
@@ -8,6 +8,7 @@ use Rattle.model.specs.Notions.{Canon, Views}
 use Rattle.model.specs.Records.{loc_record}
 use Rattle.model.specs.Structs.{DecodedOk, Writes, op_in}
 use Rattle.model.specs.declared.Decoded.{Decoded}
+use Rattle.model.specs.declared.Node.{Node}
 use Rattle.way.specs.declared.Way.{Way}
 
 -- the record l is that of statement s with shape h; d is the statement; and the way is one of the location's
@@ -20,4 +21,4 @@ pub record WayReady (l : List ℕ) (d : Decoded) (s : ℕ) (h : Heap) (y : Way) 
   pub goes : is_stop (kind (op_in d)) ≡ false
   pub pick : y.pick ≤ 1
   pub guards : Writes y.guards
-  pub is_node : y.split ≡ true → Views (view (action (op_in d)) h) y.node.0
+  pub is_node : (n : Node) → y.split ≡ Some n → Views (view (action (op_in d)) h) n.0

@@ -2,19 +2,31 @@
 use Prim.Native.Nat.{ℕ, zero, suc, ◌+◌, ◌*◌, ◌/◌, ◌%◌, ◌^◌, ◌≤◌, ◌<◌}
 use mathlib.Core.Path.{◌≡◌, refl, sym, ap, ap₂, subst, ◌∙◌}
 use mathlib.Core.Logic.{inl, inr}
-use mathlib.Core.List.{List, [], ◌∷◌, ◌++◌, append_assoc, append-nil}
+use mathlib.Core.List.{List, [], ◌∷◌, ◌++◌, append-nil}
 use native.Mathlib.Nat.{add_assoc, add-mul-div_left, add-mul-mod_self_left, div-eq_of_lt, mod-eq_of_lt, mul-add, mul_assoc, pow-succ', pow-zero}
 use native.Mathlib.Omega.{arith}
 use lib.ListN.{take, drop, drop_of_length-le, get_or, length, length-take, length-drop, replicate, set, take-append-drop}
-use lib.Seq.{drop_at, drop-cons, drop-drop, length-take-le, take-add, take_all, take_at}
+use Rattle.std.specs.List.{slice_index}
+use Rattle.std.proofs.lemmas.List.{get_or-drop, get_or-take}
+use lib.Seq.{drop-cons, drop-drop, length-take-le, take-add, take_all}
 use Rattle.model.specs.Notions.{In}
-use Rattle.model.specs.Records.{word}
+use Rattle.model.specs.Records.{byte, word}
 use Rattle.model.proofs.lists.Digits.{Below, code_of}
 use Rattle.model.proofs.lists.Lists.{in_append_l, in_drop, in_get_or_lem}
 use Rattle.word.specs.Words.{bytes_of, eight_at, four_at, number_of}
 
 pub part_length : (t : List ℕ) (a n : ℕ) → a + n ≤ length t → length (take n (drop a t)) ≡ n
 part_length t a n h = simp (length-take, length-drop) (omega arith)
+
+-- the bytes of a part, each at its place
+module _ (t : List ℕ) (a n : ℕ) (bs : List ℕ) (part : bs ≡ take n (drop a t)) where
+  byte_at : (i k : ℕ) → i < n → a + i ≡ k → slice_index bs i ≡ byte t k
+  byte_at i k h e =
+      ap (λ l. get_or l i 0) part ∙ get_or-take n (drop a t) i 0 h ∙ get_or-drop a t i 0 ∙ ap (λ j. get_or t j 0) e
+
+  pub word_at : (i k : ℕ) → suc i < n → a + i ≡ k → slice_index bs i + 256 * slice_index bs (suc i) ≡ word t k
+  word_at i k h e =
+      ap₂ (λ x y. x + 256 * y) (byte_at i k (omega arith) e) (byte_at (suc i) (suc k) h (omega (arith, e)))
 
 -- ---- bytes as a number
 
@@ -79,13 +91,6 @@ bytes_code (x ∷ l) h =
     (ap (bytes_of (length l)) (add-mul-div_left x c {y = 256} (omega arith) ∙ omega (arith, div-eq_of_lt lt))
     ∙ bytes_code l (λ y i. h y (inr i)))
 
--- eight bytes that are read as a number and written again
-pub eight_back : (t : List ℕ) (a : ℕ) → a + 8 ≤ length t → Bytes t → bytes_of 8 (eight_at t a) ≡ take 8 (drop a t)
-eight_back t a h B =
-    let l = take 8 (drop a t) in
-    let n = sym (part_length t a 8 h) in
-    (λ i. bytes_of (n i) (eight_code t a h i)) ∙ bytes_code l (part_below t a 8 B)
-
 number_code : (l : List ℕ) → number_of l ≡ code_of 256 l
 number_code [] = refl
 number_code (x ∷ l) = ap (λ n. x + 256 * n) (number_code l)
@@ -105,27 +110,11 @@ bytes_pad (x ∷ l) (suc n) k h e =
     (ap (bytes_of n) (add-mul-div_left x c {y = 256} (omega arith) ∙ omega (arith, div-eq_of_lt lt))
     ∙ bytes_pad l n k (λ y i. h y (inr i)) (omega (arith, e)))
 
--- ---- a record copied eight bytes at a time
+-- ---- a record copied
 
 -- the first a bytes are copied
 abbrev pub copied_to : ℕ → List ℕ → List ℕ → List ℕ
 copied_to a from to = take a from ++ drop a to
-
--- eight bytes more
-abbrev pub pasted : ℕ → List ℕ → List ℕ → List ℕ
-pasted a from t = take a t ++ (take 8 (drop a from) ++ drop (a + 8) t)
-
-pub copied_more : (a : ℕ) (from to : List ℕ) → a + 8 ≤ length from
-    → pasted a from (copied_to a from to) ≡ copied_to (a + 8) from to
-copied_more a from to h =
-    let n : length (take a from) ≡ a = length-take-le a from (omega arith) in
-    let front : take a (copied_to a from to) ≡ take a from = take_at (take a from) (drop a to) a n in
-    let back : drop (a + 8) (copied_to a from to) ≡ drop (a + 8) to =
-    sym (drop-drop 8 a (copied_to a from to)) ∙ ap (drop 8) (drop_at (take a from) (drop a to) a n)
-    ∙ drop-drop 8 a to in
-    ap₂ (λ x y. x ++ (take 8 (drop a from) ++ y)) front back
-    ∙ sym (append_assoc (take a from) (take 8 (drop a from)) (drop (a + 8) to))
-    ∙ ap (λ x. x ++ drop (a + 8) to) (sym (take-add a 8 from))
 
 -- a record copied over one of its length is the record
 pub copied_all : (from to : List ℕ) → length from ≡ 32 → length to ≡ 32 → copied_to 32 from to ≡ from

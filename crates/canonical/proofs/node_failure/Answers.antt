@@ -1,55 +1,50 @@
 -- `canonical::node_failure` meets its contract: the marks tell the nodes that are reachable and core, the order their
 -- numbers. Assumes nothing.
-use Prim.Native.Nat.{◌≤◌}
 use native.Mathlib.Omega.{arith}
-use lib.ListN.{length, get_or-replicate}
+use Rattle.std.proofs.Common.{◌≤◌, length, refl}
+use Rattle.canonical.proofs.Finding.{below_at, below_none, moved_at, moved_none}
 use Rattle.canonical.proofs.NodeLaws.{tells_inner, tells_lost, tells_moved, tells_none}
 use Rattle.canonical.proofs.node_failure.Goals as goal
 
-pub visit-requires : goal.visit-requires
-visit-requires c =
-    let p = c.requires in
-    record {
-      is_closed = p.0;
-      few = omega arith;
-      room = omega arith;
-      marks = omega arith;
-      clear = λ d q. get_or-replicate 16 d 0 0 (omega arith);
-    }
+pub returns-in-Some : goal.returns-in-Some
+returns-in-Some c =
+    let s = c.visit.new.seen in
+    let n = length c.args.cells.now in
+    let room : n ≤ length c.visit.new.order = omega (arith, c.visit.auto.order, c.requires.1) in
+    let few : n ≤ length s = omega (arith, c.visit.auto.seen, c.requires.1) in
+    let f = below_at 1 s few c.first_below.ensures c.in-Some.is in
+    tells_lost c.visit.ensures c.requires.0 room f.0 f.1
 
-pub returns-then-lost-n : goal.returns-then-lost-n
-returns-then-lost-n c =
-    let f = c in
-    let w = f.visit in
-    let s = f in
-    let room : length s.args.cells.now ≤ length w.new.order = omega (arith, w.auto.order, s.requires.1) in
-    tells_lost w.ensures s.requires.0 room f.first_below-lost.ensures c.if-lost-n.true
+pub returns-in-Some-first_below : goal.returns-in-Some-first_below
+returns-in-Some-first_below c =
+    let s = c.visit.new.seen in
+    let n = length c.args.cells.now in
+    let room : n ≤ length c.visit.new.order = omega (arith, c.visit.auto.order, c.requires.1) in
+    let few : n ≤ length s = omega (arith, c.visit.auto.seen, c.requires.1) in
+    let lost = below_none 1 s few c.first_below.ensures c.in_default.not-Some in
+    let f = below_at 2 s few c.first_below-2.ensures c.in-Some-first_below.is in
+    tells_inner c.visit.ensures c.requires.0 room refl lost f.0 f.1
 
-pub returns-then-inner-n : goal.returns-then-inner-n
-returns-then-inner-n c =
-    let f = c in
-    let w = f.visit in
-    let s = f in
-    let room : length s.args.cells.now ≤ length w.new.order = omega (arith, w.auto.order, s.requires.1) in
-    tells_inner w.ensures s.requires.0 room f.first_below-lost.ensures c.if-lost-n.false
-    c.first_below-inner.ensures c.if-inner-n.true
-
-pub returns-then-moved-n : goal.returns-then-moved-n
-returns-then-moved-n c =
-    let g = c in
-    let f = g in
-    let w = f.visit in
-    let s = f in
-    let room : length s.args.cells.now ≤ length w.new.order = omega (arith, w.auto.order, s.requires.1) in
-    tells_moved w.ensures s.requires.0 room f.first_below-lost.ensures g.if-lost-n.false
-    g.first_below-inner.ensures c.if-inner-n.false c.first_moved-moved.ensures c.if-moved-n.true
+pub returns-in-Some-first_moved : goal.returns-in-Some-first_moved
+returns-in-Some-first_moved c =
+    let s = c.visit.new.seen in
+    let o = c.visit.new.order in
+    let n = length c.args.cells.now in
+    let room : n ≤ length o = omega (arith, c.visit.auto.order, c.requires.1) in
+    let few : n ≤ length s = omega (arith, c.visit.auto.seen, c.requires.1) in
+    let lost = below_none 1 s few c.first_below.ensures c.in_default.not-Some in
+    let inner = below_none 2 s few c.first_below-2.ensures c.in_default-first_below.not-Some in
+    let f = moved_at o room c.first_moved.ensures.first c.in-Some-first_moved.is in
+    tells_moved c.visit.ensures c.requires.0 room refl lost refl inner f.0 f.1
 
 pub returns : goal.returns
 returns c =
-    let g = c in
-    let f = g in
-    let w = f.visit in
-    let s = f in
-    let room : length s.args.cells.now ≤ length w.new.order = omega (arith, w.auto.order, s.requires.1) in
-    tells_none w.ensures s.requires.0 room f.first_below-lost.ensures g.if-lost-n.false
-    g.first_below-inner.ensures c.if-inner-n.false c.first_moved-moved.ensures c.if-moved-n.false
+    let s = c.visit.new.seen in
+    let o = c.visit.new.order in
+    let n = length c.args.cells.now in
+    let room : n ≤ length o = omega (arith, c.visit.auto.order, c.requires.1) in
+    let few : n ≤ length s = omega (arith, c.visit.auto.seen, c.requires.1) in
+    let lost = below_none 1 s few c.first_below.ensures c.in_default.not-Some in
+    let inner = below_none 2 s few c.first_below-2.ensures c.in_default-first_below.not-Some in
+    let moved = moved_none o room c.first_moved.ensures.first c.in_default-first_moved.not-Some in
+    tells_none c.visit.ensures c.requires.0 room refl lost refl inner refl moved

@@ -11,7 +11,7 @@ pub write_bases-requires : goal.write_bases-requires
 write_bases-requires c =
     let s = c in
     let r = s.requires.1 in
-    (λ t. r.tabled s.args.weights.nodes (r.has_tail t), λ t. r.nodes s.args.weights.nodes (r.has_tail t))
+    λ n e. (r.tabled s.args.weights.nodes (r.has_tail n e), r.nodes s.args.weights.nodes (r.has_tail n e))
 
 pub add_cells-requires : goal.add_cells-requires
 add_cells-requires c =

@@ -4,7 +4,4 @@ use Rattle.closed_image.proofs.Fine.{cells_fine}
 use Rattle.closed_image.proofs.cells_named.Goals as goal
 
 pub returns : goal.returns
-returns c =
-    let b = c in
-    let a = b in
-    cells_fine a.args.cells.now a.requires b.tell_used.ensures c.all_fine.ensures refl refl refl
+returns c = cells_fine c.args.cells.now c.requires c.tell_used.ensures c.all_fine.ensures refl refl refl

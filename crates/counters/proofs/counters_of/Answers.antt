@@ -1,18 +1,12 @@
 -- `counters_of` meets its contract: those from k on are all zero where their sum is.
-use mathlib.Core.Path.{◌≡◌, sym, ap, ◌∙◌}
+use mathlib.Core.Path.{◌≡◌, ap, ◌∙◌}
 use mathlib.Core.Bool.{◌&&◌}
-use native.Mathlib.Omega.{arith}
 use lib.Dec.{eqb}
 use lib.ListN.{drop}
-use lib.Seq.{length-take-le}
 use Rattle.model.specs.Base.{sum}
 use Rattle.model.proofs.lists.Slices.{part_from}
 use Rattle.counters.proofs.Zeros.{zero_sum}
 use Rattle.counters.proofs.counters_of.Goals as goal
-
-pub slice_bounds-all_positive-end : goal.slice_bounds-all_positive-end
-slice_bounds-all_positive-end c =
-    let a = c.args in sym (length-take-le a.k a.counters.now (omega arith))
 
 pub returns : goal.returns
 returns c =

@@ -1,18 +1,14 @@
 -- `currantplane_translate` meets its contract: the outcome is told in numbers.
-use Rattle.model.specs.declared.Translated.TheVariants as translated
+use mathlib.Core.Path.{◌∙◌, ap}
+use lib.ListN.{set}
+use Rattle.answers.specs.Numbers.{node_number}
 use Rattle.currantplane.proofs.Told.{outcome_told}
 use Rattle.currantplane.proofs.currantplane_translate.Goals as goal
 
-pub returns-in-Listed : goal.returns-in-Listed
-returns-in-Listed c =
-    let told = c in
-    let t = told.translate in
-    let e = c.in-Listed.is in
-    outcome_told (rw e at t.ensures.outcome) told.tell.ensures c.tell_node.ensures
+pub returns-in-Ok : goal.returns-in-Ok
+returns-in-Ok c = outcome_told c.in-Ok.ensures.outcome c.tell.ensures c.tell_node.ensures
 
-pub returns-in-Refused : goal.returns-in-Refused
-returns-in-Refused c =
-    let told = c in
-    let t = told.translate in
-    let e = c.in-Refused.is in
-    outcome_told (rw e at t.ensures.outcome) told.tell-in-Refused.ensures c.tell_node-in-Refused.ensures
+pub returns-in-Err : goal.returns-in-Err
+returns-in-Err c =
+    rw c.number.ensures (outcome_told c.in-Err.ensures.outcome c.tell-in-Err.ensures
+    (c.tell_node-in-Err.ensures ∙ ap (λ v. set c.tell-in-Err.new.answer 3 (node_number v)) c.node.ensures))

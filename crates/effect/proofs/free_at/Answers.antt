@@ -5,14 +5,14 @@ use Rattle.effect.proofs.Bytes.{free_null, free_undef, free_cell_lem}
 use borrow.Author.Rules.{rules}
 use Rattle.effect.proofs.free_at.Goals as goal
 
-pub returns-then-at-eq254 : goal.returns-then-at-eq254
-returns-then-at-eq254 c =
-    let a = c.args in free_null a.pointers.now a.cells.now a.at c.if-at-eq254.true
+pub returns-then-at-eq-NULL : goal.returns-then-at-eq-NULL
+returns-then-at-eq-NULL c =
+    let a = c.args in free_null a.pointers.now a.cells.now a.at c.if-at-eq-NULL.true
 
-pub returns-then-at-eq255 : goal.returns-then-at-eq255
-returns-then-at-eq255 c =
+pub returns-then-at-eq-UNDEFINED : goal.returns-then-at-eq-UNDEFINED
+returns-then-at-eq-UNDEFINED c =
     let a = c.args in
-    free_undef a.pointers.now a.cells.now a.at c.if-at-eq255.true
+    free_undef a.pointers.now a.cells.now a.at c.if-at-eq-UNDEFINED.true
 
 pub bounds-cells-c : goal.bounds-cells-c
 bounds-cells-c c =

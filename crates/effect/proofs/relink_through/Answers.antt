@@ -1,31 +1,18 @@
--- `relink_through` meets its contract: a fault of reading leaves the image; else the byte that is read is stored.
-use Rattle.effect.proofs.Bytes.{access_named, relink_cell, relink_fault}
+-- `relink_through` meets its contract: the byte that is read is stored.
+use mathlib.Core.Path.{subst}
+use lib.ListN.{get_or}
+use Rattle.model.specs.Codes.{fault_in}
+use Rattle.model.specs.Records.{val_of}
+use Rattle.effect.specs.Effect.{HasEffect, stored}
+use Rattle.effect.proofs.Bytes.{relink_cell}
 use Rattle.effect.proofs.relink_through.Goals as goal
-
-pub returns-then-fault-ne0 : goal.returns-then-fault-ne0
-returns-then-fault-ne0 c ps =
-    let a = c.args in
-    let f = c.access_fault-fault in
-    relink_fault ps a.cells.now a.at a.from f.result f.ensures c.if-fault-ne0.true
-
-pub bounds-cells-c : goal.bounds-cells-c
-bounds-cells-c c =
-    let s = c in
-    let f = c.access_fault-fault in
-    access_named s.args.cells.now s.args.from f.result f.ensures c.if-fault-ne0.false s.requires.1
-
-pub store_through-requires : goal.store_through-requires
-store_through-requires c =
-    let s = c in
-    let f = c.access_fault-fault in
-    let z = c.if-fault-ne0.false in
-    (s.requires.0, (s.requires.1 (f.ensures.not_null z) (f.ensures.not_undef z)).1)
 
 pub returns : goal.returns
 returns c ps =
-    let s = c in
-    let a = s.args in
-    let f = c.access_fault-fault in
+    let a = c.args in
+    let cs = a.cells.now in
+    let k = c.in_ok-c.ensures in
     let r = c.store_through in
-    relink_cell ps a.cells.now a.at a.from f.result r.result ps _ f.ensures
-    c.if-fault-ne0.false s.requires.1 (r.ensures ps)
+    relink_cell ps cs a.at a.from _ _ k.1 k.2 c.requires.1
+    (subst (λ i. HasEffect (stored (val_of a.at) (val_of (get_or cs i 0))) ps cs (fault_in r.result) ps r.new.cells) k.0
+    (r.ensures ps))

@@ -1,17 +1,16 @@
 -- `explore_all` meets its contract: what is left to explore from location i on gives the whole.
 use Prim.Native.Nat.{◌-◌}
-use mathlib.Core.Path.{◌≡◌}
-use lib.ListN.{length}
 use Rattle.model.specs.Base.{most_locations}
+use Rattle.listing.specs.Lent.{SamePlaces}
 use Rattle.explore.proofs.Exploration.{Explores}
 use Rattle.explore.proofs.explore_all.Given as goal
 
 abbrev pub invariant-loop-i : goal.invariant-loop-i
 invariant-loop-i l =
-    (length l.locations ≡ length l.initial.locations) × (length l.edges ≡ length l.initial.edges)
-    × (length l.index ≡ length l.initial.index)
-    × Explores l.input l.n l.initial.locations l.initial.edges l.initial.index l.initial.held l.locations l.edges
-    l.index l.held l.i
+    let t = l.initial.listing in
+    SamePlaces t l.listing
+    × Explores l.input l.n t.locations.now t.edges.now t.index.now t.counts l.listing.locations.now
+    l.listing.edges.now l.listing.index.now l.listing.counts l.i
 
 abbrev pub decreases-loop-i : goal.decreases-loop-i
 decreases-loop-i l = most_locations - l.i

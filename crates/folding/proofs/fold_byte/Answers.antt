@@ -7,8 +7,8 @@ use Rattle.folding.proofs.fold_byte.Goals as goal
 pub bounds-node-b : goal.bounds-node-b
 bounds-node-b c = c.requires (search rules)
 
-pub returns-then-b-lt253 : goal.returns-then-b-lt253
-returns-then-b-lt253 c = let h : c.args.b < 0xfd = search rules in rw (lt-ltb _ _ h)
+pub returns-then-b-lt-UNUSED : goal.returns-then-b-lt-UNUSED
+returns-then-b-lt-UNUSED c = let h : c.args.b < 0xfd = search rules in rw (lt-ltb _ _ h)
 
-pub returns-else-b-lt253 : goal.returns-else-b-lt253
-returns-else-b-lt253 c = simp (le-ltb _ _ c.if-b-lt253.false)
+pub returns-else-b-lt-UNUSED : goal.returns-else-b-lt-UNUSED
+returns-else-b-lt-UNUSED c = simp (le-ltb _ _ c.if-b-lt-UNUSED.false)

@@ -1,42 +1,18 @@
--- `segment::fold_successors` meets its contract: the first i bytes are what the first i cells hold, folded.
-use Prim.Native.Nat.{ℕ, ◌-◌, ◌<◌}
-use mathlib.Core.Path.{◌≡◌, ◌∙◌}
-use native.Mathlib.Omega.{arith}
-use lib.ListN.{length, get_or}
-use lib.Seq.{take-length}
+-- `folding::fold_successors` meets its contract: at a cell is found what it holds.
+use Prim.Native.Nat.{ℕ}
+use mathlib.Core.Path.{ap, ◌∙◌}
+use mathlib.Core.List.{List, map, map-map, ◌++◌}
+use lib.ListN.{drop, get_or, length}
 use borrow.Author.Rules.{rules}
-use Rattle.model.proofs.lists.Slices.{map_fill}
 use Rattle.folding.specs.Fold.{fold_byte}
+use Rattle.folding.proofs.Coded.{found_is}
 use Rattle.folding.proofs.fold_successors.Goals as goal
-
-pub overflow_cast-c : goal.overflow_cast-c
-overflow_cast-c c = omega (arith, c.type_inv.last c.loop-i.i)
-
-pub bounds-cells-c : goal.bounds-cells-c
-bounds-cells-c c =
-    (c.requires.1 c.loop-i.i
-    (search rules)).0
-
-pub fold_byte-requires : goal.fold_byte-requires
-fold_byte-requires c =
-    (c.requires.1 c.loop-i.i
-    (search rules)).1
-
-pub loop-i-preserved : goal.loop-i-preserved
-loop-i-preserved c =
-    let a = c.args in
-    let l = c.loop-i in
-    let f : ℕ → ℕ = λ x. fold_byte a.node.now (get_or a.cells.now x 0) in
-    let v : l.i < length a.last.now = omega arith in
-    let t : l.i < length a.to.now = omega arith in (
-      omega arith,
-      search rules,
-      map_fill f a.last.now a.to.now l.to 0 l.i c.fold_byte.result v t
-          l.invariant.2 c.fold_byte.ensures,
-    )
 
 pub returns : goal.returns
 returns c =
-    let l = c.loop-i in
-    let e : l.i ≡ length c.args.last.now = omega arith in
-    l.invariant.2 ∙ rw (e, take-length)
+    let a = c.args in
+    let f = c.fold_each.ensures in
+    let held : ℕ → ℕ = λ x. get_or a.cells.now x 0 in
+    let rest = drop (length a.last.now) a.to.now in
+    let e = found_is _ held a.last.now f.0 (λ i b h p. search rules) f.1 in
+    f.2 ∙ ap (λ (l : List ℕ). l ++ rest) (ap (map (fold_byte a.node.now)) e ∙ map-map _ _ _)

@@ -1,5 +1,5 @@
 -- `index::enter_all` meets its contract: the first j records are entered.
-use Prim.Native.Nat.{ℕ, ◌-◌, ◌≤◌}
+use Prim.Native.Nat.{ℕ}
 use mathlib.Core.Path.{◌≡◌}
 use mathlib.Core.List.{List, map}
 use lib.ListN.{length, take}
@@ -10,9 +10,5 @@ use Rattle.index.proofs.enter_all.Given as goal
 
 abbrev pub invariant-loop-j : goal.invariant-loop-j
 invariant-loop-j l =
-    (l.j ≤ l.n) × (length l.index ≡ 1536)
-    × ((rs : List (List ℕ)) → l.table ≡ table_of (length l.table) rs → ((r : List ℕ) → In r rs → length r ≡ 32)
-    → l.n ≡ length rs → Indexed (map hash_of (take l.j rs)) l.index)
-
-abbrev pub decreases-loop-j : goal.decreases-loop-j
-decreases-loop-j l = l.n - l.j
+    (rs : List (List ℕ)) → l.table ≡ table_of (length l.table) rs → ((r : List ℕ) → In r rs → length r ≡ 32)
+    → l.n ≡ length rs → Indexed (map hash_of (take l.j rs)) l.index

@@ -1,5 +1,4 @@
 -- `count_statements` meets its contract: those before record i are counted, those from i on are left.
-use Prim.Native.Nat.{◌-◌}
 use native.Mathlib.Omega.{arith}
 use borrow.Author.Tests.{eq-eqb, ne_eqb}
 use Rattle.input.proofs.Records.{count_step, count_end}

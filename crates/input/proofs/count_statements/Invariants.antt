@@ -1,5 +1,5 @@
 -- `count_statements` meets its contract: those before record i are counted, those from i on are left.
-use Prim.Native.Nat.{◌+◌, ◌≤◌, ◌-◌}
+use Prim.Native.Nat.{◌+◌, ◌≤◌}
 use mathlib.Core.Path.{◌≡◌}
 use lib.ListN.{drop}
 use Rattle.model.specs.Base.{count}
@@ -8,8 +8,5 @@ use Rattle.model.specs.Listings.{records_of}
 use Rattle.input.proofs.count_statements.Given as goal
 
 abbrev pub invariant-loop-i : goal.invariant-loop-i
-invariant-loop-i l = (l.i ≤ l.records) × (l.n ≤ l.i)
+invariant-loop-i l = (l.n ≤ l.i)
     × (l.n + count is_s (drop l.i (records_of l.input)) ≡ count is_s (records_of l.input))
-
-abbrev pub decreases-loop-i : goal.decreases-loop-i
-decreases-loop-i l = l.records - l.i

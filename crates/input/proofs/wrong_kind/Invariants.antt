@@ -1,5 +1,4 @@
 -- `wrong_kind` meets its contract: the records from i on decide.
-use Prim.Native.Nat.{◌≤◌, ◌-◌}
 use mathlib.Core.Path.{◌≡◌}
 use mathlib.Core.Bool.{false}
 use lib.ListN.{drop}
@@ -8,8 +7,5 @@ use Rattle.model.specs.Listings.{records_of}
 use Rattle.input.proofs.wrong_kind.Given as goal
 
 abbrev pub invariant-loop-i : goal.invariant-loop-i
-invariant-loop-i l = (l.i ≤ l.records)
-    × (first_bad_kind false 0 (records_of l.input) ≡ first_bad_kind l.after l.i (drop l.i (records_of l.input)))
-
-abbrev pub decreases-loop-i : goal.decreases-loop-i
-decreases-loop-i l = l.records - l.i
+invariant-loop-i l = first_bad_kind false 0 (records_of l.input)
+    ≡ first_bad_kind l.after l.i (drop l.i (records_of l.input))

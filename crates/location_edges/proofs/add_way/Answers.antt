@@ -32,8 +32,7 @@ add_edge-requires c =
       room = omega (arith, E.few, o.auto.updates);
     }
 
-pub returns : goal.returns
-returns c s h E t W H =
-    let d = c in
-    let o = d.one_edge-made in
-    d.add_edge.ensures t E H W.good (o.ensures s h W.ready E W.made)
+pub returns-clause-added : goal.returns-clause-added
+returns-clause-added c s h E t W H =
+    let o = c.one_edge-made in
+    c.add_edge.ensures.grown t E H W.good (o.ensures s h W.ready E W.made)

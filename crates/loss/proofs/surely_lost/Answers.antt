@@ -1,6 +1,5 @@
 -- `loss::surely_lost` meets its contract: a split whose tail is cut off, or a node whose only pointer is overwritten.
-use mathlib.Core.Path.{refl, sym, ◌∙◌}
-use Rattle.model.proofs.lists.Logic.{clash}
+use mathlib.Core.Path.{sym, ◌∙◌}
 use Rattle.way.proofs.Ready.{location_wide, nodes_few}
 use Rattle.loss.proofs.Leaking.{alone_leaks, cut_leaks}
 use Rattle.loss.proofs.surely_lost.Goals as goal
@@ -33,6 +32,3 @@ returns-then-overwrites c e =
     alone_leaks a.location.now a.d a.way s.requires.changes
     (sym c.cuts_next.ensures ∙ c.if-cuts_next.false)
     (c.overwrites.ensures c.if-overwrites.true) (c.alone_holds.ensures e)
-
-pub returns-else-overwrites : goal.returns-else-overwrites
-returns-else-overwrites c e = clash e refl

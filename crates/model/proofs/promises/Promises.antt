@@ -11,7 +11,7 @@ use mathlib.Core.List.{List, [], ◌∷◌}
 use native.Mathlib.Omega.{arith}
 use lib.ListN.{drop, get_or, length, replicate}
 use Rattle.model.specs.Base.{mem}
-use Rattle.model.specs.Answers.{folding_of, outcome_of, step_answer_of, step_numbers, stepping_of, unfolded_verdict, unfolding_of, verdict_of}
+use Rattle.model.specs.Answers.{folding_of, outcome_of, step_answer_of, step_numbers, stepping_of, unfolding_of, verdict_of}
 use Rattle.model.specs.Heap.{IsHeap}
 use Rattle.model.specs.Image.{answered, checks_image, checks_step, checks_unfold, fold_image, heap_of, step_image, step_verdict, to_fault, unfold_image}
 use Rattle.model.proofs.records.Checks.{accepted_by}
@@ -19,21 +19,22 @@ use Rattle.model.specs.Machine.{entry, step}
 use Rattle.model.specs.Records.{Refusal, filled, is_accepted, is_refused, is_s, shape_of, shape_record, stmt_of}
 use Rattle.model.specs.Shape.{counters, shape}
 use Rattle.model.specs.Translate.{Routine, Tables, bad, check, good, translate}
-use Rattle.model.specs.Ranges.{ranged_to, ranging}
-use Rattle.model.specs.Walking.{moved, walked}
+use Rattle.model.specs.Ranges.{ranged_of, ranging}
+use Rattle.model.specs.Walking.{moved, moved_of, walked, walked_of}
+use Rattle.std.specs.Prelude.{Result}
 use Rattle.model.specs.declared.Configuration.{Configuration}
-use Rattle.model.specs.declared.Ended.{Ended}
+use Rattle.model.specs.declared.Counts.{Counts}
 use Rattle.model.specs.declared.Folded.{Folded}
-use Rattle.model.specs.declared.Moved.{Moved}
-use Rattle.model.specs.declared.Ranged.{Ranged}
-use Rattle.model.specs.declared.Unfolded.{Unfolded}
+use Rattle.model.specs.declared.Ranged.{Ranged as DeclaredRanged}
 use Rattle.model.specs.declared.Stepped.{Stepped}
-use Rattle.model.specs.declared.Translated.{Translated}
-use Rattle.model.specs.declared.Walked.{Walked}
+use Rattle.model.specs.declared.Walked.{Walked as DeclaredWalked}
+use Rattle.model.specs.declared.codes.MoveRefusal.{MoveRefusal}
+use Rattle.model.specs.declared.codes.RangeRefusal.{RangeRefusal}
+use Rattle.model.specs.declared.codes.Refusal.{Refusal as DeclaredRefusal}
 use Rattle.model.proofs.images.Images.{fold_accepted, fold_checked, fold_gives, fold_lengths, fold_refused, fold_verdict, image_accepted, unfold_checked, unfold_lengths, unfold_refused}
 use Rattle.model.specs.Listings.{BadInput, GoodInput, record_refusal, records_of, numbers_input, numbers_translate, numbers_s, numbers_h}
 use Rattle.model.specs.Notions.{CheckedBy, Halted}
-use Rattle.model.proofs.images.OneToOne.{folded_one, halted_numbers, outcome_one, outcomes_one, step_one, steppings_one, unfolded_one, unfoldings_one, verdict_one}
+use Rattle.model.proofs.images.OneToOne.{folded_one, halted_numbers, outcome_one, outcomes_one, step_one, steppings_one, moved_one, unfoldings_one, verdict_one, walked_one}
 use Rattle.model.proofs.listings.Outcomes.{bad_translate, fitting, places_most, refused_tables, translate_number}
 use Rattle.model.proofs.records.Refusals.{accepted_input, bad_number, bad_refused, good_accepted, record_number, refused_input}
 use Rattle.model.proofs.images.Stepping.{step_answers, step_checked, step_faults, step_lengths, step_stays}
@@ -42,29 +43,35 @@ use Rattle.model.proofs.images.Stepping.{step_answers, step_checked, step_faults
 
 -- no two answers say the same: a finished call is never told as a refusal, nor a fault as a step
 abbrev pub AnswersDiffer : Type 0
-AnswersDiffer = ((a b : Ended) → verdict_of a ≡ verdict_of b → a ≡ b)
-    × ((a b : Unfolded) → unfolded_verdict a ≡ unfolded_verdict b → a ≡ b)
-    × ((a b : Stepped) → step_answer_of a ≡ step_answer_of b → a ≡ b)
-    × ((a b : Translated) (ls es : List ℕ) → outcome_of a ls es ≡ outcome_of b ls es → a ≡ b)
+AnswersDiffer = ((a b : Result (Unit {0}) DeclaredRefusal) → verdict_of a ≡ verdict_of b → a ≡ b)
+    × ((a b : Result Stepped DeclaredRefusal) → step_answer_of a ≡ step_answer_of b → a ≡ b)
+    × ((a b : Result Counts DeclaredRefusal) (ls es : List ℕ) → outcome_of a ls es ≡ outcome_of b ls es → a ≡ b)
+    × ((c : Configuration) (a b : Result Configuration MoveRefusal) → moved_of c a ≡ moved_of c b → a ≡ b)
+    × ((a b : DeclaredWalked) → walked_of a ≡ walked_of b → a ≡ b)
 
 pub answers_differ : AnswersDiffer
-answers_differ = (verdict_one, unfolded_one, step_one, outcome_one)
+answers_differ = (verdict_one, step_one, outcome_one, moved_one, walked_one)
 
 -- a contract leaves nothing free: what two programs answer and leave, by the same contract and for the same input, is
 -- the same, so that none but the definition's outcome meets it
 abbrev pub OneOutcome : Type 0
-OneOutcome = ((s : List ℕ) (a b : ℕ) (x y : Translated) (ls es ms fs : List ℕ) → outcome_of x ls es ≡ translate s a b
-    → outcome_of y ms fs ≡ translate s a b → (x ≡ y) × (ls ≡ ms) × (es ≡ fs))
-    × ((ps cs : List ℕ) (x y : Folded) → folding_of x ≡ fold_image ps cs → folding_of y ≡ fold_image ps cs → x ≡ y)
-    × ((r vs ps cs : List ℕ) (x y : Unfolded) (qs ds us es : List ℕ) → unfolding_of x qs ds ≡ unfold_image r vs ps cs
-    → unfolding_of y us es ≡ unfold_image r vs ps cs → (x ≡ y) × (qs ≡ us) × (ds ≡ es))
-    × ((r : List ℕ) (p c : ℕ) (ps cs : List ℕ) (x y : Stepped) (qs ds us es : List ℕ)
+OneOutcome = ((s : List ℕ) (a b : ℕ) (x y : Result Counts DeclaredRefusal) (ls es ms fs : List ℕ)
+    → outcome_of x ls es ≡ translate s a b → outcome_of y ms fs ≡ translate s a b
+    → (x ≡ y) × (ls ≡ ms) × (es ≡ fs))
+    × ((ps cs : List ℕ) (x y : Result Folded DeclaredRefusal) → folding_of x ≡ fold_image ps cs
+    → folding_of y ≡ fold_image ps cs → x ≡ y)
+    × ((r vs ps cs : List ℕ) (x y : Result (Unit {0}) DeclaredRefusal) (qs ds us es : List ℕ)
+    → unfolding_of x qs ds ≡ unfold_image r vs ps cs → unfolding_of y us es ≡ unfold_image r vs ps cs
+    → (x ≡ y) × (qs ≡ us) × (ds ≡ es))
+    × ((r : List ℕ) (p c : ℕ) (ps cs : List ℕ) (x y : Result Stepped DeclaredRefusal) (qs ds us es : List ℕ)
     → stepping_of x qs ds ≡ step_image r p c ps cs → stepping_of y us es ≡ step_image r p c ps cs
     → (x ≡ y) × (qs ≡ us) × (ds ≡ es))
-    × ((t : Tables) (c : Configuration) (n : ℕ) (x y : Moved) → x ≡ moved t c n → y ≡ moved t c n → x ≡ y)
-    × ((t : Tables) (c : Configuration) (ns : List ℕ) (x y : Walked) → x ≡ walked t c ns → y ≡ walked t c ns → x ≡ y)
-    × ((t : Tables) (l : ℕ) (rs ns : List ℕ) (x y : Ranged) → x ≡ ranged_to (ranging t l rs ns)
-    → y ≡ ranged_to (ranging t l rs ns) → x ≡ y)
+    × ((t : Tables) (c : Configuration) (n : ℕ) (x y : Result Configuration MoveRefusal) → moved_of c x ≡ moved t c n
+    → moved_of c y ≡ moved t c n → x ≡ y)
+    × ((t : Tables) (c : Configuration) (ns : List ℕ) (x y : DeclaredWalked) → walked_of x ≡ walked t c ns
+    → walked_of y ≡ walked t c ns → x ≡ y)
+    × ((t : Tables) (l : ℕ) (rs ns : List ℕ) (x y : Result DeclaredRanged RangeRefusal)
+    → x ≡ ranged_of (ranging t l rs ns) → y ≡ ranged_of (ranging t l rs ns) → x ≡ y)
 
 pub one_outcome : OneOutcome
 one_outcome = (
@@ -72,8 +79,8 @@ one_outcome = (
   λ ps cs x y p q. folded_one x y (p ∙ sym q),
   λ r vs ps cs x y qs ds us es p q. unfoldings_one x y qs ds us es (p ∙ sym q),
   λ r p c ps cs x y qs ds us es e f. steppings_one x y qs ds us es (e ∙ sym f),
-  λ t c n x y p q. p ∙ sym q,
-  λ t c ns x y p q. p ∙ sym q,
+  λ t c n x y p q. moved_one c x y (p ∙ sym q),
+  λ t c ns x y p q. walked_one x y (p ∙ sym q),
   λ t l rs ns x y p q. p ∙ sym q,
 )
 

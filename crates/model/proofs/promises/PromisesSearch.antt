@@ -13,7 +13,7 @@ use Rattle.model.specs.Listings.{WritableLoc, explored, extend, loc_at}
 use Rattle.model.specs.Records.{is_accepted, loc_record, record_at}
 use Rattle.model.specs.Search.{TellsNewest, number_below, searched}
 use Rattle.model.specs.Translate.{Routine, check, good, places, table_of, translate}
-use Rattle.model.specs.declared.Found.{Found}
+use Rattle.std.specs.Prelude.{Option as declared_option}
 use Rattle.model.proofs.images.OneToOne.{found_numbers_one, found_one}
 use Rattle.model.proofs.listings.Searches.{now_searched, own_number, search_length, search_tells}
 use Rattle.model.proofs.records.Checked.{check_good}
@@ -38,7 +38,7 @@ search_other_length = search_length
 -- no two answers say the same, in numbers too: so a contract that is an equation with the definition leaves nothing
 -- free
 abbrev pub OneSearch : Type 0
-OneSearch = ((x y : Found) → found_of x ≡ found_of y → x ≡ y)
+OneSearch = ((x y : declared_option ℕ) → found_of x ≡ found_of y → x ≡ y)
     × ((x y : Option ℕ) → found_numbers x ≡ found_numbers y → x ≡ y)
 
 pub one_search : OneSearch

@@ -10,8 +10,7 @@ use Rattle.model.specs.Image.{verdict_by}
 use Rattle.model.specs.Records.{Row, Refusal, Verdict, failed_node, first_failed, is_accepted, is_refused, refusal_at}
 use Rattle.model.proofs.lists.Logic.{and_l, and_r, bool_case, clash, or_cases}
 use Rattle.model.specs.Notions.{CheckedBy, Given, Pass}
-use Rattle.model.specs.Structs.{Tells, failing}
-use Rattle.model.specs.declared.Failure.{Failure}
+use Rattle.model.specs.Structs.{Failed, Tells, failing}
 use lib.Dec.{eqb, leb}
 use borrow.Author.Tests.{eqb-true, leb-true}
 
@@ -52,7 +51,7 @@ pass_none (c ∷ cs) p = rw (p.0, first_failed) (pass_none cs p.1)
 pub given_tells : (cs : List Row) (n v : ℕ) → Given cs n v → Tells cs (failing n v)
 given_tells cs n v g = let r = given_failed cs n v g in record { number = sym r.0; node = sym r.1 }
 
-pub tells_as : {cs : List Row} {f g : Failure} → f ≡ g → Tells cs g → Tells cs f
+pub tells_as : {cs : List Row} {f g : Failed} → f ≡ g → Tells cs g → Tells cs f
 tells_as {cs} e t = subst (Tells cs) (sym e) t
 
 pub pass_tells : (cs : List Row) → Pass cs → Tells cs (failing 0 0)
@@ -86,10 +85,10 @@ node_after_lem [] ys q = refl
 node_after_lem (c ∷ xs) ys q = rw (q.0, failed_node) (node_after_lem xs ys q.1)
 
 -- a failure of a check that passes and others after it; and of a list of checks after another
-pub tells_past : (c : Row) (cs : List Row) {f : Failure} → c.passes ≡ true → Tells cs f → Tells (c ∷ cs) f
+pub tells_past : (c : Row) (cs : List Row) {f : Failed} → c.passes ≡ true → Tells cs f → Tells (c ∷ cs) f
 tells_past c cs p t = record { number = rw (p, first_failed) t.number; node = rw (p, failed_node) t.node }
 
-pub tells_before : (xs ys : List Row) {f : Failure} → (f.number ≡ 0 → ⊥) → Tells xs f → Tells (xs ++ ys) f
+pub tells_before : (xs ys : List Row) {f : Failed} → (f.number ≡ 0 → ⊥) → Tells xs f → Tells (xs ++ ys) f
 tells_before xs ys {f} z t = by_number (first_failed xs) refl
   where
     by_number : (m : ℕ) → first_failed xs ≡ m → Tells (xs ++ ys) f
@@ -99,7 +98,7 @@ tells_before xs ys {f} z t = by_number (first_failed xs) refl
       node = t.node ∙ sym (node_before xs ys m e);
     }
 
-pub tells_after : (xs ys : List Row) {f g : Failure} → Numbered xs → Tells xs g → g.number ≡ 0 → Tells ys f
+pub tells_after : (xs ys : List Row) {f g : Failed} → Numbered xs → Tells xs g → g.number ≡ 0 → Tells ys f
     → Tells (xs ++ ys) f
 tells_after xs ys k p z t =
     let none = sym p.number ∙ z in

@@ -8,11 +8,9 @@ use lib.Dec.{leb}
 use lib.ListN.{length}
 use borrow.Author.Tests.{le-leb, lt-leb}
 use Rattle.model.specs.Translate.{Tables}
-use Rattle.model.specs.Walking.{keeps, moved, moves_along, walked, walked_to}
+use Rattle.model.specs.Walking.{Moved, Walked, keeps, moved, moves_along, walked, walked_to}
 use Rattle.model.specs.Walks.{made_before, then_walk}
 use Rattle.model.specs.declared.Configuration.{Configuration}
-use Rattle.model.specs.declared.Moved.{Moved}
-use Rattle.model.specs.declared.Walked.{Walked}
 use Rattle.model.proofs.lists.Logic.{bool_case}
 use Rattle.model.proofs.runs.OneMove.{moved_broken}
 

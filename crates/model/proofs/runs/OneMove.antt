@@ -12,10 +12,9 @@ use lib.ListN.{length, replicate}
 use Rattle.model.specs.Layout.{keeps_layout}
 use Rattle.model.specs.Runs.{Advance, Config, move_of}
 use Rattle.model.specs.Translate.{Tables}
-use Rattle.model.specs.Walking.{configuration_keeps, configuration_of, in_automaton, in_counters, keeps, moved, stays_with}
+use Rattle.model.specs.Walking.{Moved, configuration_keeps, configuration_of, in_automaton, in_counters, keeps, moved, stays_with}
 use Rattle.model.specs.Walks.{MakesNone, MakesOne, MoveTold}
 use Rattle.model.specs.declared.Configuration.{Configuration}
-use Rattle.model.specs.declared.Moved.{Moved}
 use Rattle.model.proofs.lists.Lists.{some_inj, some-none}
 use Rattle.model.proofs.lists.Logic.{and_both, and_l, and_r, bool_case, clash}
 use Rattle.model.proofs.runs.Stands.{keeps_stands, stands_back, stands_keeps, stands_length, stands_move}

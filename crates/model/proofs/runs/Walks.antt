@@ -12,10 +12,9 @@ use lib.Seq.{length-take-le}
 use borrow.Author.Tests.{leb-false, leb-true}
 use Rattle.model.specs.Runs.{final, move_of, trace}
 use Rattle.model.specs.Translate.{Tables}
-use Rattle.model.specs.Walking.{in_automaton, in_counters, keeps, moved, moves_along, walked, walked_to}
+use Rattle.model.specs.Walking.{Walked, in_automaton, in_counters, keeps, moved, moves_along, walked, walked_to}
 use Rattle.model.specs.Walks.{MakesNone, MakesOne, edges_taken, made_before, then_walk}
 use Rattle.model.specs.declared.Configuration.{Configuration}
-use Rattle.model.specs.declared.Walked.{Walked}
 use Rattle.model.proofs.lists.Logic.{bool_case, clash}
 use Rattle.model.proofs.runs.OneMove.{MoveDone, move_done, move_told}
 use Rattle.model.proofs.runs.Along.{along_cut, along_done, along_more, along_refused, number-case, then_same, walk_broken, walk_kept, walk_long}

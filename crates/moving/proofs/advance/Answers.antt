@@ -1,10 +1,11 @@
 -- `advance` meets its contract: an edge that carries every counter leaves them, and another puts the new ones.
 use Prim.Native.Nat.{◌≤◌}
 use mathlib.Core.Path.{◌≡◌, ◌∙◌, ap, subst, sym}
-use mathlib.Core.Bool.{false, true}
+use mathlib.Core.Bool.{true}
 use mathlib.Core.List.{map}
 use native.Mathlib.Omega.{arith}
 use lib.ListN.{drop}
+use Rattle.std.proofs.lemmas.Result.{err_from_is_err_and}
 use Rattle.model.specs.Base.{all}
 use Rattle.model.specs.Records.{byte, filled, is_zero, record_at, word}
 use Rattle.model.specs.Runs.{applied, updates_of}
@@ -12,7 +13,7 @@ use Rattle.model.specs.Walking.{in_counters, stays_with}
 use Rattle.moving.specs.Advanced.{Carries, standing}
 use Rattle.moving.proofs.Advancing.{advanced_done, advanced_over, carried_filled, carried_fits}
 use Rattle.moving.proofs.advance.Goals as goal
-use Rattle.moving.proofs.advance.Goals.{After-nodes_at-nodes, After-replace_counters}
+use Rattle.moving.proofs.advance.Goals.{After-nodes_at-nodes}
 
 -- the node count that was read is the target's
 nodes_are : (c : After-nodes_at-nodes) → let a = c.args in
@@ -47,47 +48,33 @@ returns-then-carries c =
     sym c.nodes_at.ensures ∙ h.0 ∙ nodes_are (goal.at.returns-then-carries c).After-nodes_at-nodes in
     let z = subst (λ n. all is_zero (drop n cs) ≡ true) old s.requires.zeros in
     advanced_done r k (standing a.location cs) d.two-to.result cs d.two-to.ensures
-    (carried_fits r cs k s.requires.few s.requires.twelve C (λ i. (d.type_inv.counters i).fits))
-    (carried_filled r cs k s.requires.few s.requires.twelve C z)
+    (carried_fits r cs k s.requires.few c.told-counters C c.fits-counters)
+    (carried_filled r cs k s.requires.few c.told-counters C z)
 
 pub replace_counters-requires : goal.replace_counters-requires
-replace_counters-requires c =
-    let d = c in
-    let s = d in
-    (s.requires.whole, few (goal.at.replace_counters-requires c).After-nodes_at-nodes, s.requires.twelve)
+replace_counters-requires c = (c.requires.whole, few (goal.at.replace_counters-requires c).After-nodes_at-nodes)
 
--- whether the new counters fit is told
-told : (c : After-replace_counters) → let d = c in
-    let a = d.args in
-    in_counters (map (applied a.counters.now)
-    (updates_of (byte (record_at a.locations.now (word a.rec.now 4)) 3) a.rec.now))
-    ≡ c.replace_counters.result
-told c =
-    let d = c in
-    let a = d.args in
-    ap (λ n. in_counters (map (applied a.counters.now) (updates_of n a.rec.now)))
-    (sym (d.nodes_at-nodes.ensures ∙ ap (λ i. byte (record_at a.locations.now i) 3) d.two-to.ensures))
-    ∙ sym c.replace_counters.ensures.told
+-- the new counters are those of the target's nodes
+vs_are : (c : After-nodes_at-nodes) → let a = c.args in
+    map (applied a.counters.now) (updates_of c.nodes_at-nodes.result a.rec.now)
+    ≡ map (applied a.counters.now) (updates_of (byte (record_at a.locations.now (word a.rec.now 4)) 3) a.rec.now)
+vs_are c = ap (λ n. map (applied c.args.counters.now) (updates_of n c.args.rec.now)) (nodes_are c)
 
-pub returns-then-not-replace_counters : goal.returns-then-not-replace_counters
-returns-then-not-replace_counters c =
-    let p = c in
-    let d = p in
-    let a = d.args in
-    let b = c.if-not-replace_counters.true in
-    ap (λ cs. stays_with 21 (standing a.location cs)) (p.replace_counters.ensures.left b)
+pub returns-in_err-replace_counters : goal.returns-in_err-replace_counters
+returns-in_err-replace_counters c =
+    let a = c.args in
+    let e = c.in_err-replace_counters.ensures in
+    let p = err_from_is_err_and c.from_residual.result c.from_residual.ensures.1 in
+    rw (p.1, p.2, e.0) (ap (λ cs. stays_with 21 (standing a.location cs)) e.2
     ∙ advanced_over a.rec.now (byte (record_at a.locations.now (word a.rec.now 4)) 3)
-    (standing a.location a.counters.now) (told (goal.at.returns-then-not-replace_counters c).After-replace_counters ∙ b)
+    (standing a.location a.counters.now)
+    (ap in_counters (sym (vs_are (goal.at.returns-in_err-replace_counters c).After-nodes_at-nodes)) ∙ e.1))
 
 pub returns : goal.returns
 returns c =
-    let p = c in
-    let d = p in
-    let a = d.args in
-    let b = c.if-not-replace_counters.false in
-    advanced_done a.rec.now (byte (record_at a.locations.now (word a.rec.now 4)) 3)
-    (standing a.location a.counters.now) d.two-to.result p.replace_counters.new.counters
-    d.two-to.ensures (told (goal.at.returns c).After-replace_counters ∙ b)
-    (p.replace_counters.ensures.put b
-    ∙ ap (λ n. filled 12 (map (applied a.counters.now) (updates_of n a.rec.now)))
-    (nodes_are (goal.at.returns c).After-nodes_at-nodes))
+    let a = c.args in
+    let e = c.in_ok-replace_counters.ensures in
+    let v = vs_are (goal.at.returns c).After-nodes_at-nodes in
+    advanced_done a.rec.now (byte (record_at a.locations.now (word a.rec.now 4)) 3) (standing a.location a.counters.now)
+    c.two-to.result c.replace_counters.new.counters c.two-to.ensures (ap in_counters (sym v) ∙ e.0)
+    (e.1 ∙ ap (filled 12) v)

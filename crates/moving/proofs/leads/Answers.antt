@@ -19,19 +19,13 @@ returns-then-two-location c =
 
 pub holds-requires : goal.holds-requires
 holds-requires c =
-    let s = c in
-    let g = c.guards_of-guards in (
-      s.requires.1,
-      s.requires.2 (code_in g.result.first) (subst (In (code_in g.result.first)) g.ensures (inl refl)),
-    )
+    let g = c.guards_of-guards in
+    c.requires.1 (code_in g.result.first) (subst (In (code_in g.result.first)) g.ensures (inl refl))
 
 pub holds-requires-2 : goal.holds-requires-2
 holds-requires-2 c =
-    let s = c in
-    let g = c.guards_of-guards in (
-      s.requires.1,
-      s.requires.2 (code_in g.result.second) (subst (In (code_in g.result.second)) g.ensures (inr (inl refl))),
-    )
+    let g = c.guards_of-guards in
+    c.requires.1 (code_in g.result.second) (subst (In (code_in g.result.second)) g.ensures (inr (inl refl)))
 
 pub returns : goal.returns
 returns c =

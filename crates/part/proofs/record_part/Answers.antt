@@ -1,49 +1,35 @@
 -- `record_part` meets its contract: nothing where there is no such record, else the record of the table that was meant.
-use Prim.Native.Nat.{◌*◌, ◌+◌, ◌<◌, ◌≤◌}
-use mathlib.Core.Path.{◌≡◌, ◌∙◌, sym}
-use mathlib.Core.Bool.{true}
-use native.Mathlib.Omega.{arith}
-use lib.ListN.{length}
-use Rattle.model.specs.Part.{answerable, meant}
-use Rattle.model.specs.Structs.{tables_in}
-use Rattle.part.proofs.Handed.{handed, inside, none_handed}
+use Prim.Native.Nat.{◌*◌, ◌+◌, ◌-◌}
+use mathlib.Core.Path.{◌∙◌, ap, sym}
+use lib.ListN.{drop, take}
+use Rattle.model.specs.Part.{onward}
+use Rattle.model.specs.Structs.{tables_lent}
+use Rattle.part.proofs.Handed.{accepted_is, begins_is, meant_read, part_is, refused_is}
 use Rattle.part.proofs.record_part.Goals as goal
-use Rattle.part.proofs.record_part.Goals.{Else-not-answerable}
 
--- past the first test the record is there
-there : (c : Else-not-answerable) → let a = c.args in
-    answerable (tables_in a.locations.now a.edges.now a.counts) a.mark a.number ≡ true
-there c = sym c.answerable.ensures ∙ c.if-not-answerable.false
-
-in_table : (c : Else-not-answerable) → let a = c.args in
-    (32 * a.number + 32 ≤ length (meant a.mark a.locations.now a.edges.now)) × (a.number < 2048)
-in_table c =
+pub returns-then-not-answerable-clause-ended : goal.returns-then-not-answerable-clause-ended
+returns-then-not-answerable-clause-ended c =
     let a = c.args in
-    inside (tables_in a.locations.now a.edges.now a.counts) a.mark a.number (there c)
+    refused_is (tables_lent a.tables) a.mark a.number (sym c.answerable.ensures ∙ c.if-not-answerable.true)
 
-pub returns-then-not-answerable : goal.returns-then-not-answerable
-returns-then-not-answerable c =
+pub returns-clause-part : goal.returns-clause-part
+returns-clause-part c =
     let a = c.args in
-    let h = none_handed (tables_in a.locations.now a.edges.now a.counts) a.mark a.number
-    (meant a.mark a.locations.ref_ptr a.edges.ref_ptr)
-    (sym c.answerable.ensures ∙ c.if-not-answerable.true)
-    c.part_of.ensures.part c.part_of.ensures.stands in
-    record { part = h.0; stands = h.1.0; told = h.1.1 }
+    let n = a.number in
+    ap (λ b. take (32 * n + 32 - 32 * n) (drop (32 * n) b.now)) c.meant-table.ensures
+    ∙ ap (λ l. take (32 * n + 32 - 32 * n) (drop (32 * n) l))
+    (meant_read (λ b. b.now) a.mark a.tables.locations a.tables.edges)
+    ∙ part_is (tables_lent a.tables) a.mark n (sym c.answerable.ensures ∙ c.if-not-answerable.false)
 
-pub overflow_mul-begin : goal.overflow_mul-begin
-overflow_mul-begin c = omega (arith, in_table (goal.at.overflow_mul-begin c).Else-not-answerable)
-
-pub overflow_add-end : goal.overflow_add-end
-overflow_add-end c = omega (arith, in_table (goal.at.overflow_add-end c).Else-not-answerable)
-
-pub part_of-requires-2 : goal.part_of-requires-2
-part_of-requires-2 c = (omega arith, omega (arith, in_table (goal.at.part_of-requires-2 c).Else-not-answerable))
-
-pub returns : goal.returns
-returns c =
+pub returns-clause-stands : goal.returns-clause-stands
+returns-clause-stands c =
     let a = c.args in
-    let h = handed (tables_in a.locations.now a.edges.now a.counts) a.mark a.number
-    (meant a.mark a.locations.ref_ptr a.edges.ref_ptr) (there (goal.at.returns c).Else-not-answerable)
-    c.part_of-2.ensures.part
-    c.part_of-2.ensures.stands in
-    record { part = h.0; stands = h.1.0; told = h.1.1 }
+    let n = a.number in
+    ap (λ b. onward b.ref_ptr (32 * n)) c.meant-table.ensures
+    ∙ ap (λ p. onward p (32 * n)) (meant_read (λ b. b.ref_ptr) a.mark a.tables.locations a.tables.edges)
+    ∙ ap (onward _) (begins_is (tables_lent a.tables) a.mark n (sym c.answerable.ensures ∙ c.if-not-answerable.false))
+
+pub returns-clause-ended : goal.returns-clause-ended
+returns-clause-ended c =
+    let a = c.args in
+    accepted_is (tables_lent a.tables) a.mark a.number (sym c.answerable.ensures ∙ c.if-not-answerable.false)

@@ -2,17 +2,13 @@
 use mathlib.Core.Path.{◌∙◌, ap, sym}
 use mathlib.Core.Bool.{◌&&◌}
 use lib.Dec.{eqb}
-use borrow.Author.Tests.{le-ltb, lt-ltb}
+use borrow.Author.Tests.{lt-ltb}
 use Rattle.model.specs.Records.{record_at, word}
-use Rattle.model.proofs.records.Bytes.{record_part_lem}
 use Rattle.range_checks.proofs.is_linked.Goals as goal
 
-pub returns-then-count-n : goal.returns-then-count-n
-returns-then-count-n c = let a = c.args in rw (le-ltb a.n a.count c.if-count-n.true)
-
-pub returns : goal.returns
-returns c =
-    let a = c.args in
-    ap (λ w. eqb w a.location) (c.two.ensures ∙ ap (λ l. word l 2) (record_part_lem a.edges.now a.n))
-    ∙ sym (ap (λ b. b && eqb (word (record_at a.edges.now a.n) 2) a.location)
-    (lt-ltb a.n a.count c.if-count-n.false))
+pub returns-then-n-tables : goal.returns-then-n-tables
+returns-then-n-tables c =
+    let t = c.args.tables in
+    ap (λ w. eqb w c.args.location) (c.two.ensures ∙ ap (λ r. word r 2) c.record_at.ensures)
+    ∙ sym (ap (λ b. b && eqb (word (record_at t.edges.now c.args.n) 2) c.args.location)
+    (lt-ltb c.args.n t.counts.edges c.if-n-tables.true))

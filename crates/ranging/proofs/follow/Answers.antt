@@ -1,46 +1,47 @@
 -- `follow` meets its contract: after i edges the rest of the path decides.
-use mathlib.Core.List.{List}
-use Prim.Native.Nat.{ℕ, ◌-◌, ◌<◌, ◌≤◌}
-use mathlib.Core.Bool.{true}
+use Prim.Native.Nat.{ℕ, ◌<◌, ◌≤◌}
 use mathlib.Core.Path.{◌≡◌, ◌∙◌, ap, refl, subst, sym}
+use mathlib.Core.Bool.{true}
+use mathlib.Core.List.{List}
 use native.Mathlib.Omega.{arith}
 use lib.ListN.{get_or, length}
+use borrow.Author.Rules.{rules}
+use Rattle.std.specs.Prelude.{Err, Option, Some, None, ok_or}
+use Rattle.std.proofs.lemmas.Result.{err_from_is_err_and}
 use Rattle.model.specs.Layout.{keeps_layout}
 use Rattle.model.specs.Ranges.{start_box}
 use Rattle.model.specs.Records.{filled, record_at}
 use Rattle.model.specs.Runs.{nodes_at}
-use Rattle.model.specs.Structs.{tables_in}
+use Rattle.model.specs.Structs.{tables_lent}
 use Rattle.model.specs.Translate.{Tables}
-use Rattle.model.proofs.records.Bytes.{record_part_lem}
 use Rattle.model.proofs.records.LayoutFacts.{layout_nodes, layout_room}
-use Rattle.range_edge.specs.OneEdge.{EdgeReady, OneFollowed}
 use Rattle.model.proofs.runs.Ranged.{asked_layout, asked_length, asked_start}
+use Rattle.range_edge.specs.OneEdge.{EdgeReady, OneFollowed}
 use Rattle.ranging.specs.Follow.{FollowReady}
-use Rattle.ranging.proofs.Going.{Going, begin_going, goes_on, in_bytes, is_followed, is_stopped, ready, stops}
-use Rattle.ranging.proofs.Starting.{lows_read, read_filled}
+use Rattle.ranging.proofs.Going.{begin_going, goes_on, in_bytes, is_followed, is_stopped, ready, stops}
+use Rattle.ranging.proofs.Starting.{lows_read}
 use Rattle.ranging.proofs.follow.Goals as goal
-use Rattle.ranging.proofs.follow.Goals.{After-follow_one, At-loop-i}
+use Rattle.ranging.proofs.follow.Goals.{After-follow_one}
 
 -- ---- before the loop: the tables keep the layout, the start is in them, and the path is not too long
 
-module _ (t : Tables) (start : ℕ) (rs ns : List ℕ) {lows highs : List ℕ} (R : FollowReady t start rs ns lows highs)
-  where
-    layout : keeps_layout t ≡ true
-    layout = asked_layout t start rs ns R.asked
+module _ (t : Tables) (start : ℕ) (rs ns : List ℕ) (R : FollowReady t start rs ns) where
+  layout : keeps_layout t ≡ true
+  layout = asked_layout t start rs ns R.asked
 
-    location : start < t.loc_count
-    location = asked_start t start rs ns R.asked
+  location : start < t.loc_count
+  location = asked_start t start rs ns R.asked
 
-    short : length ns ≤ 4096
-    short = asked_length t start rs ns R.asked
+  short : length ns ≤ 4096
+  short = asked_length t start rs ns R.asked
 
-    nodes_few : nodes_at t start ≤ 12
-    nodes_few = layout_nodes t layout start location
+  nodes_few : nodes_at t start ≤ 12
+  nodes_few = layout_nodes t layout start location
 
 pub nodes_at-k-requires : goal.nodes_at-k-requires
 nodes_at-k-requires c =
     let a = c.args in
-    let t = (tables_in c.args.locations.now c.args.edges.now c.args.counts) in
+    let t = tables_lent a.tables in
     omega (
       arith,
       layout_room t (layout t a.start a.ranges.now a.path.now c.requires),
@@ -50,132 +51,77 @@ nodes_at-k-requires c =
 pub read_ends-requires : goal.read_ends-requires
 read_ends-requires c =
     let a = c.args in
-    let few = nodes_few (tables_in c.args.locations.now c.args.edges.now c.args.counts) a.start a.ranges.now
-    a.path.now c.requires in
-    (omega (arith, c.nodes_at-k.ensures, few), omega arith, ap length c.requires.no_lows)
+    let few = nodes_few (tables_lent a.tables) a.start a.ranges.now a.path.now c.requires in
+    (omega (arith, c.nodes_at-k.ensures, few), omega arith)
 
 pub read_ends-requires-2 : goal.read_ends-requires-2
 read_ends-requires-2 c =
     let a = c.args in
-    let few = nodes_few (tables_in c.args.locations.now c.args.edges.now c.args.counts) a.start a.ranges.now
-    a.path.now c.requires in
-    (omega (arith, c.nodes_at-k.ensures, few), omega arith, ap length c.requires.no_highs)
+    let few = nodes_few (tables_lent a.tables) a.start a.ranges.now a.path.now c.requires in
+    (omega (arith, c.nodes_at-k.ensures, few), omega arith)
 
 pub loop-i-init : goal.loop-i-init
 loop-i-init c =
     let a = c.args in
-    let k = c.nodes_at-k.result in
-    let rs = a.ranges.now in (
-      omega (arith, c.read_ends.auto.to, ap length c.requires.no_lows),
-      omega (arith, c.read_ends-2.auto.to, ap length c.requires.no_highs),
-      λ m R. begin_going (tables_in a.locations.now a.edges.now m) a.start rs
-          a.path.now c.read_ends.new.to c.read_ends-2.new.to R
-          (read_filled rs 0 k c.requires.no_lows c.read_ends.ensures ∙ ap (filled 12) (lows_read rs k)
-          ∙ ap (λ j. filled 12 (start_box j rs).lows) c.nodes_at-k.ensures)
-          (read_filled rs 12 k c.requires.no_highs c.read_ends-2.ensures
-          ∙ ap (λ j. filled 12 (start_box j rs).highs) c.nodes_at-k.ensures),
-    )
+    let rs = a.ranges.now in
+    begin_going (tables_lent a.tables) a.start rs a.path.now _ c.requires
+    (c.read_ends.ensures ∙ ap (filled 12) (lows_read rs c.nodes_at-k.result)
+    ∙ ap (λ j. filled 12 (start_box j rs).lows) c.nodes_at-k.ensures)
+    (c.read_ends-2.ensures ∙ ap (λ j. filled 12 (start_box j rs).highs) c.nodes_at-k.ensures)
 
 -- ---- an edge
 
--- how the path stands, whose counts the invariant does not name
-going : (c : At-loop-i) → Going (tables_in c.args.locations.now c.args.edges.now c.args.counts) c.args.start
-    (start_box (nodes_at (tables_in c.args.locations.now c.args.edges.now c.args.counts) c.args.start)
-    c.args.ranges.now) c.args.path.now c.loop-i.i c.loop-i.lows c.loop-i.highs
-going c =
-    c.loop-i.invariant.2 c.args.counts (record {
-      asked = c.requires.asked;
-      linked = c.requires.linked;
-      ranges = c.requires.ranges;
-      no_lows = refl;
-      no_highs = refl;
-    })
-
--- the number of edge i is below 2 ^ 32, and its record is within the table
-pub overflow_cast-at : goal.overflow_cast-at
-overflow_cast-at c = omega (arith, c.type_inv.path c.loop-i.i)
-
-pub overflow_mul-at : goal.overflow_mul-at
-overflow_mul-at c = omega (arith, c.type_inv.path c.loop-i.i)
-
-pub overflow_add-end : goal.overflow_add-end
-overflow_add-end c = omega (arith, c.type_inv.path c.loop-i.i)
-
-pub slice_bounds-follow_one-end : goal.slice_bounds-follow_one-end
-slice_bounds-follow_one-end c =
+pub record_at-rec-requires : goal.record_at-rec-requires
+record_at-rec-requires c =
     let a = c.args in
-    let t = (tables_in c.args.locations.now c.args.edges.now c.args.counts) in
+    let t = tables_lent a.tables in
     in_bytes t (layout t a.start a.ranges.now a.path.now c.requires) a.start
-    (start_box (nodes_at (tables_in c.args.locations.now c.args.edges.now c.args.counts) c.args.start)
-    c.args.ranges.now) a.path.now c.loop-i.i c.loop-i.lows
-    c.loop-i.highs (going (goal.at.slice_bounds-follow_one-end c).At-loop-i) c.loop-i-test.true
+    (start_box (nodes_at t a.start) a.ranges.now) a.path.now c.loop-i.i c.loop-i.left c.loop-i.invariant (search rules)
 
 pub follow_one-requires : goal.follow_one-requires
 follow_one-requires c =
     let a = c.args in
-    let t = (tables_in c.args.locations.now c.args.edges.now c.args.counts) in
-    subst (λ r. EdgeReady r a.locations.now c.loop-i.lows c.loop-i.highs)
-    (sym (record_part_lem a.edges.now (get_or a.path.now c.loop-i.i 0)))
+    let t = tables_lent a.tables in
+    subst (λ r. EdgeReady r a.tables.locations.now) (sym c.record_at-rec.ensures)
     (ready t (layout t a.start a.ranges.now a.path.now c.requires) a.start
-    (start_box (nodes_at (tables_in c.args.locations.now c.args.edges.now c.args.counts) c.args.start)
-    c.args.ranges.now) a.path.now c.loop-i.i c.loop-i.lows
-    c.loop-i.highs (going (goal.at.follow_one-requires c).At-loop-i) c.loop-i-test.true)
+    (start_box (nodes_at t a.start) a.ranges.now) a.path.now c.loop-i.i c.loop-i.left c.loop-i.invariant (search rules))
 
 -- what is told of edge i
-told : (c : After-follow_one) → OneFollowed (record_at c.args.edges.now (get_or c.args.path.now c.loop-i.i 0))
-    c.args.locations.now c.loop-i.lows c.loop-i.highs c.follow_one.result c.follow_one.new.lows c.follow_one.new.highs
-told c =
-    subst (λ r. OneFollowed r c.args.locations.now c.loop-i.lows c.loop-i.highs c.follow_one.result
-    c.follow_one.new.lows c.follow_one.new.highs)
-    (record_part_lem c.args.edges.now (get_or c.args.path.now c.loop-i.i 0)) c.follow_one.ensures
+told : (c : After-follow_one) → OneFollowed (record_at c.args.tables.edges.now (get_or c.args.path.now c.loop-i.i 0))
+    c.args.tables.locations.now c.loop-i.left c.follow_one.result
+told c = subst (λ r. OneFollowed r c.args.tables.locations.now c.loop-i.left c.follow_one.result)
+    c.record_at-rec.ensures c.follow_one.ensures
 
-pub returns-then-not-follow_one : goal.returns-then-not-follow_one
-returns-then-not-follow_one c =
+none_from : {A : Type 0} (o : Option A) (i e : ℕ) → Err e ≡ ok_or o i → (o ≡ None) × (e ≡ i)
+none_from None i e h = (refl, cc)
+none_from (Some x) i e h = (cc, cc)
+
+pub returns-in_err-left : goal.returns-in_err-left
+returns-in_err-left c =
     let a = c.args in
-    let t = (tables_in c.args.locations.now c.args.edges.now c.args.counts) in
+    let t = tables_lent a.tables in
     let l = c.loop-i in
-    is_stopped t a.start (start_box
-    (nodes_at (tables_in c.args.locations.now c.args.edges.now c.args.counts) c.args.start) c.args.ranges.now)
-    a.path.now l.i c.follow_one.new.lows c.follow_one.new.highs c.loop-i-test.true
-    (stops t (layout t a.start a.ranges.now a.path.now c.requires) a.start
-    (start_box (nodes_at (tables_in c.args.locations.now c.args.edges.now c.args.counts) c.args.start)
-    c.args.ranges.now) a.path.now l.i l.lows
-    l.highs (going (goal.at.returns-then-not-follow_one c).At-loop-i) c.loop-i-test.true c.follow_one.result
-    c.follow_one.new.lows c.follow_one.new.highs (told (goal.at.returns-then-not-follow_one c).After-follow_one)
-    c.if-not-follow_one.true)
-
-pub overflow_add-i : goal.overflow_add-i
-overflow_add-i c =
-    let a = c.args in
-    omega (
-      arith,
-      c.loop-i-test.true,
-      short (tables_in c.args.locations.now c.args.edges.now c.args.counts) a.start a.ranges.now a.path.now
-          c.requires,
-    )
+    let h = none_from c.follow_one.result l.i c.in_err-left.field-0.0 c.in_err-left.ensures.value in
+    let p = err_from_is_err_and c.from_residual.result c.from_residual.ensures.1 in
+    rw (p.1, p.2, h.1) (is_stopped t a.start (start_box (nodes_at t a.start) a.ranges.now) a.path.now l.i
+    (stops t (layout t a.start a.ranges.now a.path.now c.requires) a.start (start_box (nodes_at t a.start) a.ranges.now)
+    a.path.now l.i l.left l.invariant (search rules) c.follow_one.result
+    (told (goal.at.returns-in_err-left c).After-follow_one) h.0))
 
 pub loop-i-preserved : goal.loop-i-preserved
 loop-i-preserved c =
     let a = c.args in
+    let t = tables_lent a.tables in
     let l = c.loop-i in
-    let f = c.follow_one in (
-      omega (arith, f.auto.lows, l.invariant.0),
-      omega (arith, f.auto.highs, l.invariant.1),
-      λ m R.
-          let t = tables_in a.locations.now a.edges.now m in
-          goes_on t (asked_layout t a.start a.ranges.now a.path.now R.asked) a.start
-          (start_box (nodes_at (tables_in c.args.locations.now c.args.edges.now c.args.counts) c.args.start)
-          c.args.ranges.now)
-          a.path.now l.i l.lows l.highs (l.invariant.2 m R)
-          c.loop-i-test.true f.result f.new.lows f.new.highs (told (goal.at.loop-i-preserved c).After-follow_one)
-          (short (tables_in c.args.locations.now c.args.edges.now c.args.counts) a.start a.ranges.now a.path.now
-          c.requires) c.if-not-follow_one.false,
-    )
+    goes_on t (layout t a.start a.ranges.now a.path.now c.requires) a.start
+    (start_box (nodes_at t a.start) a.ranges.now)
+    a.path.now l.i l.left l.invariant (search rules) c.follow_one.result
+    (told (goal.at.loop-i-preserved c).After-follow_one) (short t a.start a.ranges.now a.path.now c.requires)
+    c.in_ok-left.left c.in_ok-left.ensures.ok_part
 
 pub returns : goal.returns
 returns c =
     let a = c.args in
-    is_followed (tables_in c.args.locations.now c.args.edges.now c.args.counts) a.start
-    (start_box (nodes_at (tables_in c.args.locations.now c.args.edges.now c.args.counts) c.args.start)
-    c.args.ranges.now) a.path.now c.loop-i.i c.loop-i.lows c.loop-i.highs
-    (going (goal.at.returns c).At-loop-i) c.loop-i-test.false
+    let t = tables_lent a.tables in
+    is_followed t a.start (start_box (nodes_at t a.start) a.ranges.now) a.path.now c.loop-i.i c.loop-i.left
+    c.loop-i.invariant (search rules)

@@ -1,134 +1,96 @@
 -- `follow_ranges` meets its contract: 23 is looked at first, then 22, and else the path decides.
-use mathlib.Core.List.{List}
-use Prim.Native.Nat.{ℕ, ◌<◌, ◌≤◌}
-use mathlib.Core.Path.{◌≡◌, ◌∙◌, ap, refl, sym}
+use Prim.Native.Nat.{◌<◌}
+use mathlib.Core.Path.{◌≡◌, ◌∙◌, ap, sym}
 use mathlib.Core.Bool.{true}
 use native.Mathlib.Omega.{arith}
-use lib.ListN.{length}
+use Rattle.std.proofs.lemmas.Result.{err_from_is_err_and}
 use Rattle.model.specs.Layout.{keeps_layout}
-use Rattle.model.specs.Ranges.{askable, first_wrong, linked_part, ranged_to, refused_at}
+use Rattle.model.specs.Ranges.{askable, first_wrong, ranged_of, refused_at}
 use Rattle.model.specs.Runs.{nodes_at}
-use Rattle.model.specs.Structs.{tables_in}
-use Rattle.model.specs.Translate.{Tables}
+use Rattle.model.specs.Structs.{tables_lent}
 use Rattle.model.proofs.records.LayoutFacts.{layout_nodes, layout_room}
 use Rattle.model.proofs.runs.Ranged.{asked_layout, asked_start, ranging_unasked, ranging_unlinked, ranging_wrong}
-use Rattle.ranging.proofs.Outcomes.{follow_ready, kept_is}
+use Rattle.ranging.proofs.Outcomes.{follow_ready, is_reached, is_stuck}
 use Rattle.ranging.proofs.follow_ranges.Goals as goal
-use Rattle.ranging.proofs.follow_ranges.Goals.{After-go_along-led, After-first_wrong-wrong, Else-not-is_askable, Else-led-path, Else-wrong-k}
+use Rattle.ranging.proofs.follow_ranges.Goals.{Else-not-is_askable, In_default}
 
 -- ---- what can be asked
 
 pub returns-then-not-is_askable : goal.returns-then-not-is_askable
 returns-then-not-is_askable c =
     let a = c.args in
-    c.ended.ensures.0
-    ∙ sym (ap ranged_to (ranging_unasked
-    (tables_in c.args.locations.now c.args.edges.now
-    (record { locations = c.args.location_count; edges = c.args.edge_count })) a.start a.ranges.now a.path.now
-    (sym (c.is_askable.ensures a.path.now refl) ∙ c.if-not-is_askable.true)))
+    sym (ap ranged_of (ranging_unasked (tables_lent a.tables) a.start a.ranges.now a.path.now
+    (sym c.is_askable.ensures ∙ c.if-not-is_askable.true)))
 
-yes : (c : Else-not-is_askable)
-    → askable (tables_in c.args.locations.now c.args.edges.now
-    (record { locations = c.args.location_count; edges = c.args.edge_count })) c.args.start c.args.path.now ≡ true
-yes c = sym (c.is_askable.ensures c.args.path.now refl) ∙ c.if-not-is_askable.false
+yes : (c : Else-not-is_askable) → askable (tables_lent c.args.tables) c.args.start c.args.path.now ≡ true
+yes c = sym c.is_askable.ensures ∙ c.if-not-is_askable.false
 
-layout : (t : Tables) (start : ℕ) (rs ns : List ℕ) → askable t start ns ≡ true
-    → (keeps_layout t ≡ true) × (start < t.loc_count)
-layout t start rs ns q = (asked_layout t start rs ns q, asked_start t start rs ns q)
+layout : (c : Else-not-is_askable) → keeps_layout (tables_lent c.args.tables) ≡ true
+layout c = asked_layout (tables_lent c.args.tables) c.args.start c.args.ranges.now c.args.path.now (yes c)
 
-pub go_along-led-requires : goal.go_along-led-requires
-go_along-led-requires c =
-    let a = c.args in
-    let t = (tables_in c.args.locations.now c.args.edges.now
-    (record { locations = c.args.location_count; edges = c.args.edge_count })) in
-    (layout_room t (layout t a.start a.ranges.now a.path.now
-    (yes (goal.at.go_along-led-requires c).Else-not-is_askable)).0).1
+begins : (c : Else-not-is_askable) → c.args.start < c.args.tables.counts.locations
+begins c = asked_start (tables_lent c.args.tables) c.args.start c.args.ranges.now c.args.path.now (yes c)
+
+pub go_along-requires : goal.go_along-requires
+go_along-requires c =
+    (layout_room (tables_lent c.args.tables) (layout (goal.at.go_along-requires c).Else-not-is_askable)).1
 
 -- ---- how far the edges lead on
 
-linked_is : (c : After-go_along-led)
-    → c.go_along-led.result.linked
-    ≡ linked_part (tables_in c.args.locations.now c.args.edges.now
-    (record { locations = c.args.location_count; edges = c.args.edge_count })) c.args.start c.args.path.now
-linked_is c = (c.go_along-led.ensures c.args.locations.now c.args.location_count).0
-
-pub returns-then-led-path : goal.returns-then-led-path
-returns-then-led-path c =
+pub returns-in_err-location : goal.returns-in_err-location
+returns-in_err-location c =
     let a = c.args in
-    let g = linked_is (goal.at.returns-then-led-path c).After-go_along-led in
-    c.ended-then-led-path.ensures.0 ∙ ap (λ p. ranged_to (refused_at 23 p)) g
-    ∙ sym (ap ranged_to (ranging_unlinked
-    (tables_in c.args.locations.now c.args.edges.now
-    (record { locations = c.args.location_count; edges = c.args.edge_count })) a.start a.ranges.now a.path.now
-    (yes (goal.at.returns-then-led-path c).Else-not-is_askable) (omega (arith, g, c.if-led-path.true))))
-
-all_linked : (c : Else-led-path)
-    → length c.args.path.now ≤ linked_part
-    (tables_in c.args.locations.now c.args.edges.now
-    (record { locations = c.args.location_count; edges = c.args.edge_count })) c.args.start c.args.path.now
-all_linked c =
-    omega (arith, (c.go_along-led.ensures c.args.locations.now c.args.location_count).0, c.if-led-path.false)
+    let p = err_from_is_err_and c.from_residual.result c.from_residual.ensures.1 in
+    let h = c.in_err-location.ensures in
+    rw (p.1, p.2, h.1) (sym (ap ranged_of (ranging_unlinked (tables_lent a.tables) a.start a.ranges.now a.path.now
+    (yes (goal.at.returns-in_err-location c).Else-not-is_askable) h.0)))
 
 pub nodes_at-k-requires : goal.nodes_at-k-requires
 nodes_at-k-requires c =
-    let a = c.args in
-    let t = (tables_in c.args.locations.now c.args.edges.now
-    (record { locations = c.args.location_count; edges = c.args.edge_count })) in
-    let L = layout t a.start a.ranges.now a.path.now (yes (goal.at.nodes_at-k-requires c).Else-not-is_askable) in
-    omega (arith, layout_room t L.0, L.1)
+    let d = (goal.at.nodes_at-k-requires c).Else-not-is_askable in
+    omega (arith, layout_room (tables_lent c.args.tables) (layout d), begins d)
 
 -- ---- the ranges
 
-pub first_wrong-wrong-requires : goal.first_wrong-wrong-requires
-first_wrong-wrong-requires c =
+pub first_wrong-requires : goal.first_wrong-requires
+first_wrong-requires c =
+    let d = (goal.at.first_wrong-requires c).Else-not-is_askable in
+    omega (arith, c.nodes_at-k.ensures, layout_nodes (tables_lent c.args.tables) (layout d) c.args.start (begins d))
+
+pub returns-in-Some : goal.returns-in-Some
+returns-in-Some c =
     let a = c.args in
-    let t = (tables_in c.args.locations.now c.args.edges.now
-    (record { locations = c.args.location_count; edges = c.args.edge_count })) in
-    let L = layout t a.start a.ranges.now a.path.now (yes (goal.at.first_wrong-wrong-requires c).Else-not-is_askable) in
-    omega (arith, c.nodes_at-k.ensures, layout_nodes t L.0 a.start L.1)
+    let h = c.in-Some.ensures in
+    let w : first_wrong (nodes_at (tables_lent a.tables) a.start) a.ranges.now ≡ c.in-Some.counter =
+    ap (λ k. first_wrong k a.ranges.now) (sym c.nodes_at-k.ensures) ∙ h.1 in
+    sym (ap ranged_of (ranging_wrong (tables_lent a.tables) a.start a.ranges.now a.path.now
+    (yes (goal.at.returns-in-Some c).Else-not-is_askable) (omega (arith, c.in_ok-location.ensures.0))
+    (omega (arith, w, h.0, c.nodes_at-k.ensures))) ∙ ap (λ i. ranged_of (refused_at 22 i)) w)
 
-wrong_is : (c : After-first_wrong-wrong)
-    → c.first_wrong-wrong.result ≡ first_wrong
-    (nodes_at (tables_in c.args.locations.now c.args.edges.now
-    (record { locations = c.args.location_count; edges = c.args.edge_count })) c.args.start) c.args.ranges.now
-wrong_is c = c.first_wrong-wrong.ensures ∙ ap (λ k. first_wrong k c.args.ranges.now) c.nodes_at-k.ensures
+-- ---- the path
 
-pub returns-then-wrong-k : goal.returns-then-wrong-k
-returns-then-wrong-k c =
+-- no range of the start's counters is none
+sound : (c : In_default) → first_wrong (nodes_at (tables_lent c.args.tables) c.args.start) c.args.ranges.now
+    ≡ nodes_at (tables_lent c.args.tables) c.args.start
+sound c = let e = c.nodes_at-k.ensures in ap (λ k. first_wrong k c.args.ranges.now) (sym e) ∙ c.in_default.ensures ∙ e
+
+pub follow-requires : goal.follow-requires
+follow-requires c =
     let a = c.args in
-    let w = wrong_is (goal.at.returns-then-wrong-k c).After-first_wrong-wrong in
-    c.ended-then-wrong-k.ensures.0 ∙ ap (λ p. ranged_to (refused_at 22 p)) w
-    ∙ sym (ap ranged_to (ranging_wrong
-    (tables_in c.args.locations.now c.args.edges.now
-    (record { locations = c.args.location_count; edges = c.args.edge_count })) a.start a.ranges.now a.path.now
-    (yes (goal.at.returns-then-wrong-k c).Else-not-is_askable)
-    (all_linked (goal.at.returns-then-wrong-k c).Else-led-path)
-    (omega (arith, w, c.nodes_at-k.ensures, c.if-wrong-k.true))))
+    follow_ready (tables_lent a.tables) a.start a.ranges.now a.path.now
+    (yes (goal.at.follow-requires c).Else-not-is_askable) c.in_ok-location.ensures.0
+    (sound (goal.at.follow-requires c).In_default)
 
-none_wrong : (c : Else-wrong-k)
-    → nodes_at (tables_in c.args.locations.now c.args.edges.now
-    (record { locations = c.args.location_count; edges = c.args.edge_count })) c.args.start
-    ≤ first_wrong (nodes_at (tables_in c.args.locations.now c.args.edges.now
-    (record { locations = c.args.location_count; edges = c.args.edge_count })) c.args.start) c.args.ranges.now
-none_wrong c =
-    let w = c.first_wrong-wrong.ensures ∙ ap (λ k. first_wrong k c.args.ranges.now) c.nodes_at-k.ensures in
-    omega (arith, w, c.nodes_at-k.ensures, c.if-wrong-k.false)
-
-pub follow_kept-requires : goal.follow_kept-requires
-follow_kept-requires c =
+pub returns-in-Ok : goal.returns-in-Ok
+returns-in-Ok c =
     let a = c.args in
-    let R = follow_ready (tables_in c.args.locations.now c.args.edges.now
-    (record { locations = c.args.location_count; edges = c.args.edge_count })) a.start a.ranges.now a.path.now
-    (yes (goal.at.follow_kept-requires c).Else-not-is_askable)
-    (all_linked (goal.at.follow_kept-requires c).Else-led-path)
-    (none_wrong (goal.at.follow_kept-requires c).Else-wrong-k) in
-    let g = linked_is (goal.at.follow_kept-requires c).After-go_along-led in
-    (R, (c.go_along-led.ensures a.locations.now a.location_count).1 (g ∙ R.linked))
+    is_reached (tables_lent a.tables) a.start a.ranges.now a.path.now
+    (yes (goal.at.returns-in-Ok c).Else-not-is_askable)
+    c.in_ok-location.ensures.0 (sound (goal.at.returns-in-Ok c).In_default) c.in-Ok.left c.in-Ok.ensures
+    c.in_ok-location.location c.in_ok-location.ensures.1
 
-pub returns : goal.returns
-returns c =
+pub returns-in-Err : goal.returns-in-Err
+returns-in-Err c =
     let a = c.args in
-    kept_is (tables_in c.args.locations.now c.args.edges.now
-    (record { locations = c.args.location_count; edges = c.args.edge_count })) a.start a.ranges.now a.path.now
-    (yes (goal.at.returns c).Else-not-is_askable)
-    (all_linked (goal.at.returns c).Else-led-path) (none_wrong (goal.at.returns c).Else-wrong-k) c.follow_kept.ensures
+    is_stuck (tables_lent a.tables) a.start a.ranges.now a.path.now (yes (goal.at.returns-in-Err c).Else-not-is_askable)
+    c.in_ok-location.ensures.0 (sound (goal.at.returns-in-Err c).In_default) c.in-Err.position c.in-Err.ensures

@@ -1,47 +1,33 @@
--- `write_edge` meets its contract.
-use Prim.Native.Nat.{ℕ}
-use mathlib.Core.Path.{ap₂, ◌∙◌}
-use mathlib.Core.List.{List}
+-- `write_edge` meets its contract: a blank record, its first eight bytes, and its updates.
+use Prim.Native.Nat.{ℕ, ◌+◌, ◌*◌}
+use mathlib.Core.Path.{◌≡◌, ap, ap₂, ◌∙◌}
+use mathlib.Core.List.{List, [], ◌∷◌, ◌++◌, map}
 use native.Mathlib.Omega.{arith}
-use lib.ListN.{drop, length-set}
-use lib.Seq.{sets}
-use Rattle.record.proofs.Bytes.{edge_is, head_with, with_updates}
+use lib.ListN.{drop, get_or, length, take}
+use lib.Seq.{length-take-le, take-take}
+use Rattle.model.specs.Base.{joined}
+use Rattle.model.specs.Records.{two_bytes}
+use Rattle.record.proofs.Bytes.{edge_head, edge_is, low_high, with_updates}
 use Rattle.record.proofs.write_edge.Goals as goal
-
-pub shape_of-part : goal.shape_of-part
-shape_of-part c = omega (arith, simp length-set at c.write_updates.auto.part)
 
 pub returns : goal.returns
 returns c =
-    let b = c in
-    let a = b.args in
+    let a = c.args in
     let e = a.fields in
     let us = a.updates.now in
+    let g = e.guards.first in
+    let from : c.to_le_bytes-from.result ≡ two_bytes e.from =
+    c.to_le_bytes-from.ensures ∙ low_high e.from (omega arith) in
+    let to : c.to_le_bytes-to.result ≡ two_bytes e.to = c.to_le_bytes-to.ensures ∙ low_high e.to (omega arith) in
+    let head : c.copy_from_slice.new.self ≡ edge_head e =
+    c.copy_from_slice.ensures.after
+    ∙ (λ i. 0x45 ∷ c.branch_byte-head.ensures i ∷ get_or (from i) 0 0 ∷ get_or (from i) 1 0 ∷ get_or (to i) 0 0
+    ∷ get_or (to i) 1 0 ∷ g.test ∷ g.node.0 ∷ []) in
+    let short : length (take e.nodes us) ≡ e.nodes = length-take-le e.nodes us (omega arith) in
     c.write_updates.ensures
-    ∙ ap₂ (λ (l : List ℕ) (h : ℕ). with_updates (sets l 0 (head_with e h)) us e.nodes)
-    b.blank.ensures b.branch_byte-head.ensures
+    ∙ ap₂ (λ (l : List ℕ) (k : ℕ). with_updates (l ++ drop 8 c.blank.new.part) (take e.nodes us) k) head short
+    ∙ ap (λ w. take 8 (edge_head e ++ drop 8 c.blank.new.part)
+    ++ (joined (map two_bytes w) ++ drop (8 + 2 * e.nodes) (edge_head e ++ drop 8 c.blank.new.part)))
+    (take-take e.nodes e.nodes us (omega arith))
+    ∙ ap (λ (l : List ℕ). with_updates (edge_head e ++ drop 8 l) us e.nodes) c.blank.ensures
     ∙ edge_is e us (drop 32 a.part.now) (omega arith) (omega arith)
-
-pub bounds-part-1 : goal.bounds-part-1
-bounds-part-1 c = simp length-set (omega arith)
-
-pub bounds-part-2 : goal.bounds-part-2
-bounds-part-2 c = simp length-set (omega arith)
-
-pub bounds-part-3 : goal.bounds-part-3
-bounds-part-3 c = simp length-set (omega arith)
-
-pub bounds-part-4 : goal.bounds-part-4
-bounds-part-4 c = simp length-set (omega arith)
-
-pub bounds-part-5 : goal.bounds-part-5
-bounds-part-5 c = simp length-set (omega arith)
-
-pub bounds-part-6 : goal.bounds-part-6
-bounds-part-6 c = simp length-set (omega arith)
-
-pub bounds-part-7 : goal.bounds-part-7
-bounds-part-7 c = simp length-set (omega arith)
-
-pub write_updates-requires : goal.write_updates-requires
-write_updates-requires c = simp length-set (omega arith)

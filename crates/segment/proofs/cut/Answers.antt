@@ -1,46 +1,25 @@
 -- `segment::cut` meets its contract: after i cells the tables are those of the cut of the first i.
-use mathlib.Core.Path.{◌≡◌}
-use native.Mathlib.Omega.{arith}
-use lib.ListN.{length}
-use lib.Seq.{take-length}
-use borrow.Author.Rules.{rules}
-use Rattle.segment.specs.Cut.{cut_tables, CutTables}
-use Rattle.segment.proofs.CutStep.{ready_at, size_past, turn_at}
+use mathlib.Core.Path.{◌∙◌}
+use Rattle.segment.specs.Lent.{tables_in}
+use Rattle.segment.proofs.CutStep.{enter_alike, ready_at, size_past, turn_at}
 use Rattle.segment.proofs.cut.Goals as goal
-use Rattle.segment.proofs.cut.Goals.{At-loop-i}
-
--- the tables where a turn begins
-abbrev now : At-loop-i → CutTables
-now l = cut_tables l.loop-i.node l.loop-i.last l.loop-i.size
 
 pub put-k-requires : goal.put-k-requires
 put-k-requires c =
-    let l = c in
-    let s = l in
-    ready_at s.requires l.loop-i.i (search rules) (now (goal.at.put-k-requires c).At-loop-i) l.loop-i.invariant.1
-    l.loop-i.k l.loop-i.invariant.2
+    let l = c.loop-c in
+    ready_at c.requires l.c-index c.loop-c-test.true (tables_in l.tables) l.invariant.1 l.k l.invariant.2
 
-pub loop-i-preserved : goal.loop-i-preserved
-loop-i-preserved c =
-    let q = c in
-    let l = q in
-    let s = l in
+pub loop-c-preserved : goal.loop-c-preserved
+loop-c-preserved c =
+    let l = c.loop-c in
     let p = c.put-k in
-    let inv = l.loop-i.invariant in
-    let b = q.loop-i-test.true in
-    let y = ready_at s.requires l.loop-i.i b (now (goal.at.loop-i-preserved c).At-loop-i) inv.1 l.loop-i.k inv.2 in
-    let t = cut_tables p.new.node p.new.last p.new.size in (
-      omega arith,
-      record { node = search rules; last = search rules; size = search rules },
-      turn_at s.requires l.loop-i.i b (now (goal.at.loop-i-preserved c).At-loop-i) inv.1 l.loop-i.k inv.2 t p.result
-          p.ensures,
-      size_past _ _ l.loop-i.k (now (goal.at.loop-i-preserved c).At-loop-i) t p.result p.ensures s.args.size.now
-          (λ e. (y.more e).0) inv.3,
+    let e = p.ensures in
+    let inv = l.invariant in
+    let b = c.loop-c-test.true in
+    let t = tables_in l.tables in
+    let y = ready_at c.requires l.c-index b t inv.1 l.k inv.2 in (
+      (e.same.0 ∙ inv.0.0, e.same.1 ∙ inv.0.1, e.same.2 ∙ inv.0.2),
+      enter_alike e.put.entered inv.1,
+      turn_at c.requires l.c-index b t inv.1 l.k inv.2 (tables_in p.new.self) p.result e.put,
+      size_past _ _ l.k t (tables_in p.new.self) p.result e.put c.args.size.now (λ q. (y.more q).0) inv.3,
     )
-
-pub returns : goal.returns
-returns c =
-    let l = c.loop-i in
-    let o = c.args.order.now in
-    let e : l.i ≡ length o = omega arith in
-    record { cut = rw (e, take-length) at l.invariant.2; past = l.invariant.3 }

@@ -1,17 +1,13 @@
 -- `segment::cut` meets its contract: after i cells the tables are those of the cut of the first i.
-use Prim.Native.Nat.{◌-◌, ◌≤◌}
 use mathlib.Core.Path.{◌≡◌}
-use lib.ListN.{drop, length, take}
-use Rattle.segment.specs.Cut.{IsCut, segs, cut_tables}
+use lib.ListN.{drop, take}
+use Rattle.segment.specs.Cut.{IsCut, segs}
+use Rattle.segment.specs.Lent.{SameTables, tables_in}
 use Rattle.segment.proofs.CutStep.{Alike}
 use Rattle.segment.proofs.cut.Given as goal
 
-abbrev pub invariant-loop-i : goal.invariant-loop-i
-invariant-loop-i l =
-    (l.i ≤ length l.order) × Alike (cut_tables l.node l.last l.size)
-    (cut_tables l.initial.node l.initial.last l.initial.size)
-    × IsCut (segs l.held (take l.i l.order)) (cut_tables l.node l.last l.size) l.k
-    × (drop l.k l.size ≡ drop l.k l.initial.size)
-
-abbrev pub decreases-loop-i : goal.decreases-loop-i
-decreases-loop-i l = length l.order - l.i
+abbrev pub invariant-loop-c : goal.invariant-loop-c
+invariant-loop-c l = SameTables l.initial.tables l.tables
+    × Alike (tables_in l.tables) (tables_in l.initial.tables)
+    × IsCut (segs l.held (take l.c-index l.order)) (tables_in l.tables) l.k
+    × (drop l.k l.tables.size.now ≡ drop l.k l.initial.tables.size.now)

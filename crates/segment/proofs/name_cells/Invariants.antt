@@ -1,14 +1,9 @@
--- `segment::name_cells` meets its contract: with the cells from i on named, the table is the one with all named.
-use Prim.Native.Nat.{◌-◌}
+-- `segment::name_cells` meets its contract: with the cells from the turn's on named, the table is the one with all
+-- named.
 use mathlib.Core.Path.{◌≡◌}
-use lib.ListN.{drop, length}
+use lib.ListN.{drop}
 use Rattle.segment.specs.Cut.{named}
 use Rattle.segment.proofs.name_cells.Given as goal
 
-abbrev pub invariant-loop-i : goal.invariant-loop-i
-invariant-loop-i l =
-    (length l.node ≡ length l.initial.node)
-    × (named (drop l.i l.cells) l.n.0 l.node ≡ named l.cells l.n.0 l.initial.node)
-
-abbrev pub decreases-loop-i : goal.decreases-loop-i
-decreases-loop-i l = length l.cells - l.i
+abbrev pub invariant-loop-c : goal.invariant-loop-c
+invariant-loop-c l = named (drop l.c-index l.cells) l.n.0 l.node ≡ named l.cells l.n.0 l.initial.node

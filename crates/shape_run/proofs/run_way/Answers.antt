@@ -3,8 +3,9 @@
 use native.Mathlib.Omega.{arith}
 use Rattle.way.proofs.Ready.{open_ready, location_wide, nodes_few}
 use mathlib.Core.Path.{sym, ◌∙◌}
+use Rattle.std.proofs.lemmas.Result.{err_from_is_err_and}
 use lib.Seq.{length-take-le}
-use Rattle.shape_run.proofs.Running.{run_ready, way_ran}
+use Rattle.shape_run.proofs.Running.{run_ready, way_done, way_faults}
 use Rattle.shape_run.proofs.run_way.Goals as goal
 
 pub bounds-location-3 : goal.bounds-location-3
@@ -46,8 +47,8 @@ slice_bounds-run-end-2 c =
       c.requires.room,
     )))
 
-pub run-ran-requires : goal.run-ran-requires
-run-ran-requires c =
+pub run-requires : goal.run-requires
+run-requires c =
     let p = c.requires in
     let a = c.args in
     let o = c.open_way-n in
@@ -56,15 +57,27 @@ run-ran-requires c =
     (omega (arith, o.auto.cells, p.room)) e.heap
     a.order.now a.seen.now p.places p.marks p.clear
 
+pub returns-in_err-visited : goal.returns-in_err-visited
+returns-in_err-visited c =
+    let p = c.requires in
+    let o = c.open_way-n in
+    let e = o.ensures in
+    let r = c.run in
+    let x = c.from_residual in
+    let q = err_from_is_err_and x.result x.ensures.1 in
+    rw (q.1, q.2)
+    (way_faults p.ready o.new.pointers o.new.cells o.result e.pointers e.count
+    (omega (arith, o.auto.cells, p.room)) e.heap
+    r.new.pointers r.new.cells r.new.order r.new.seen r.auto.cells c.in_err-visited.ensures)
+
 pub returns : goal.returns
 returns c =
     let p = c.requires in
     let o = c.open_way-n in
     let e = o.ensures in
     let b = c.branch_of-branch in
-    let r = c.run-ran in
-    way_ran p.ready o.new.pointers o.new.cells o.result e.pointers e.count
+    let r = c.run in
+    way_done p.ready o.new.pointers o.new.cells o.result e.pointers e.count
     (omega (arith, o.auto.cells, p.room)) e.heap
-    r.new.pointers r.new.cells r.new.order r.new.seen b.result
-    r.result
-    b.ensures r.ensures r.auto.cells
+    r.new.pointers r.new.cells r.new.order r.new.seen r.auto.cells b.result c.in_ok-visited.visited
+    b.ensures c.in_ok-visited.ensures

@@ -1,6 +1,5 @@
 -- `enter_starts` meets its contract: the first j starting shapes are entered.
-use Prim.Native.Nat.{◌-◌}
-use mathlib.Core.Path.{refl, ap, ◌∙◌}
+use mathlib.Core.Path.{ap, ◌∙◌}
 use native.Mathlib.Omega.{arith}
 use lib.ListN.{length}
 use Rattle.model.specs.Translate.{table_of}
@@ -11,7 +10,7 @@ pub loop-j-init : goal.loop-j-init
 loop-j-init c =
     let a = c.args in
     let p = c.requires in
-    (omega arith, refl, enter_none _ a.n a.m p.is_good p.accepted a.locations.now p.blank)
+    enter_none _ a.n a.m p.is_good p.accepted a.locations.now p.blank
 
 pub loop-j-preserved : goal.loop-j-preserved
 loop-j-preserved c =
@@ -19,13 +18,10 @@ loop-j-preserved c =
     let a = b.args in
     let p = b.requires in
     let l = c.loop-j in
-    let k = c.put_start in (
-      omega arith,
-      k.auto.locations ∙ l.invariant.1,
-      k.ensures
-          ∙ enter_turn _ a.n a.m p.is_good p.accepted (length a.locations.now) l.j l.locations
-          (omega arith) p.room l.invariant.2,
-    )
+    let t = c.loop-j-test.true in
+    c.put_start.ensures
+    ∙ enter_turn _ a.n a.m p.is_good p.accepted (length a.locations.now) l.j l.locations
+    (omega arith) p.room l.invariant
 
 pub returns : goal.returns
 returns c =
@@ -33,6 +29,7 @@ returns c =
     let a = b.args in
     let p = b.requires in
     let l = c.loop-j in
-    l.invariant.2
+    let t = c.loop-j-test.false in
+    l.invariant
     ∙ ap (table_of (length a.locations.now))
     (enter_end _ a.n a.m p.is_good p.accepted l.j (omega arith))

@@ -1,5 +1,4 @@
 -- `enter_starts` meets its contract: the first j starting shapes are entered.
-use Prim.Native.Nat.{◌-◌, ◌≤◌}
 use mathlib.Core.Path.{◌≡◌}
 use mathlib.Core.List.{map}
 use lib.ListN.{length, take}
@@ -10,8 +9,4 @@ use Rattle.starts.proofs.enter_starts.Given as goal
 
 abbrev pub invariant-loop-j : goal.invariant-loop-j
 invariant-loop-j l =
-    (l.j ≤ l.m) × (length l.locations ≡ length l.initial.locations)
-    × (l.locations ≡ table_of (length l.initial.locations) (take l.j (map loc_record (start_locs l.n l.input))))
-
-abbrev pub decreases-loop-j : goal.decreases-loop-j
-decreases-loop-j l = l.m - l.j
+    l.locations ≡ table_of (length l.initial.locations) (take l.j (map loc_record (start_locs l.n l.input)))

@@ -5,16 +5,16 @@ use Rattle.text.proofs.Outcome.{listed_text, refused_text}
 use Rattle.text.proofs.write_outcome.Goals as goal
 
 pub write_tables-requires : goal.write_tables-requires
-write_tables-requires c = (rw c.in-Listed.is at c.requires.0, search rules)
+write_tables-requires c = (rw c.in-Ok.is at c.requires.0, search rules)
 
-pub returns-in-Listed : goal.returns-in-Listed
-returns-in-Listed c =
+pub returns-in-Ok : goal.returns-in-Ok
+returns-in-Ok c =
     let w = c.write_tables in
     let a = c.args in
-    (w.ensures.0, w.ensures.1 ∙ listed_text a.locations.now a.edges.now c.in-Listed.is)
+    (w.ensures.0, w.ensures.1 ∙ listed_text a.locations.now a.edges.now c.in-Ok.is)
 
-pub returns-in-Refused : goal.returns-in-Refused
-returns-in-Refused c =
+pub returns-in-Err : goal.returns-in-Err
+returns-in-Err c =
     let w = c.write_refusal in
     let a = c.args in
-    (search rules, w.ensures.1 ∙ refused_text a.locations.now a.edges.now c.in-Refused.is)
+    (search rules, w.ensures.1 ∙ refused_text a.locations.now a.edges.now c.in-Err.is)

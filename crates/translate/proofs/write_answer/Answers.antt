@@ -21,7 +21,7 @@ returns c =
     let w = c.write_outcome in
     let h : w.result ≤ length w.new.text = omega arith in
     let n : length (take a.n a.input.now) ≤ 4096 = omega (arith, length-take-le a.n a.input.now (omega arith)) in
-    let p : length c.location_table-locations.result ≡ 32768 = search rules in
+    let p : length c.zeros-locations.result ≡ 32768 = search rules in
     let q : length c.large_buffer-edges.result ≡ 65536 = search rules in
     record {
       prefix_len = prefix_len_of_le w.result _ h;

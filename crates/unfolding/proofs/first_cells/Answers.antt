@@ -1,15 +1,10 @@
 -- `first_cells` meets its contract: the entries below n are right, and the running sum is the first cell of node n.
-use Prim.Native.Nat.{◌+◌, ◌-◌}
-use mathlib.Core.Path.{refl}
+use Prim.Native.Nat.{◌+◌}
 use native.Mathlib.Omega.{arith}
-use lib.ListN.{length-set}
 use Rattle.model.specs.Image.{first_cell}
 use Rattle.model.proofs.lists.Loops.{set_below}
 use Rattle.unfolding.proofs.Steps.{first_most, first_next}
 use Rattle.unfolding.proofs.first_cells.Goals as goal
-
-pub loop-n-init : goal.loop-n-init
-loop-n-init c = (omega arith, refl, refl, λ k h. absurd (omega arith))
 
 pub overflow_cast-firsts : goal.overflow_cast-firsts
 overflow_cast-firsts c =
@@ -20,6 +15,7 @@ pub overflow_add-at : goal.overflow_add-at
 overflow_add-at c =
     let l = c.loop-n in
     let t = c.args.counters.now in
+    let h = c.loop-n-test.true in
     let e = first_next t l.n (omega arith) in
     omega (arith, first_most t (l.n + 1))
 
@@ -27,12 +23,8 @@ pub loop-n-preserved : goal.loop-n-preserved
 loop-n-preserved c =
     let l = c.loop-n in
     let t = c.args.counters.now in
+    let h = c.loop-n-test.true in
     let e = first_next t l.n (omega arith) in (
       omega arith,
-      simp length-set l.invariant.1,
-      omega arith,
-      set_below (first_cell t) l.firsts l.n l.at (omega arith) l.invariant.2 l.invariant.3,
+      set_below (first_cell t) l.firsts l.n l.at (omega (arith, l.auto.firsts)) l.invariant.0 l.invariant.1,
     )
-
-pub returns : goal.returns
-returns c = let l = c.loop-n in λ k h. l.invariant.3 k (omega arith)

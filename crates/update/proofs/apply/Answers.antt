@@ -13,11 +13,8 @@ sum_is : (c : After-sum_of) → c.sum_of.result ≡ added (c.args.update % 4096)
 sum_is c = c.sum_of.ensures.0 ∙ ap (λ n. added n c.args.counters.now)
     (masked c.args.update)
 
-pub returns-then-sum-eq0 : goal.returns-then-sum-eq0
-returns-then-sum-eq0 c = omega (arith, sum_is (goal.at.returns-then-sum-eq0 c).After-sum_of)
-
 pub returns : goal.returns
-returns c = omega (arith, sum_is (goal.at.returns c).After-sum_of)
+returns c = omega (arith, sum_is (goal.at.returns c).After-sum_of, c.saturating_sub.ensures)
 
 pub sum_of-requires : goal.sum_of-requires
 sum_of-requires c = omega (arith, masked c.args.update)

@@ -1,15 +1,16 @@
 -- `sum_of` meets its contract: the sum so far and the counters that are left make the whole.
-use Prim.Native.Nat.{◌+◌, ◌*◌, ◌%◌, ◌^◌, ◌≤◌, ◌<◌}
+use Prim.Native.Nat.{ℕ, ◌+◌, ◌*◌, ◌%◌, ◌^◌, ◌≤◌, ◌<◌}
 use mathlib.Core.Path.{◌≡◌, ap, ◌∙◌}
 use native.Mathlib.Omega.{arith}
 use lib.Count.{count_trailing_zeros}
-use lib.ListN.{get_or}
+use mathlib.Core.List.{List}
+use lib.ListN.{get_or, length}
 use lib.Pow.{pow_pos}
 use Rattle.model.specs.Runs.{added}
 use Rattle.model.proofs.records.Bytes.{added_none}
 use Rattle.update.proofs.Bits.{added_most, lowest_added, lowest_bit, lowest_small, lowest_within}
 use Rattle.update.proofs.sum_of.Goals as goal
-use Rattle.update.proofs.sum_of.Goals.{After-shared_slice_known-1, In-loop-left}
+use Rattle.update.proofs.sum_of.Goals.{In-loop-left}
 
 small : (c : In-loop-left) → count_trailing_zeros 16 c.loop-left.left < 12
 small c = lowest_small c.loop-left.left c.loop-left-test.true c.loop-left.invariant.0
@@ -22,15 +23,12 @@ within : (c : In-loop-left) → 2 ^ count_trailing_zeros 16 c.loop-left.left ≤
 within c = lowest_within c.loop-left.left c.loop-left-test.true c.loop-left.invariant.0
 
 -- the sum after the turn is still a part of the whole, and so it is bounded
-most : (c : After-shared_slice_known-1)
-    → c.loop-left.sum + get_or c.args.counters.now
-    (count_trailing_zeros 16 c.loop-left.left) 0 ≤ 4294967295 * 12
-most c =
-    let a = c.args in
-    let l = c.loop-left in
-    let e = lowest_added l.left c.loop-left-test.true l.invariant.0 a.counters.now (omega arith) in
-    let b = added_most a.set a.counters.now (λ i. (c.type_inv.counters i).fits) in
-    omega arith
+most : (left set sum : ℕ) (cs : List ℕ) → 0 < left → left < 4096 → length cs ≡ 12 → ((i : ℕ) → get_or cs i 0 < 2 ^ 32)
+    → added set cs ≡ sum + added left cs → sum + get_or cs (count_trailing_zeros 16 left) 0 ≤ 4294967295 * 12
+most left set sum cs some few len fits e =
+    let r = lowest_added left some few cs len in
+    let b = added_most set cs fits in
+    omega (arith, len)
 
 pub overflow_sub-left : goal.overflow_sub-left
 overflow_sub-left c = rw (bit (goal.at.overflow_sub-left c).In-loop-left)
@@ -49,8 +47,12 @@ loop-left-preserved c =
     let l = c.loop-left in
     let e = lowest_added l.left c.loop-left-test.true l.invariant.0
     c.args.counters.now (omega arith) in
-    rw (bit (goal.at.loop-left-preserved c).In-loop-left)
-    (omega arith, omega arith, most (goal.at.loop-left-preserved c).After-shared_slice_known-1)
+    rw (bit (goal.at.loop-left-preserved c).In-loop-left) (
+      omega arith,
+      omega arith,
+      most l.left c.args.set l.sum c.args.counters.now c.loop-left-test.true l.invariant.0
+          (omega arith) (λ i. (c.type_inv.counters i).fits) l.invariant.1,
+    )
 
 pub returns : goal.returns
 returns c =
@@ -73,7 +75,13 @@ pub overflow_cast-sum-in-loop-left : goal.overflow_cast-sum-in-loop-left
 overflow_cast-sum-in-loop-left c = omega (arith, c.type_inv.counters (count_trailing_zeros 16 c.loop-left.left))
 
 pub overflow_add-sum : goal.overflow_add-sum
-overflow_add-sum c = omega (arith, most (goal.at.overflow_add-sum c).After-shared_slice_known-1)
+overflow_add-sum c =
+    let l = c.loop-left in
+    omega (
+      arith,
+      most l.left c.args.set l.sum c.args.counters.now c.loop-left-test.true l.invariant.0
+          (omega arith) (λ i. (c.type_inv.counters i).fits) l.invariant.1,
+    )
 
 pub overflow_cast-left : goal.overflow_cast-left
 overflow_cast-left c = omega (arith, small (goal.at.overflow_cast-left c).In-loop-left)

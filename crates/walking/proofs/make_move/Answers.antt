@@ -1,27 +1,17 @@
 -- `make_move` meets its contract: what breaks the layout is refused, and else the edge is taken.
 use mathlib.Core.Path.{◌∙◌, sym}
-use borrow.Author.Rules.{rules}
-use Rattle.model.specs.Structs.{tables_in}
-use Rattle.model.specs.Translate.{Tables}
+use Rattle.std.proofs.lemmas.Result.{err_from_is_err_and}
+use Rattle.model.specs.Structs.{tables_lent}
 use Rattle.model.proofs.runs.OneMove.{moved_broken}
+use Rattle.walking.proofs.Paths.{refused_is}
 use Rattle.walking.proofs.make_move.Goals as goal
-use Rattle.walking.proofs.make_move.Goals.{Start}
-
-abbrev tables : Start → Tables
-tables c = tables_in c.args.locations.now c.args.edges.now
-    (record { locations = c.args.location_count; edges = c.args.edge_count })
 
 pub returns-then-not-keeps : goal.returns-then-not-keeps
-returns-then-not-keeps c =
-    let k = c in
-    let s = k in
-    c.gives.ensures
-    ∙ sym (moved_broken (tables (goal.at.returns-then-not-keeps c).Start) s.args.configuration s.args.number
-    (sym k.keeps.ensures ∙ c.if-not-keeps.true))
+returns-then-not-keeps c = sym (moved_broken (tables_lent c.args.tables) c.args.configuration c.args.number
+    (sym c.keeps.ensures ∙ c.if-not-keeps.true))
 
-pub take_edge-taken-requires : goal.take_edge-taken-requires
-take_edge-taken-requires c =
-    let e = c in (sym e.keeps.ensures ∙ e.if-not-keeps.false, search rules)
-
-pub returns : goal.returns
-returns c = c.gives-2.ensures ∙ c.take_edge-taken.ensures
+pub returns-in_err-location : goal.returns-in_err-location
+returns-in_err-location c =
+    let p = err_from_is_err_and c.from_residual.result c.from_residual.ensures.1 in
+    rw (p.1, p.2) (refused_is (tables_lent c.args.tables) c.args.configuration c.args.number c.in_err-location.field-0.0
+    c.in_err-location.ensures)

@@ -1,17 +1,13 @@
--- `word::copy_record` meets its contract: after each eight bytes so many are copied.
-use mathlib.Core.Path.{ap, ◌∙◌}
+-- `word::copy_record` meets its contract: a record has 32 bytes.
+use mathlib.Core.Path.{sym, ap, ◌∙◌}
 use native.Mathlib.Omega.{arith}
-use Rattle.word.proofs.Codes.{copied_more, pasted}
+use lib.ListN.{length}
+use lib.Seq.{length-take-le}
+use Rattle.word.proofs.Codes.{part_length}
 use Rattle.word.proofs.copy_record.Goals as goal
 
-pub returns : goal.returns
-returns c =
-    let s = c in
-    let f = s.args.from.now in
-    let t = s.args.to.now in
-    let one = c.copy_eight.ensures in
-    let two = c.copy_eight-2.ensures
-    ∙ ap (pasted 8 f) one ∙ copied_more 8 f t (omega (arith, s.requires.0)) in
-    let three = c.copy_eight-3.ensures ∙ ap (pasted 16 f) two
-    ∙ copied_more 16 f t (omega (arith, s.requires.0)) in
-    c.copy_eight-4.ensures ∙ ap (pasted 24 f) three ∙ copied_more 24 f t (omega (arith, s.requires.0))
+pub copy_from_slice-requires : goal.copy_from_slice-requires
+copy_from_slice-requires c =
+    let s = c.requires in
+    let n = part_length c.args.from.now 0 32 (omega (arith, s.0)) in
+    length-take-le 32 c.args.to.now s.1 ∙ sym (ap length c.bytes.ensures ∙ n)

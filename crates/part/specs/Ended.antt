@@ -1,0 +1,10 @@
+-- How a call for a record ended. Assumes nothing.
+use Rattle.std.specs.Prelude.{Result, Ok, Err}
+use Rattle.model.specs.Codes.{no_record_number}
+use Rattle.model.specs.Records.{Verdict, is_accepted, is_refused, refusal}
+use Rattle.model.specs.declared.codes.NoRecord.{NoRecord}
+
+-- refused at place 0
+abbrev pub ended_by : {A : Type 0} → Result A NoRecord → Verdict
+ended_by (Ok _) = is_accepted
+ended_by (Err _) = is_refused (refusal no_record_number 0)
