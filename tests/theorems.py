@@ -151,10 +151,10 @@ def theorem(number, group):
 
 
 def write_crates(scratch, modules):
-    """The definitions, and a crate for each module. Its theorems are numbered through all of them. They stand in proofs/, since a
+    """The definitions with their crate, and a crate for each module. Its theorems are numbered through all of them. They stand in proofs/, since a
     statement of specs/ that no contract names may stay unproved."""
     number = 0
-    for part in ('specs', 'src'):
+    for part in ('specs', 'src', 'proofs'):
         shutil.copytree(os.path.join(ROOT, 'crates', 'model', part), os.path.join(scratch, 'crates', 'model', part))
     write = lambda p, t: open(os.path.join(scratch, p), 'w', encoding='utf8').write(t)
     write('crates.txt', 'model:\n' + ''.join('compared%d: model\n' % i for i in range(len(modules))))
