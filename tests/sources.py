@@ -43,8 +43,8 @@ def ending(path):
 FILES = set(files())
 ENDINGS = {"a", *map(ending, FILES)} - {""}
 # the request's own words, with names and figures as they were, stand in PROMISES and STATEMENTS, which tests/promises reads, and names of
-# before in PORT and DESIGN-PASS
-PAGES = {f: read(f) for f in sorted(FILES) if re.fullmatch(r"(?:README|CONTRIBUTING|docs/(?!PROMISES|STATEMENTS|PORT|DESIGN-PASS).*)\.md", f)}
+# before in PORT, DESIGN-PASS and LOOK-BACK
+PAGES = {f: read(f) for f in sorted(FILES) if re.fullmatch(r"(?:README|CONTRIBUTING|docs/(?!PROMISES|STATEMENTS|PORT|DESIGN-PASS|LOOK-BACK).*)\.md", f)}
 # the pages that say what is so now, and two sources that tell it to people as well
 TODAY = {f: text for f, text in PAGES.items() if not re.match(r"docs/(?:landings|examples|WRONG)", f)}
 TODAY |= {f: re.sub(r"\s+(?:\* )?", " ", read(f)) for f in ("include/currantplane.h", "cli/src/help.rs")}

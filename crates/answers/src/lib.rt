@@ -3,7 +3,8 @@
 
 ghost use Rattle.std.specs.Prelude.{◌≡◌, ◌++◌, set};
 ghost use Rattle.model.specs.Answers.{found_numbers, found_of, refusal_of, step_answer_of, step_numbers, verdict_of};
-ghost use Rattle.model.specs.Image.{step_verdict};
+ghost use Rattle.model.specs.Image.{step_verdict, to_fault};
+ghost use Rattle.model.specs.Records.{is_refused, refusal, refusal_at};
 ghost use Rattle.answers.specs.Numbers.{node_number, over, told, IsTold};
 
 use model::{Node, Refusal, Stepped};
@@ -58,6 +59,24 @@ pub fn tell_node(answer: &mut [usize], node: Option<Node>)
     tell_one(answer, 3, node_number(node) as usize);
 }
 
+// Answers a refusal's number, whatever it is, and writes its place.
+pub fn tell_refused(number: u8, at: usize, place: &mut usize) -> u8
+    ensures { IsTold (is_refused (refusal number at)) result place.new }
+{
+    *place = at;
+    number
+}
+
+// The same, and writes its node.
+pub fn tell_refused_node(number: u8, at: usize, of: Node, place: &mut usize, node: &mut u8) -> u8
+    ensures told { IsTold (is_refused (refusal_at number at of.0)) result place.new }
+    ensures node_after { node.new ≡ of.0 }
+{
+    let told = tell_refused(number, at, place);
+    *node = of.0;
+    told
+}
+
 // Answers a refusal's number, 0 for none, and writes its place.
 pub fn tell_ended(ended: Result<(), Refusal>, place: &mut usize) -> u8
     ensures { IsTold (verdict_of ended) result place.new }
@@ -67,10 +86,7 @@ pub fn tell_ended(ended: Result<(), Refusal>, place: &mut usize) -> u8
             *place = 0;
             0
         }
-        Err(refusal) => {
-            *place = refusal.place;
-            refusal.reason.number()
-        }
+        Err(refusal) => tell_refused(refusal.reason.number(), refusal.place, place),
     }
 }
 
@@ -79,11 +95,24 @@ pub fn tell_unfolded(unfolded: Result<(), Refusal>, place: &mut usize, node: &mu
     ensures told { IsTold (verdict_of unfolded) result place.new }
     ensures node_after { node.new ≡ (refusal_of (verdict_of unfolded)).node }
 {
-    *node = match unfolded {
-        Ok(()) => 0,
-        Err(refusal) => node_number(refusal.reason.node()),
-    };
-    tell_ended(unfolded, place)
+    match unfolded {
+        Ok(()) => {
+            *place = 0;
+            *node = 0;
+            0
+        }
+        Err(refusal) => {
+            let of = Node(node_number(refusal.reason.node()));
+            tell_refused_node(refusal.reason.number(), refusal.place, of, place, node)
+        }
+    }
+}
+
+// The numbers of a step that faults, whatever the fault's number.
+pub fn fault_numbers(fault: u8) -> [u8; 4]
+    ensures { result ≡ step_numbers (to_fault fault) }
+{
+    [fault, 0, 0, 0]
 }
 
 // The fault, 1 for a stop, the branch and the next statement.
@@ -92,7 +121,7 @@ pub fn step_numbers(stepped: Result<Stepped, Refusal>) -> [u8; 4]
 {
     match stepped {
         Ok(Stepped::Went { branch, next }) => [0, 0, branch, next.0],
-        Ok(Stepped::Faulted(fault)) => [fault.number(), 0, 0, 0],
+        Ok(Stepped::Faulted(fault)) => fault_numbers(fault.number()),
         Ok(Stepped::Stopped) => [0, 1, 0, 0],
         Err(_) => [0, 0, 0, 0],
     }

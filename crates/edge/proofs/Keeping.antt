@@ -2,12 +2,13 @@
 -- the run would be done with the heap as it is, which is its own shape, and each counter is carried.
 use Prim.Native.Nat.{ℕ, ◌+◌, ◌^◌, ◌≤◌, ◌<◌}
 use mathlib.Core.Path.{◌≡◌, refl, subst, sym, ap, ap₂, ◌∙◌}
-use mathlib.Core.Bool.{Bool, true}
+use mathlib.Core.Bool.{Bool, ◌&&◌, false, true}
 use mathlib.Core.List.{List, [], ◌∷◌, map, map-map}
 use native.Mathlib.Omega.{arith}
+use lib.Dec.{leb}
 use lib.ListN.{drop, get_or, length, length-map, set, take}
 use lib.Seq.{get_or-take, length-take-le}
-use borrow.Author.Tests.{ne_eqb}
+use borrow.Author.Tests.{eq-eqb, ne_eqb}
 use Rattle.model.specs.Base.{numbers}
 use Rattle.model.specs.Edges.{Edge, at, step_by, update_of}
 use Rattle.model.specs.Heap.{Heap}
@@ -20,7 +21,9 @@ use Rattle.model.specs.Structs.{keeps_at, op_in, stmt_in}
 use Rattle.model.specs.declared.Decoded.{Decoded}
 use Rattle.model.proofs.expansion.Collect.{settle_fault, settle_kept}
 use Rattle.model.proofs.lists.Lists.{in_single, map_same, mem_in}
+use Rattle.model.proofs.lists.Logic.{clash}
 use Rattle.model.proofs.lists.Numbers.{in_numbers, length_numbers, read_all}
+use Rattle.model.proofs.records.Ops.{op_stops}
 use Rattle.model.proofs.shapes.Canon.{canon_fold, canon_segments, single}
 use Rattle.effect.specs.Effect.{TestFault, effect_of}
 use Rattle.cell_sum.proofs.Codes.{segment_update}
@@ -141,3 +144,11 @@ keep_leaves {l = l} {d = d} {y = y} t us a b le keeps room be ae te codes s h R 
           ∙ ap (map (λ x. update_code (update x))) (sym ss) ∙ sym (map-map update_code update (segments h))
           ∙ ap (λ (x : Edge). map update_code x.updates) q;
     }
+
+-- any other op that goes may change the heap
+pub changes_op : {l : List ℕ} {s : ℕ} {h : Heap} {y : Way} (d : Decoded) → WayReady l d s h y
+    → leb 8 (op_number d.op) && leb (op_number d.op) 11 ≡ false → keeps_at (op_number d.op) ≡ false
+changes_op d R n =
+    let z : op_number d.op ≡ 0 → ⊥ = λ e. clash (op_stops (op_number d.op) d.u.0 d.w.0 R.statement.known
+    ∙ eq-eqb (op_number d.op) 0 e) R.goes in
+    rw (ne_eqb (op_number d.op) 0 z, n)

@@ -17,7 +17,7 @@ fn fault_edge(location: &[u8], fault: Fault, guards: Guards, target: &mut [u8]) 
     requires { (length location.now ≡ record_size) × (length target.old ≡ record_size) }
     ensures { FaultMade location.now (fault_code fault) guards target.new result }
 {
-    record::write_fault(target, Statement(location[1]), fault);
+    record::write_fault(target, Statement(location[1]), fault.number());
     EdgeMade {
         branch: 0,
         guards,

@@ -135,10 +135,10 @@ store_cell ps cs a v p q n y = record {
 }
 
 -- a relink stores the byte that is read
-pub relink_cell : (ps cs : List ℕ) (a v r : ℕ) (ds : List ℕ) → (v ≡ 0xfe → ⊥) → (v ≡ 0xff → ⊥) → Named cs v
-    → HasEffect (stored (val_of a) (val_of (get_or cs v 0))) ps cs r ps ds
-    → HasEffect (relinked (val_of a) (val_of v)) ps cs r ps ds
-relink_cell ps cs a v r ds p q n x =
+pub relink_cell : (ps cs : List ℕ) (a v r : ℕ) (qs ds : List ℕ) → (v ≡ 0xfe → ⊥) → (v ≡ 0xff → ⊥) → Named cs v
+    → HasEffect (stored (val_of a) (val_of (get_or cs v 0))) ps cs r qs ds
+    → HasEffect (relinked (val_of a) (val_of v)) ps cs r qs ds
+relink_cell ps cs a v r qs ds p q n x =
     let k = n p q in
     as_effect x (rw (val_cell v p q, next_byte ps cs v k.0, used_slot (get_or cs v 0) k.1))
 

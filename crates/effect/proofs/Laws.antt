@@ -1,25 +1,29 @@
 -- Laws of effects on heap images: an image's bytes are those of its heap; an effect that is done leaves a closed heap
--- with as many slots.
-use Prim.Native.Nat.{ℕ}
+-- with as many slots; what the number answered says; and the ops that leave the heap.
+use Prim.Native.Nat.{ℕ, zero, suc, ◌<◌, ◌≤◌}
 use mathlib.Core.Path.{◌∙◌, ◌≡◌, ap, ap₂, refl, subst, sym}
-use mathlib.Core.Bool.{true, false}
+use mathlib.Core.Bool.{Bool, ◌&&◌, ◌||◌, cond, false, true}
 use mathlib.Core.List.{List, [], ◌∷◌, map}
 use native.Mathlib.Omega.{arith}
-use lib.Dec.{eqb}
+use lib.Dec.{eqb, leb}
 use lib.ListN.{length, length-map}
-use borrow.Author.Tests.{eqb-true}
+use borrow.Author.Tests.{eqb-false, eqb-true, le-leb, leb-true}
 use Rattle.model.specs.Heap.{Val, cell, null, undef, holds, Heap, closed}
 use Rattle.model.specs.Shape.{Seg}
-use Rattle.model.specs.Machine.{Effect, done, fault, Fault, Action, perform}
-use Rattle.model.specs.Records.{val_byte, val_of, slot_byte}
+use Rattle.model.specs.Machine.{Effect, done, fault, Fault, at_null, at_undef, leak, fault_number, Action, effect, perform}
+use Rattle.model.specs.Records.{op_count, op_of, val_byte, val_of, slot_byte}
 use Rattle.model.specs.Image.{cell_slot, heap_of, past_end}
-use Rattle.model.proofs.lists.Logic.{bool_case, mem_here, mem_one}
+use Rattle.model.specs.Structs.{keeps_at}
+use Rattle.model.proofs.lists.Logic.{and_both, and_l, and_r, bool_case, mem_here, mem_one, or_cases, or_l, or_r}
 use Rattle.model.proofs.records.Bytes.{byte_back}
+use Rattle.model.proofs.records.Ops.{each_op}
 use Rattle.model.specs.Notions.{ClosedHeap, seg, Alike, Expansion, Room, both_bad, both_ok, img, sg_after}
 use Rattle.model.proofs.expansion.Effects.{effect_alike}
 use Rattle.model.proofs.expansion.Facts.{test_closed, closed_test}
 use Rattle.model.proofs.lists.Lists.{map_back}
-use Rattle.model.proofs.expansion.Kinds.{effect_leaves, SlotsAre, leaves_slots}
+use Rattle.branch.proofs.Bytes.{Missed, missed}
+use Rattle.effect.specs.Effect.{effect_of}
+use Rattle.model.proofs.expansion.Kinds.{leaves_no_leak, effect_leaves, SlotsAre, leaves_slots}
 
 -- ---- bytes
 
@@ -88,3 +92,60 @@ pub image_slots : (a : Action) (n : ℕ) (ps cs : List ℕ) (g : Heap) → close
 image_slots a n ps cs g c q e =
     let l = length-map cs cell_slot in
     effect_slots a n (heap_of ps cs) g c (ap (past_end a n) l ∙ q) e ∙ l
+
+-- ---- the number answered
+
+-- leaks are looked at after the effect
+pub effect_leaks : (a : Action) (n : ℕ) (h : Heap) → closed h ≡ true → perform a n h ≡ fault leak → ⊥
+effect_leaks a n h c = leaves_no_leak a n h (perform a n h) (effect_leaves a n h (test_closed h c))
+
+-- 0 is answered where the effect is done, and the number of the fault where it faults
+pub answer_done : (r : ℕ) (g : Heap) (e : Effect) → effect_of r g ≡ e → r ≡ 0 → e ≡ done g
+answer_done r g e a z = sym a ∙ ap (λ n. effect_of n g) z
+
+pub answer_fault : (a : Action) (n : ℕ) (h : Heap) → closed h ≡ true → (r : ℕ) (g : Heap)
+    → effect_of r g ≡ perform a n h → (r ≡ 0 → ⊥) → (f : Fault) × (perform a n h ≡ fault f) × (fault_number f ≡ r)
+answer_fault a n h c zero g e z = absurd (z refl)
+answer_fault a n h c (suc zero) g e z = (at_null, sym e, refl)
+answer_fault a n h c (suc (suc zero)) g e z = (at_undef, sym e, refl)
+answer_fault a n h c (suc (suc (suc r))) g e z = absurd (effect_leaks a n h c (sym e))
+
+-- ---- the ops that leave the heap, by their numbers
+
+below_twelve : (op : ℕ) → op < op_count → (op ≡ 12 → ⊥) → (op ≡ 13 → ⊥) → op ≤ 11
+below_twelve op lt n k = omega arith
+
+from_one : (op : ℕ) → (op ≡ 0 → ⊥) → 1 ≤ op
+from_one op z = omega arith
+
+from_eight : (op : ℕ) → (op < 8 → ⊥) → 8 ≤ op
+from_eight op f = omega arith
+
+-- an op that is none of 1 to 7, and not 12 or 13, is a stop, or one of 8 to 11
+pub keeps_rest : (op : ℕ) → op < op_count → Missed 1 7 op → (op ≡ 12 → ⊥) → (op ≡ 13 → ⊥) → keeps_at op ≡ true
+keeps_rest op lt m n k =
+    bool_case (eqb op 0) (or_l (eqb op 0) (leb 8 op && leb op 11))
+    (λ e. let z = eqb-false op 0 e in
+    let no : op < 8 → ⊥ = λ l. missed 1 7 op m (from_one op z) l in
+    or_r (eqb op 0) (leb 8 op && leb op 11)
+    (and_both (leb 8 op) (leb op 11) (le-leb 8 op (from_eight op no)) (le-leb op 11 (below_twelve op lt n k))))
+
+-- of these, all but the tests, 8 and 9, do nothing
+abbrev idle_at : ℕ → Bool
+idle_at op = eqb op 0 || (leb 10 op && leb op 11)
+
+idle_ops : (op : ℕ) → keeps_at op ≡ true → Missed 8 2 op → idle_at op ≡ true
+idle_ops op k m =
+    or_cases (eqb op 0) (leb 8 op && leb op 11) k (or_l (eqb op 0) (leb 10 op && leb op 11))
+    (λ e. let l = leb-true 8 op (and_l (leb 8 op) (leb op 11) e) in
+    let p = m.0.1 in
+    let q = m.1 in
+    or_r (eqb op 0) (leb 10 op && leb op 11)
+    (and_both (leb 10 op) (leb op 11) (le-leb 10 op (omega arith)) (and_r (leb 8 op) (leb op 11) e)))
+
+pub idle : (op u w n : ℕ) (h : Heap) → op < op_count → keeps_at op ≡ true → Missed 8 2 op
+    → effect (op_of op u w) n h ≡ done h
+idle op u w n h l s m =
+    let does : ℕ → Effect = λ k. effect (op_of k u w) n h in
+    each_op (λ o. effect o n h) (λ k. cond (idle_at k) (done h) (does k)) u w refl op l
+    ∙ ap (λ t. cond t (done h) (does op)) (idle_ops op s m)

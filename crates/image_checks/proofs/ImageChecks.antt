@@ -27,7 +27,7 @@ refused_with_lem : {ps cs o m : List ℕ} (r : Reason) → failed_in {A = ℕ} (
 refused_with_lem r e = record { refusal = e; visited = tt; few = tt; held = tt }
 
 module _ (ps cs : List ℕ) {b : Bool} (e : b ≡ lengths ps cs) (t : b ≡ true) where
-  lengths_few : length cs ≤ 240
+  pub lengths_few : length cs ≤ 240
   lengths_few = leb-true (length cs) 240 (and_r (eqb (length ps) 6) (leb (length cs) 240) (sym e ∙ t))
 
   pub values_good : {k : Bool} → k ≡ closed (heap_of ps cs) → k ≡ true → lengths ps cs && closed (heap_of ps cs) ≡ true

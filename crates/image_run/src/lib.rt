@@ -11,7 +11,7 @@ ghost use Rattle.effect.specs.Effect.{Named};
 ghost use Rattle.image_run.specs.Taken.{Stands, TakenReady, next_at, takes};
 ghost use Rattle.image_run.specs.Run.{StepReady, RunOn, Finished};
 
-use model::{Decoded, Fault};
+use model::{Decoded, Fault, Op};
 
 // The next of the cell that the value at names; null where it names none.
 fn next_at(at: u8, cells: &[u8]) -> u8
@@ -66,7 +66,7 @@ fn run_on(d: Decoded, x: usize, pointers: &mut [u8], cells: &mut [u8]) -> Result
     let mut order = [0u8; model::MOST_CELLS];
     let mut seen = [0u8; model::MOST_CELLS];
     let n = visit::visit(&pointers[..], &cells[..], &mut order, &mut seen);
-    machine::settle(d.op, cells, &seen, n)
+    machine::settle(d.op == Op::LetGo, cells, &seen, n)
 }
 
 // Runs a statement on the image, of which ps and cs are a copy, so that a fault leaves it.

@@ -6,6 +6,7 @@ use mathlib.Core.Bool.{Bool, true, false, cond, ◌||◌}
 use mathlib.Core.List.{List, ◌∷◌}
 use lib.Dec.{eqb}
 use lib.ListN.{length, length-map}
+use denote.Enum.Bare.{sameb}
 use borrow.Author.Tests.{eq-eqb, eqb-true}
 use Rattle.model.specs.Base.{mem}
 use Rattle.model.specs.Heap.{Heap, IsHeap, closed, kept, next, order}
@@ -22,13 +23,16 @@ use Rattle.effect.proofs.Laws.{effect_closed, image_slots}
 use Rattle.visit.proofs.Whole.{kept_held}
 use Rattle.visit.proofs.Laws.{kept_marked, visited_length}
 use Rattle.visit.specs.Visit.{Held, VisitReady, Visited}
-use Rattle.machine.proofs.Laws.{run_collects, run_keeps}
+use Rattle.machine.proofs.Laws.{run_collects, run_fault, run_keeps}
 use Rattle.model.specs.Structs.{op_in}
 use Rattle.model.specs.declared.Decoded.{Decoded}
 use Rattle.std.specs.Prelude.{Result, Ok, Err}
 use Rattle.std.specs.Result.{IfOk}
 use Rattle.model.specs.Codes.{fault_in, op_number}
+use Rattle.model.specs.contracts.codes.Op.{the_type}
 use Rattle.model.specs.declared.codes.Fault.{Fault}
+use Rattle.model.specs.declared.codes.Op.{Op}
+use Rattle.model.specs.declared.codes.Op.TheVariants as op
 use Rattle.collection.specs.Left.{left_bytes}
 use Rattle.collection.proofs.Laws.{left_heap, left_held, left_length}
 use Rattle.machine.specs.Run.{Bytes, IsRun, RunDone, RunReady, Settled, all_marked, bytes, heap_in, kept_by}
@@ -46,9 +50,24 @@ end_done : (r : Result (Unit {0}) Fault) (n : ℕ) (P : ℕ → Type 0) → (fau
 end_done (Ok _) n P h = h refl
 end_done (Err f) n P h = tt
 
+-- drop has the number 13, and no other op
+let_go : (o : Op) → eqb (op_number o) 13 ≡ sameb the_type o op.LetGo
+let_go op.LetGo = refl
+let_go _ = refl
+
 -- ---- a run: r and the image afterwards are what the effect answers
 module _ {d : Decoded} {x : ℕ} {before : Bytes} {visit seen : List ℕ} (p : RunReady d x before visit seen)
     (after : Bytes) where
+  -- a fault
+  module _ (r : Result (Unit {0}) Fault)
+      (has : HasEffect (effect (op_in d) x) before.pointers before.cells (fault_in r) after.pointers after.cells) where
+    pub run_faults : (visit' seen' : List ℕ) → (fault_in r ≡ 0 → ⊥) → IsRun d x before after visit' seen' (at_end r 0)
+    run_faults visit' seen' n = record {
+      outcome = ap (λ f. effect_of f (heap_in after)) (end_fault r 0)
+          ∙ run_fault (op_in d) x (fault_in r) (heap_in before) (heap_in after) has.outcome n;
+      done = end_done r 0 _ (λ z. absurd (n z));
+    }
+
   module _ (has : HasEffect (effect (op_in d) x) before.pointers before.cells 0 after.pointers after.cells) where
     is_done_lem : effect (op_in d) x (heap_in before) ≡ done (heap_in after)
     is_done_lem = sym has.outcome
@@ -99,8 +118,8 @@ module _ {d : Decoded} {x : ℕ} {before : Bytes} {visit seen : List ℕ} (p : R
           (λ q. rw (eq-eqb n (length after.cells) q) (sym (kept_marked v ∙ all_kept q room))) (λ q. rw q)
 
       -- r is the fault for lost cells, and ds the cells afterwards
-      module _ (same : length order' ≡ length visit) (r : Result (Unit {0}) Fault) {ds : List ℕ}
-          (S : Settled (op_number d.op) after.cells marks n (fault_in r) ds) where
+      module _ (same : length order' ≡ length visit) (r : Result (Unit {0}) Fault) {b : Bool} {ds : List ℕ}
+          (is : b ≡ sameb the_type d.op op.LetGo) (S : Settled b after.cells marks n (fault_in r) ds) where
         abbrev g : Heap
         g = heap_in after
 
@@ -118,15 +137,15 @@ module _ {d : Decoded} {x : ℕ} {before : Bytes} {visit seen : List ℕ} (p : R
         }
 
         -- the fault and the cells, where it is known whether lost cells are collected
-        by_op : (b : Bool) → eqb (op_number d.op) 13 ≡ b → (fault_in r ≡ cond (b || kept_by after.cells marks n) 0 3)
-            × (ds ≡ cond b (left_bytes marks 0 after.cells) after.cells) × (collects (kind (op_in d)) ≡ b)
-        by_op b e = (
+        by_op : (c : Bool) → b ≡ c → (fault_in r ≡ cond (c || kept_by after.cells marks n) 0 3)
+            × (ds ≡ cond c (left_bytes marks 0 after.cells) after.cells) × (collects (kind (op_in d)) ≡ c)
+        by_op c e = (
           S.fault ∙ ap (λ y. cond (y || kept_by after.cells marks n) 0 3) e,
           S.cells ∙ ap (λ y. cond y (left_bytes marks 0 after.cells) after.cells) e,
-          op_collects (op_number d.op) d.u.0 d.w.0 p.ready.known ∙ e,
+          op_collects (op_number d.op) d.u.0 d.w.0 p.ready.known ∙ let_go d.op ∙ sym is ∙ e,
         )
 
-        collecting : eqb (op_number d.op) 13 ≡ true → Run
+        collecting : b ≡ true → Run
         collecting e =
             let (fe, de, ce) = by_op true e in
             let cl = test_closed g done_closed in
@@ -141,7 +160,7 @@ module _ {d : Decoded} {x : ℕ} {before : Bytes} {visit seen : List ℕ} (p : R
         kept_is : kept g ≡ kept_by after.cells marks n
         kept_is = sym (kept_marked v) ∙ sym (number_first (omega (arith, visit_ready.room)))
 
-        keeping : eqb (op_number d.op) 13 ≡ false → Run
+        keeping : b ≡ false → Run
         keeping e =
             let (fe, de, ce) = by_op false e in
             let he : heap_of after.pointers ds ≡ g = ap (heap_of after.pointers) de in
@@ -158,4 +177,4 @@ module _ {d : Decoded} {x : ℕ} {before : Bytes} {visit seen : List ℕ} (p : R
             ended (ap₂ effect_of three he ∙ keeps false (kept_is ∙ k)) (λ z. absurd (omega arith)))
 
         pub run_settled : Run
-        run_settled = bool_case (eqb (op_number d.op) 13) collecting keeping
+        run_settled = bool_case b collecting keeping

@@ -40,10 +40,10 @@ all_marked cs s = each_used (λ c. not (eqb (get_or s c 0) 0)) 0 (map cell_slot 
 abbrev pub kept_by : List ℕ → List ℕ → ℕ → Bool
 kept_by cs s n = eqb n (length cs) || all_marked cs s
 
--- the fault r for lost cells, and the cells afterwards: op 13 collects
-pub record Settled (op : ℕ) (cs s : List ℕ) (n r : ℕ) (left : List ℕ) : Type 0 where
-  pub fault : r ≡ cond (eqb op 13 || kept_by cs s n) 0 3
-  pub cells : left ≡ cond (eqb op 13) (left_bytes s 0 cs) cs
+-- the fault r for lost cells, and the cells afterwards, where lost cells are collected and where they are a leak
+pub record Settled (collects : Bool) (cs s : List ℕ) (n r : ℕ) (left : List ℕ) : Type 0 where
+  pub fault : r ≡ cond (collects || kept_by cs s n) 0 3
+  pub cells : left ≡ cond collects (left_bytes s 0 cs) cs
 
 -- A run that has no fault: the visited cells, n of them, stand in their order, and the marks tell the core cells.
 pub record RunDone (after : Bytes) (visit seen : List ℕ) (n : ℕ) : Type 0 where

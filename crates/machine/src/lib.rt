@@ -3,7 +3,7 @@
 #![tactic(auto)]
 
 ghost use Rattle.std.specs.Prelude.{◌≡◌, ◌≤◌, length};
-ghost use Rattle.model.specs.Codes.{fault_in, op_number};
+ghost use Rattle.model.specs.Codes.{fault_in};
 ghost use Rattle.machine.specs.Run.{IsRun, RunReady, Settled, bytes, kept_by};
 
 use model::{Decoded, Fault, Op};
@@ -16,12 +16,12 @@ fn keeps_all(cells: &[u8], seen: &[u8], n: usize) -> bool
     n == cells.len() || visit::nothing_lost(cells, seen)
 }
 
-// What becomes of lost cells, where n cells have marks: drop collects them, at any other statement they are a leak.
-pub fn settle(op: Op, cells: &mut [u8], seen: &[u8], n: usize) -> Result<(), Fault>
+// What becomes of lost cells, where n cells have marks: they are collected, or they are a leak.
+pub fn settle(collects: bool, cells: &mut [u8], seen: &[u8], n: usize) -> Result<(), Fault>
     requires { length cells.old ≤ length seen.now }
-    ensures { Settled (op_number op) cells.old seen.now n (fault_in result) cells.new }
+    ensures { Settled collects cells.old seen.now n (fault_in result) cells.new }
 {
-    if op == Op::LetGo {
+    if collects {
         collection::collect(cells, seen);
         return Ok(());
     }
@@ -48,6 +48,6 @@ pub fn run(
 {
     effect::run_effect(d, x, pointers, cells)?;
     let n = visit::visit(&pointers[..], &cells[..], order, seen);
-    settle(d.op, cells, &seen[..], n)?;
+    settle(d.op == Op::LetGo, cells, &seen[..], n)?;
     Ok(n)
 }

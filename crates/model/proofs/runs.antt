@@ -14,4 +14,5 @@ pub mod Sources
 pub mod Follows
 pub mod Anywhere
 pub mod Ranged
+pub mod RangedNumbers
 pub mod RangeRuns

@@ -10,6 +10,7 @@ use Rattle.model.specs.Records.{GuardCode, byte, filled, record_at, word}
 use Rattle.model.specs.Runs.{Config, Forced, Matched, State, Supply, applied, fed, final, guards_of, move_of, nodes_at, running, step_of, trace, updates_of}
 use Rattle.model.specs.Translate.{Tables}
 use Rattle.model.specs.Walking.{most_moves}
+use Rattle.model.specs.Codes.{range_refusal_number, range_refusal_place}
 use Rattle.model.specs.declared.Ranged as declared
 use Rattle.model.specs.declared.Ranged.TheVariants as answer
 use Rattle.model.specs.declared.codes.RangeRefusal.{RangeRefusal}
@@ -151,6 +152,21 @@ abbrev pub ranged_of : Ranging → Result declared.Ranged RangeRefusal
 ranged_of (follows l b) = Ok (answer.Reached l (filled most_nodes b.lows) (filled most_nodes b.highs))
 ranged_of (ends_at i) = Ok (answer.Stuck i)
 ranged_of (refused_at x p) = Err (cond (eqb x 22) (refusal.Range p) (refusal.Path p))
+
+-- the same answer in numbers
+abbrev pub ranged_in : Result declared.Ranged RangeRefusal → Ranged
+ranged_in (Ok (answer.Reached l lows highs)) =
+    record { refusal = 0; place = 0; follows = 1; location = l; ranges = lows ++ highs }
+ranged_in (Ok (answer.Stuck i)) =
+    record { refusal = 0; place = i; follows = 0; location = 0; ranges = replicate 24 0 }
+ranged_in (Err r) =
+    record {
+      refusal = range_refusal_number r;
+      place = range_refusal_place r;
+      follows = 0;
+      location = 0;
+      ranges = replicate 24 0;
+    }
 
 -- ---- the words of the promises
 

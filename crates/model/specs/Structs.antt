@@ -20,6 +20,7 @@ use Rattle.model.specs.declared.tables.Tables.{Tables as LentTables}
 abbrev pub decoded : List ℕ → Decoded
 decoded r = record {
   op = op_at (byte r 1);
+  code = byte r 1;
   u = record { 0 = byte r 2 };
   w = record { 0 = byte r 3 };
   first = record { 0 = byte r 4 };

@@ -153,11 +153,13 @@ impl From<Reason> for Refusal {
     }
 }
 
-// That there is no record with the number that is asked for.
+// That there is no record with the number that is asked for: the part that is handed out is empty.
 #[derive(Clone, Copy, PartialEq, Eq)]
-pub struct NoRecord;
+pub struct NoRecord<'a> {
+    pub part: &'a [u8],
+}
 
-impl NoRecord {
+impl<'a> NoRecord<'a> {
     pub fn number(self) -> u8
         ensures { result ≡ no_record_number }
     {

@@ -64,10 +64,11 @@ pub enum Stepped {
     Stopped,
 }
 
-// A statement's record, decoded: the op, its pointers and its targets.
+// A statement's record, decoded: the op and the byte that says it, which may be no op's, its pointers and its targets.
 #[derive(Clone, Copy)]
 pub struct Decoded {
     pub op: Op,
+    pub code: u8,
     pub u: Pointer,
     pub w: Pointer,
     pub first: Statement,

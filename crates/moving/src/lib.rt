@@ -1,7 +1,7 @@
 // One move along an edge, in tables and a configuration that keep the layout.
 #![tactic(auto)]
 
-ghost use Rattle.std.specs.Prelude.{◌≡◌, true, false, ◌&&◌, map, ◌+◌, ◌*◌, ◌^◌, ◌<◌, ◌≤◌, MatchResult, eqb, get_or, length};
+ghost use Rattle.std.specs.Prelude.{◌≡◌, true, false, ◌&&◌, map, ◌+◌, ◌*◌, ◌^◌, ◌<◌, ◌≤◌, MatchResult, eqb, get_or, length, replicate};
 ghost use Rattle.model.specs.Base.{most_nodes, record_size};
 ghost use Rattle.model.specs.Notions.{In};
 ghost use Rattle.model.specs.Records.{GuardCode, byte, filled, record_at, word};
@@ -50,18 +50,23 @@ fn new_counter(update: u16, counters: &[u32; 12]) -> Result<u32, MoveRefusal>
     u32::try_from(update::apply(update, counters)).map_err(|_| MoveRefusal::CounterTooLarge)
 }
 
-// The new counters of the target's nodes, where each has 32 bits; 0 past them.
-fn new_counters(rec: &[u8], nodes: usize, counters: &[u32; 12]) -> Result<[u32; 12], MoveRefusal>
-    requires { (length rec.now ≡ record_size) × (nodes ≤ most_nodes) }
+// Puts the new counters of the target's nodes in place of zeros, where each has 32 bits. They are lent, since counters
+// that were written one by one and are handed on at once wait to be read.
+fn new_counters(
+    rec: &[u8],
+    nodes: usize,
+    counters: &[u32; 12],
+    next: &mut [u32; 12],
+) -> Result<(), MoveRefusal>
+    requires { (length rec.now ≡ record_size) × (nodes ≤ most_nodes) × (next.old ≡ replicate most_nodes 0) }
     ensures { let vs = map (applied counters.now) (updates_of nodes rec.now) in
-        MatchResult result (λ cs. (in_counters vs ≡ true) × (cs ≡ filled most_nodes vs))
+        MatchResult result (λ _. (in_counters vs ≡ true) × (next.new ≡ filled most_nodes vs))
         (λ r. (r ≡ CounterTooLarge) × (in_counters vs ≡ false)) }
 {
-    let mut next = [0u32; 12];
     for j in 0..nodes {
         next[j] = new_counter(word::two(rec, 8 + 2 * j), counters)?;
     }
-    Ok(next)
+    Ok(())
 }
 
 // Whether an edge between locations of so many nodes carries each counter as it is.
@@ -83,7 +88,9 @@ pub fn replace_counters(
     ensures { Replaced (map (applied counters.old) (updates_of nodes rec.now))
         result counters.old counters.new }
 {
-    *counters = new_counters(rec, nodes, counters)?;
+    let mut next = [0u32; 12];
+    new_counters(rec, nodes, counters, &mut next)?;
+    *counters = next;
     Ok(())
 }
 
@@ -109,7 +116,9 @@ fn advance(
 }
 
 // Where a move leads, in tables and a configuration that keep the layout, whose counters are lent. A refused move
-// leaves them.
+// leaves them. It is inlined where it is called, since what it is given and answers would go through memory for each
+// edge of a walk.
+#[inline(always)]
 pub fn take_edge(
     tables: Tables,
     location: u32,

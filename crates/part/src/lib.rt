@@ -1,12 +1,12 @@
 // One record out of two tables, as a part of whichever table was meant.
 #![tactic(auto)]
 
-ghost use Rattle.std.specs.Prelude.{◌≡◌, IfOk};
+ghost use Rattle.std.specs.Prelude.{◌≡◌};
 ghost use Rattle.model.specs.Answers.{refusal_of};
 ghost use Rattle.model.specs.Part.{answerable, meant, onward, part_bytes, record_part};
 ghost use Rattle.model.specs.Structs.{tables_lent};
 ghost use Rattle.answers.specs.Numbers.{told};
-ghost use Rattle.part.specs.Ended.{ended_by};
+ghost use Rattle.part.specs.Ended.{ended_by, part_in};
 
 use location_table::in_places;
 use model::{MOST_EDGES, MOST_LOCATIONS, NoRecord, RECORD, Tables};
@@ -30,18 +30,22 @@ fn answerable(tables: Tables, mark: usize, number: usize) -> bool
 }
 
 // The record with a number, as a part of the table that the mark means: 0 for locations, 1 for edges. It is no copy:
-// it lies in that table, where the record begins.
-pub fn record_part<'a>(tables: Tables<'a>, mark: usize, number: usize) -> Result<&'a [u8], NoRecord>
-    ensures part { IfOk result (λ r. r.now ≡ part_bytes (tables_lent tables.entry) mark number) }
-    ensures stands { IfOk result (λ r. r.ref_ptr
+// it lies in that table, where the record begins. Where it is refused the part is empty, at the start of that table.
+pub fn record_part<'a>(
+    tables: Tables<'a>,
+    mark: usize,
+    number: usize,
+) -> Result<&'a [u8], NoRecord<'a>>
+    ensures part { (part_in result).now ≡ part_bytes (tables_lent tables.entry) mark number }
+    ensures stands { (part_in result).ref_ptr
         ≡ onward (meant mark tables.entry.locations.ref_ptr tables.entry.edges.ref_ptr)
-        (record_part (tables_lent tables.entry) mark number).begins) }
+        (record_part (tables_lent tables.entry) mark number).begins }
     ensures ended { ended_by result ≡ (record_part (tables_lent tables.entry) mark number).verdict }
 {
-    if !answerable(tables, mark, number) {
-        return Err(NoRecord);
-    }
     let table = meant(mark, tables.locations, tables.edges);
+    if !answerable(tables, mark, number) {
+        return Err(NoRecord { part: &table[..0] });
+    }
     let begin = RECORD * number;
     Ok(&table[begin..begin + RECORD])
 }
@@ -61,7 +65,7 @@ pub fn tell_part(tables: Tables, mark: usize, number: usize, answer: &mut [usize
             0
         }
         Err(refusal) => {
-            answers::tell(answer, 0, 0, 0);
+            answers::tell(answer, 0, 0, refusal.part.len());
             refusal.number()
         }
     }

@@ -28,10 +28,10 @@ pub record Moved (b : Box) (r : Ranges) : Type 0 where
   pub highs_are : in_counters b.highs ≡ true → r.highs ≡ filled most_nodes b.highs
 
 -- whether values pass the guards, and how these are moved
-abbrev pub PassedTo : List ℕ → MathOption Box → Option Ranges → Type 0
-PassedTo us none r = r ≡ None
-PassedTo us (some c) r = MatchOption r ⊥ (Moved (image_of us c))
+abbrev pub PassedTo : List ℕ → MathOption Box → Option Unit → Ranges → Type 0
+PassedTo us none r after = r ≡ None
+PassedTo us (some c) r after = MatchOption r ⊥ (λ _. Moved (image_of us c) after)
 
-abbrev pub OneFollowed : List ℕ → List ℕ → Ranges → Option Ranges → Type 0
-OneFollowed r ls before after =
-    PassedTo (updates_of (byte (record_at ls (word r 4)) 3) r) (cut_by (guards_of r) (box_in before)) after
+abbrev pub OneFollowed : List ℕ → List ℕ → Ranges → Option Unit → Ranges → Type 0
+OneFollowed r ls before passed after =
+    PassedTo (updates_of (byte (record_at ls (word r 4)) 3) r) (cut_by (guards_of r) (box_in before)) passed after

@@ -32,34 +32,35 @@ fn high_passed(test: u8, high: u32) -> u32
     if test == 1 { high.min(1) } else { high }
 }
 
-// The ranges with that of a guard's node cut to the values that pass, where there are any.
-fn cut(guard: Guard, ranges: Ranges) -> Option<Ranges>
+// Cuts the range of a guard's node to the values that pass, where there are any.
+fn cut(guard: Guard, ranges: &mut Ranges) -> Option<()>
     requires { guard.node.0 < most_nodes }
-    ensures { let b = cut (code_in guard) (box_in ranges) in
-        MatchOption result (left_at (code_in guard) b ≡ false)
-        (λ r. (left_at (code_in guard) b ≡ true) × (box_in r ≡ b)) }
+    ensures left { box_in ranges.new ≡ cut (code_in guard) (box_in ranges.old) }
+    ensures some { let b = cut (code_in guard) (box_in ranges.old) in
+        MatchOption result (left_at (code_in guard) b ≡ false) (λ _. left_at (code_in guard) b ≡ true) }
 {
     let n = guard.node.0 as usize;
     let low = low_passed(guard.test, ranges.lows[n]);
     let high = high_passed(guard.test, ranges.highs[n]);
-    let mut left = ranges;
-    left.lows[n] = low;
-    left.highs[n] = high;
-    if low <= high { Some(left) } else { None }
+    ranges.lows[n] = low;
+    ranges.highs[n] = high;
+    if low <= high { Some(()) } else { None }
 }
 
-// One edge: its guards cut the ranges, and its updates move what is left, if some values pass.
-pub fn follow_one(rec: &[u8], locations: &[u8], ranges: Ranges) -> Option<Ranges>
+// One edge: its guards cut the ranges, and its updates move what is left, if some values pass; else the ranges are of
+// no more use. They are lent, since twelve lowest and highest values that are handed on for each guard take longer
+// than what is done to them.
+pub fn follow_one(rec: &[u8], locations: &[u8], ranges: &mut Ranges) -> Option<()>
     requires { EdgeReady rec.now locations.now }
-    ensures { OneFollowed rec.now locations.now ranges result }
+    ensures { OneFollowed rec.now locations.now ranges.old result ranges.new }
 {
     let guards = guards_of(rec);
-    let first = cut(guards.first, ranges)?;
-    let mut left = cut(guards.second, first)?;
+    cut(guards.first, ranges)?;
+    cut(guards.second, ranges)?;
     let to = word::two(rec, 4) as usize;
     let nodes = nodes_at(locations, to) as usize;
     // no value passes 32 bits, since a path is short and counters are added once
-    let _ = replace_counters(rec, nodes, &mut left.lows);
-    let _ = replace_counters(rec, nodes, &mut left.highs);
-    Some(left)
+    let _ = replace_counters(rec, nodes, &mut ranges.lows);
+    let _ = replace_counters(rec, nodes, &mut ranges.highs);
+    Some(())
 }

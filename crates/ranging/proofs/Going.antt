@@ -133,25 +133,26 @@ module _ (t : Tables) (k : keeps_layout t ≡ true) (l₀ : ℕ) (b₀ : Box) (n
   cut_is = ap₂ (λ x y. cut_by (guards_of rec) (box_of x y)) G.lows_are G.highs_are
       ∙ cut_by_twelve (guards_of rec) G.box G.ranges.full.alike fits
 
-  module _ (o : Option Kept) (P : PassedTo us (cut_by (guards_of rec) (box_in m)) o) where
-    told : PassedTo us (twelve_of (cut_by (guards_of rec) G.box)) o
-    told = subst (λ c. PassedTo us c o) cut_is P
+  module _ (o : Option (Unit {0})) (m' : Kept) (P : PassedTo us (cut_by (guards_of rec) (box_in m)) o m') where
+    told : PassedTo us (twelve_of (cut_by (guards_of rec) G.box)) o m'
+    told = subst (λ c. PassedTo us c o m') cut_is P
 
     pub stops : o ≡ None → along t 0 l₀ b₀ ns ≡ ends_at i
     stops e =
         by (cut_by (guards_of rec) G.box) refl
-        (subst (PassedTo us (twelve_of (cut_by (guards_of rec) G.box))) e told)
+        (subst (λ x. PassedTo us (twelve_of (cut_by (guards_of rec) G.box)) x m') e told)
       where
-        by : (b : math.Option Box) → cut_by (guards_of rec) G.box ≡ b → PassedTo us (twelve_of b) None
+        by : (b : math.Option Box) → cut_by (guards_of rec) G.box ≡ b → PassedTo us (twelve_of b) None m'
             → along t 0 l₀ b₀ ns ≡ ends_at i
         by none q p = next ∙ along_none t i G.here G.box n (drop (i + 1) ns) q
         by (some c) q p = absurd p
 
-    pub goes_on : length ns ≤ 4096 → (m' : Kept) → o ≡ Some m' → Going t l₀ b₀ ns (i + 1) m'
-    goes_on few m' e =
-        by (cut_by (guards_of rec) G.box) refl (subst (PassedTo us (twelve_of (cut_by (guards_of rec) G.box))) e told)
+    pub goes_on : length ns ≤ 4096 → (v : Unit {0}) → o ≡ Some v → Going t l₀ b₀ ns (i + 1) m'
+    goes_on few v e =
+        by (cut_by (guards_of rec) G.box) refl
+        (subst (λ x. PassedTo us (twelve_of (cut_by (guards_of rec) G.box)) x m') e told)
       where
-        by : (b : math.Option Box) → cut_by (guards_of rec) G.box ≡ b → PassedTo us (twelve_of b) (Some m')
+        by : (b : math.Option Box) → cut_by (guards_of rec) G.box ≡ b → PassedTo us (twelve_of b) (Some v) m'
             → Going t l₀ b₀ ns (i + 1) m'
         by none q p = absurd (some_none p)
         by (some c) q p =

@@ -6,14 +6,17 @@ use mathlib.Core.Option.{Option, none, some}
 use mathlib.Core.List.{List, [], ◌∷◌}
 use native.Mathlib.Omega.{arith}
 use lib.ListN.{length}
-use Rattle.std.specs.Prelude.{Ok, Err}
-use Rattle.model.specs.Ranges.{Box, Ranging, along, askable, cut_by, ends_at, first_wrong, follows, led_to, linked_part, moved_box, ranged_of, ranging, reached, refused_at, start_box}
+use Rattle.std.specs.Prelude.{Result, Ok, Err}
+use Rattle.model.specs.Ranges.{Box, Ranging, along, askable, cut_by, ends_at, first_wrong, follows, led_to, linked_part, moved_box, ranged_in, ranged_of, ranged_to, ranging, reached, refused_at, start_box}
 use Rattle.model.specs.Records.{record_at}
 use Rattle.model.specs.Runs.{guards_of, nodes_at}
 use Rattle.model.specs.Translate.{Tables}
 use Rattle.model.specs.declared.Ranged.TheVariants as answer
 use Rattle.model.proofs.runs.Follows.{along_none, along_some}
 use Rattle.model.proofs.runs.Ranged.{ranging_went}
+use Rattle.model.proofs.runs.RangedNumbers.{numbers_said}
+use Rattle.model.specs.declared.Ranged.{Ranged}
+use Rattle.model.specs.declared.codes.RangeRefusal.{RangeRefusal}
 use Rattle.range_edge.specs.declared.Ranges.{Ranges}
 use Rattle.ranging.specs.Follow.{FollowReady, IsFollowed}
 
@@ -45,6 +48,13 @@ done : (o : Ranging) (r : Ranges) → IsFollowed o (Ok r) → (to : ℕ) → ((m
 done (follows m c) r F to h = cc (h m c refl, F.0, F.1)
 done (ends_at i) r F to h = absurd (let z : ◌≡◌ {A = ℕ} 0 1 = cc in omega arith)
 done (refused_at x p) r F to h = absurd F
+
+-- ---- the answer, and what it says in numbers
+
+pub in_numbers : (t : Tables) (l : ℕ) (rs ns : List ℕ) {r : Result Ranged RangeRefusal}
+    → r ≡ ranged_of (ranging t l rs ns)
+    → (r ≡ ranged_of (ranging t l rs ns)) × (ranged_in r ≡ ranged_to (ranging t l rs ns))
+in_numbers t l rs ns e = (e, ap ranged_in e ∙ numbers_said t l rs ns)
 
 -- ---- where nothing is refused
 

@@ -4,7 +4,7 @@
 
 ghost use Rattle.std.specs.Prelude.{◌≡◌, map, ◌+◌, ◌≤◌, get_or};
 ghost use Rattle.model.specs.Base.{most_nodes, numbers};
-ghost use Rattle.model.specs.Ranges.{along, askable, ranged_of, ranging, start_box};
+ghost use Rattle.model.specs.Ranges.{along, askable, ranged_in, ranged_of, ranged_to, ranging, start_box};
 ghost use Rattle.model.specs.Records.{filled};
 ghost use Rattle.model.specs.Runs.{nodes_at};
 ghost use Rattle.model.specs.Structs.{tables_lent};
@@ -42,7 +42,7 @@ fn follow(tables: Tables, start: usize, ranges: &[u32], path: &[u32]) -> Result<
     };
     for (i, edge) in path.iter().enumerate() {
         let rec = record_at(tables.edges, *edge as usize);
-        left = follow_one(rec, tables.locations, left).ok_or(i)?;
+        follow_one(rec, tables.locations, &mut left).ok_or(i)?;
     }
     Ok(left)
 }
@@ -61,7 +61,8 @@ pub fn follow_ranges(
     ranges: &[u32],
     path: &[u32],
 ) -> Result<Ranged, RangeRefusal>
-    ensures { result ≡ ranged_of (ranging (tables_lent tables.entry) start ranges.now path.now) }
+    ensures { let o = ranging (tables_lent tables.entry) start ranges.now path.now in
+        (result ≡ ranged_of o) × (ranged_in result ≡ ranged_to o) }
 {
     if !is_askable(tables, start, path) {
         return Err(RangeRefusal::Path { position: 0 });

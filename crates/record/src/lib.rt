@@ -4,12 +4,11 @@
 
 ghost use Rattle.std.specs.Prelude.{◌≡◌, ◌∷◌, ◌++◌, ◌+◌, ◌*◌, ◌≤◌, length, take, drop, replicate};
 ghost use Rattle.model.specs.Base.{most_nodes, record_size};
-ghost use Rattle.model.specs.Codes.{fault_code};
 ghost use Rattle.model.specs.Records.{branch_byte};
 ghost use Rattle.model.specs.Structs.{code_in};
 ghost use Rattle.record.specs.Written.{BranchFits, fault_bytes, location_bytes, edge_bytes, update_bytes, placed, EdgeFits};
 
-use model::{EdgeFields, Fault, Guard, Statement};
+use model::{EdgeFields, Guard, Statement};
 
 // Makes the first 32 bytes zero.
 pub fn blank(part: &mut [u8])
@@ -28,15 +27,15 @@ pub fn write_head(part: &mut [u8], tag: u8, statement: Statement, k: usize)
 }
 
 // An L record with a fault: the statement that faulted.
-pub fn write_fault(part: &mut [u8], statement: Statement, fault: Fault)
+pub fn write_fault(part: &mut [u8], statement: Statement, fault: u8)
     requires { record_size ≤ length part.old }
-    ensures { part.new ≡ fault_bytes statement.0 (fault_code fault) ++ drop record_size part.old }
+    ensures { part.new ≡ fault_bytes statement.0 fault ++ drop record_size part.old }
 {
     blank(part);
     // the first eight bytes at once, since they are read as words soon after
     word::put_eight(
         part,
-        b'L' as u64 + 0x100 * (statement.0 as u64) + 0x1_0000 * (fault.number() as u64),
+        b'L' as u64 + 0x100 * (statement.0 as u64) + 0x1_0000 * (fault as u64),
     );
 }
 

@@ -16,6 +16,7 @@ pub fn decode(rec: &[u8]) -> Decoded
 {
     Decoded {
         op: Op::at(rec[1]),
+        code: rec[1],
         u: Pointer(rec[2]),
         w: Pointer(rec[3]),
         first: Statement(rec[4]),

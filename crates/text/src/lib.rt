@@ -2,11 +2,11 @@
 #![tactic(auto)]
 
 ghost use Rattle.std.specs.Prelude.{◌≡◌, ◌++◌, ◌+◌, ◌≤◌, length, take};
-ghost use Rattle.model.specs.Answers.{outcome_of, refusal_in};
-ghost use Rattle.model.specs.Codes.{reason_node, reason_number};
+ghost use Rattle.model.specs.Answers.{outcome_of};
+ghost use Rattle.model.specs.Records.{refusal_at, tells_node};
 ghost use Rattle.text.specs.Text.{decimal_of, node_part, refusal_line, text_of, Stands};
 
-use model::{Counts, Reason, Refusal};
+use model::{Counts, Node, Refusal};
 
 // Puts bytes behind the first `at` of the text; answers where they end. (The text and its end are no struct: one that
 // lends the text would say in each contract here that it is the same text still.)
@@ -29,32 +29,36 @@ fn put_number(n: usize, text: &mut [u8], at: usize) -> usize
     put(&digits[..k], text, at)
 }
 
-// Puts a space and the node behind the first `at` of the text, where the reason tells one.
-fn put_node(reason: Reason, text: &mut [u8], at: usize) -> usize
-    requires { at + 21 ≤ length text.old }
-    ensures { (result ≤ at + 21)
-        × (take result text.new ≡ take at text.old ++ node_part (reason_number reason) (reason_node reason)) }
+// Whether a refusal tells a node.
+fn tells_node(number: u8) -> bool
+    ensures { result ≡ tells_node number }
 {
-    match reason.node() {
-        Some(node) => {
-            let end = put(b" ", text, at);
-            put_number(node.0 as usize, text, end)
-        }
-        None => at,
-    }
+    (number == 9) | (number == 18) | (number == 19)
 }
 
-// The text of a refusal.
-fn write_refusal(refusal: Refusal, text: &mut [u8]) -> usize
-    requires { 71 ≤ length text.old }
-    ensures { (result ≤ 71) × (take result text.new ≡ refusal_line (refusal_in refusal)) }
+// Puts a space and the node behind the first `at` of the text, where the refusal tells one.
+fn put_node(number: u8, node: Node, text: &mut [u8], at: usize) -> usize
+    requires { at + 21 ≤ length text.old }
+    ensures { (result ≤ at + 21)
+        × (take result text.new ≡ take at text.old ++ node_part number node.0) }
 {
-    let number = refusal.reason.number();
+    if !tells_node(number) {
+        return at;
+    }
+    let end = put(b" ", text, at);
+    put_number(node.0 as usize, text, end)
+}
+
+// The text of a refusal, whatever its number: this tells numbers, and no names.
+pub fn write_refusal(number: u8, place: usize, node: Node, text: &mut [u8]) -> usize
+    requires { 71 ≤ length text.old }
+    ensures { (result ≤ 71) × (take result text.new ≡ refusal_line (refusal_at number place node.0)) }
+{
     let mut end = put(b"refused ", text, 0);
     end = put_number(number as usize, text, end);
     end = put(b" ", text, end);
-    end = put_number(refusal.place, text, end);
-    end = put_node(refusal.reason, text, end);
+    end = put_number(place, text, end);
+    end = put_node(number, node, text, end);
     put(b"\n", text, end)
 }
 
@@ -77,6 +81,9 @@ pub fn write_outcome(
             counts.edges,
             text,
         ),
-        Err(refusal) => write_refusal(refusal, text),
+        Err(refusal) => {
+            let node = refusal.reason.node().unwrap_or(Node(0));
+            write_refusal(refusal.reason.number(), refusal.place, node, text)
+        }
     }
 }

@@ -91,6 +91,13 @@ bytes_code (x ∷ l) h =
     (ap (bytes_of (length l)) (add-mul-div_left x c {y = 256} (omega arith) ∙ omega (arith, div-eq_of_lt lt))
     ∙ bytes_code l (λ y i. h y (inr i)))
 
+-- eight bytes that are read as a number and written again
+pub eight_back : (t : List ℕ) (a : ℕ) → a + 8 ≤ length t → Bytes t → bytes_of 8 (eight_at t a) ≡ take 8 (drop a t)
+eight_back t a h B =
+    let l = take 8 (drop a t) in
+    let n = sym (part_length t a 8 h) in
+    (λ i. bytes_of (n i) (eight_code t a h i)) ∙ bytes_code l (part_below t a 8 B)
+
 number_code : (l : List ℕ) → number_of l ≡ code_of 256 l
 number_code [] = refl
 number_code (x ∷ l) = ap (λ n. x + 256 * n) (number_code l)

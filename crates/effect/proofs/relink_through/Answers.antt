@@ -13,6 +13,6 @@ returns c ps =
     let cs = a.cells.now in
     let k = c.in_ok-c.ensures in
     let r = c.store_through in
-    relink_cell ps cs a.at a.from _ _ k.1 k.2 c.requires.1
+    relink_cell ps cs a.at a.from _ ps _ k.1 k.2 c.requires.1
     (subst (λ i. HasEffect (stored (val_of a.at) (val_of (get_or cs i 0))) ps cs (fault_in r.result) ps r.new.cells) k.0
     (r.ensures ps))

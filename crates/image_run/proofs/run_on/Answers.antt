@@ -22,4 +22,4 @@ pub returns : goal.returns
 returns c =
     let e = c.run_effect in
     settled c.settle.result c.visit-n.result (run_settled (run_ready c.requires) (bytes e.new.pointers e.new.cells)
-    c.in_ok-run_effect.ensures c.visit-n.ensures c.visit-n.auto.order c.settle.result c.settle.ensures)
+    c.in_ok-run_effect.ensures c.visit-n.ensures c.visit-n.auto.order c.settle.result c.eq.ensures c.settle.ensures)

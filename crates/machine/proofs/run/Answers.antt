@@ -17,10 +17,10 @@ returns-in_err-settle c =
     let p = err_from_is_err_and r.result r.ensures.1 in
     rw (p.1, p.2)
     (run_settled c.requires (bytes e.new.pointers e.new.cells) c.in_ok-run_effect.ensures c.visit-n.ensures
-    c.visit-n.auto.order (Err c.in_err-settle.field-0.0) c.in_err-settle.ensures)
+    c.visit-n.auto.order (Err c.in_err-settle.field-0.0) c.eq.ensures c.in_err-settle.ensures)
 
 pub returns : goal.returns
 returns c =
     let e = c.run_effect in
     run_settled c.requires (bytes e.new.pointers e.new.cells) c.in_ok-run_effect.ensures c.visit-n.ensures
-    c.visit-n.auto.order (Ok tt) c.in_ok-settle.ensures
+    c.visit-n.auto.order (Ok tt) c.eq.ensures c.in_ok-settle.ensures

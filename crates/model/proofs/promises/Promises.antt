@@ -44,13 +44,14 @@ use Rattle.model.proofs.images.Stepping.{step_answers, step_checked, step_faults
 -- no two answers say the same: a finished call is never told as a refusal, nor a fault as a step
 abbrev pub AnswersDiffer : Type 0
 AnswersDiffer = ((a b : Result (Unit {0}) DeclaredRefusal) → verdict_of a ≡ verdict_of b → a ≡ b)
+    × ((a b : Result Folded DeclaredRefusal) → folding_of a ≡ folding_of b → a ≡ b)
     × ((a b : Result Stepped DeclaredRefusal) → step_answer_of a ≡ step_answer_of b → a ≡ b)
     × ((a b : Result Counts DeclaredRefusal) (ls es : List ℕ) → outcome_of a ls es ≡ outcome_of b ls es → a ≡ b)
     × ((c : Configuration) (a b : Result Configuration MoveRefusal) → moved_of c a ≡ moved_of c b → a ≡ b)
     × ((a b : DeclaredWalked) → walked_of a ≡ walked_of b → a ≡ b)
 
 pub answers_differ : AnswersDiffer
-answers_differ = (verdict_one, step_one, outcome_one, moved_one, walked_one)
+answers_differ = (verdict_one, folded_one, step_one, outcome_one, moved_one, walked_one)
 
 -- a contract leaves nothing free: what two programs answer and leave, by the same contract and for the same input, is
 -- the same, so that none but the definition's outcome meets it

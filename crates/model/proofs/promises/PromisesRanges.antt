@@ -6,12 +6,13 @@ use mathlib.Core.List.{List}
 use native.Mathlib.Omega.{arith}
 use lib.ListN.{get_or, length}
 use Rattle.model.specs.Heap.{Heap}
-use Rattle.model.specs.Ranges.{Box, Reaches, RunsAlong, RunsNowhere, Stuck, WhyRefused, Within, ends_at, follows, ranging, refused_at, start_box, state_at}
+use Rattle.model.specs.Ranges.{Box, Reaches, RunsAlong, RunsNowhere, Stuck, WhyRefused, Within, ends_at, follows, ranged_in, ranged_of, ranged_to, ranging, refused_at, start_box, state_at}
 use Rattle.model.specs.Records.{byte, is_accepted, record_at, shape_of}
 use Rattle.model.specs.Runs.{Describes, nodes_at}
 use Rattle.model.specs.Translate.{Routine, Tables, check, good, translate}
 use Rattle.model.proofs.runs.Follows.{lows_within}
 use Rattle.model.proofs.runs.RangeRuns.{range_ends, range_runs}
+use Rattle.model.proofs.runs.RangedNumbers.{numbers_said}
 use Rattle.model.proofs.runs.Ranged.{ranging_small, ranging_told, why_refused}
 
 -- "If so, give the ranges of the final counters: exactly the combinations of final values within them are reached by
@@ -54,6 +55,14 @@ RangesFit = (t : Tables) (l : ℕ) (rs ns : List ℕ) (m : ℕ) (c : Box) → ra
 
 pub ranges_fit : RangesFit
 ranges_fit t l rs ns m c e i = let h = ranging_small t l rs ns m c e i in omega arith
+
+-- the code's answer, an enum, says in numbers what the outcome says
+abbrev pub RangesNumbers : Type 0
+RangesNumbers = (t : Tables) (l : ℕ) (rs ns : List ℕ)
+    → ranged_in (ranged_of (ranging t l rs ns)) ≡ ranged_to (ranging t l rs ns)
+
+pub ranges_numbers : RangesNumbers
+ranges_numbers = numbers_said
 
 -- ==== runs of the routine
 

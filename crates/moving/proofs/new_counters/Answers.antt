@@ -2,11 +2,12 @@
 use Prim.Native.Nat.{◌^◌}
 use mathlib.Core.Path.{◌∙◌, ap, sym}
 use native.Mathlib.Omega.{arith}
-use lib.ListN.{set}
+use mathlib.Core.List.{◌++◌, map}
+use lib.ListN.{drop, set}
 use borrow.Author.Rules.{rules}
 use borrow.Author.Tests.{le-ltb, lt-ltb}
 use Rattle.std.proofs.lemmas.Result.{err_from_is_err_and}
-use Rattle.model.specs.Runs.{applied}
+use Rattle.model.specs.Runs.{applied, updates_of}
 use Rattle.moving.proofs.Advancing.{fits, put_all, put_filled, put_one, put_over}
 use Rattle.moving.proofs.new_counters.Goals as goal
 
@@ -35,4 +36,8 @@ returns c =
     let a = c.args in
     let l = c.loop-j in
     let f = put_all a.rec.now a.counters.now a.nodes _ l.next l.j l.invariant (search rules) in
-    (sym f.0, f.1 ∙ put_filled a.rec.now a.counters.now a.nodes (omega arith))
+    let vs = map (applied a.counters.now) (updates_of a.nodes a.rec.now) in (
+      sym f.0,
+      f.1 ∙ ap (λ l. vs ++ drop a.nodes l) c.requires.2
+          ∙ put_filled a.rec.now a.counters.now a.nodes (omega arith),
+    )

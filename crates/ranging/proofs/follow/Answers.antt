@@ -88,25 +88,27 @@ follow_one-requires c =
 
 -- what is told of edge i
 told : (c : After-follow_one) → OneFollowed (record_at c.args.tables.edges.now (get_or c.args.path.now c.loop-i.i 0))
-    c.args.tables.locations.now c.loop-i.left c.follow_one.result
-told c = subst (λ r. OneFollowed r c.args.tables.locations.now c.loop-i.left c.follow_one.result)
+    c.args.tables.locations.now c.loop-i.left c.follow_one.result c.follow_one.new.ranges
+told c =
+    let l = c.loop-i in
+    subst (λ r. OneFollowed r c.args.tables.locations.now l.left c.follow_one.result c.follow_one.new.ranges)
     c.record_at-rec.ensures c.follow_one.ensures
 
 none_from : {A : Type 0} (o : Option A) (i e : ℕ) → Err e ≡ ok_or o i → (o ≡ None) × (e ≡ i)
 none_from None i e h = (refl, cc)
 none_from (Some x) i e h = (cc, cc)
 
-pub returns-in_err-left : goal.returns-in_err-left
-returns-in_err-left c =
+pub returns-in_err-ok_or : goal.returns-in_err-ok_or
+returns-in_err-ok_or c =
     let a = c.args in
     let t = tables_lent a.tables in
     let l = c.loop-i in
-    let h = none_from c.follow_one.result l.i c.in_err-left.field-0.0 c.in_err-left.ensures.value in
+    let h = none_from c.follow_one.result l.i c.in_err-ok_or.field-0.0 c.in_err-ok_or.ensures.value in
     let p = err_from_is_err_and c.from_residual.result c.from_residual.ensures.1 in
     rw (p.1, p.2, h.1) (is_stopped t a.start (start_box (nodes_at t a.start) a.ranges.now) a.path.now l.i
     (stops t (layout t a.start a.ranges.now a.path.now c.requires) a.start (start_box (nodes_at t a.start) a.ranges.now)
     a.path.now l.i l.left l.invariant (search rules) c.follow_one.result
-    (told (goal.at.returns-in_err-left c).After-follow_one) h.0))
+    c.follow_one.new.ranges (told (goal.at.returns-in_err-ok_or c).After-follow_one) h.0))
 
 pub loop-i-preserved : goal.loop-i-preserved
 loop-i-preserved c =
@@ -116,8 +118,8 @@ loop-i-preserved c =
     goes_on t (layout t a.start a.ranges.now a.path.now c.requires) a.start
     (start_box (nodes_at t a.start) a.ranges.now)
     a.path.now l.i l.left l.invariant (search rules) c.follow_one.result
-    (told (goal.at.loop-i-preserved c).After-follow_one) (short t a.start a.ranges.now a.path.now c.requires)
-    c.in_ok-left.left c.in_ok-left.ensures.ok_part
+    c.follow_one.new.ranges (told (goal.at.loop-i-preserved c).After-follow_one)
+    (short t a.start a.ranges.now a.path.now c.requires) c.in_ok-ok_or.field-0 c.in_ok-ok_or.ensures.ok_part
 
 pub returns : goal.returns
 returns c =

@@ -10,7 +10,7 @@ use Rattle.model.specs.Runs.{nodes_at}
 use Rattle.model.specs.Structs.{tables_lent}
 use Rattle.model.proofs.records.LayoutFacts.{layout_nodes, layout_room}
 use Rattle.model.proofs.runs.Ranged.{asked_layout, asked_start, ranging_unasked, ranging_unlinked, ranging_wrong}
-use Rattle.ranging.proofs.Outcomes.{follow_ready, is_reached, is_stuck}
+use Rattle.ranging.proofs.Outcomes.{follow_ready, in_numbers, is_reached, is_stuck}
 use Rattle.ranging.proofs.follow_ranges.Goals as goal
 use Rattle.ranging.proofs.follow_ranges.Goals.{Else-not-is_askable, In_default}
 
@@ -19,8 +19,9 @@ use Rattle.ranging.proofs.follow_ranges.Goals.{Else-not-is_askable, In_default}
 pub returns-then-not-is_askable : goal.returns-then-not-is_askable
 returns-then-not-is_askable c =
     let a = c.args in
-    sym (ap ranged_of (ranging_unasked (tables_lent a.tables) a.start a.ranges.now a.path.now
-    (sym c.is_askable.ensures ∙ c.if-not-is_askable.true)))
+    in_numbers (tables_lent a.tables) a.start a.ranges.now a.path.now
+    (sym (ap ranged_of (ranging_unasked (tables_lent a.tables) a.start a.ranges.now a.path.now
+    (sym c.is_askable.ensures ∙ c.if-not-is_askable.true))))
 
 yes : (c : Else-not-is_askable) → askable (tables_lent c.args.tables) c.args.start c.args.path.now ≡ true
 yes c = sym c.is_askable.ensures ∙ c.if-not-is_askable.false
@@ -42,8 +43,9 @@ returns-in_err-location c =
     let a = c.args in
     let p = err_from_is_err_and c.from_residual.result c.from_residual.ensures.1 in
     let h = c.in_err-location.ensures in
-    rw (p.1, p.2, h.1) (sym (ap ranged_of (ranging_unlinked (tables_lent a.tables) a.start a.ranges.now a.path.now
-    (yes (goal.at.returns-in_err-location c).Else-not-is_askable) h.0)))
+    rw (p.1, p.2, h.1) (in_numbers (tables_lent a.tables) a.start a.ranges.now a.path.now
+    (sym (ap ranged_of (ranging_unlinked (tables_lent a.tables) a.start a.ranges.now a.path.now
+    (yes (goal.at.returns-in_err-location c).Else-not-is_askable) h.0))))
 
 pub nodes_at-k-requires : goal.nodes_at-k-requires
 nodes_at-k-requires c =
@@ -63,9 +65,10 @@ returns-in-Some c =
     let h = c.in-Some.ensures in
     let w : first_wrong (nodes_at (tables_lent a.tables) a.start) a.ranges.now ≡ c.in-Some.counter =
     ap (λ k. first_wrong k a.ranges.now) (sym c.nodes_at-k.ensures) ∙ h.1 in
-    sym (ap ranged_of (ranging_wrong (tables_lent a.tables) a.start a.ranges.now a.path.now
+    in_numbers (tables_lent a.tables) a.start a.ranges.now a.path.now
+    (sym (ap ranged_of (ranging_wrong (tables_lent a.tables) a.start a.ranges.now a.path.now
     (yes (goal.at.returns-in-Some c).Else-not-is_askable) (omega (arith, c.in_ok-location.ensures.0))
-    (omega (arith, w, h.0, c.nodes_at-k.ensures))) ∙ ap (λ i. ranged_of (refused_at 22 i)) w)
+    (omega (arith, w, h.0, c.nodes_at-k.ensures))) ∙ ap (λ i. ranged_of (refused_at 22 i)) w))
 
 -- ---- the path
 
@@ -84,13 +87,16 @@ follow-requires c =
 pub returns-in-Ok : goal.returns-in-Ok
 returns-in-Ok c =
     let a = c.args in
-    is_reached (tables_lent a.tables) a.start a.ranges.now a.path.now
+    in_numbers (tables_lent a.tables) a.start a.ranges.now a.path.now
+    (is_reached (tables_lent a.tables) a.start a.ranges.now a.path.now
     (yes (goal.at.returns-in-Ok c).Else-not-is_askable)
     c.in_ok-location.ensures.0 (sound (goal.at.returns-in-Ok c).In_default) c.in-Ok.left c.in-Ok.ensures
-    c.in_ok-location.location c.in_ok-location.ensures.1
+    c.in_ok-location.location c.in_ok-location.ensures.1)
 
 pub returns-in-Err : goal.returns-in-Err
 returns-in-Err c =
     let a = c.args in
-    is_stuck (tables_lent a.tables) a.start a.ranges.now a.path.now (yes (goal.at.returns-in-Err c).Else-not-is_askable)
-    c.in_ok-location.ensures.0 (sound (goal.at.returns-in-Err c).In_default) c.in-Err.position c.in-Err.ensures
+    in_numbers (tables_lent a.tables) a.start a.ranges.now a.path.now
+    (is_stuck (tables_lent a.tables) a.start a.ranges.now a.path.now
+    (yes (goal.at.returns-in-Err c).Else-not-is_askable)
+    c.in_ok-location.ensures.0 (sound (goal.at.returns-in-Err c).In_default) c.in-Err.position c.in-Err.ensures)

@@ -1,6 +1,7 @@
 -- `write_outcome` meets its contract: the text of each case.
-use mathlib.Core.Path.{◌∙◌}
+use mathlib.Core.Path.{ap, ◌∙◌}
 use borrow.Author.Rules.{rules}
+use Rattle.std.specs.Option.{unwrap_or}
 use Rattle.text.proofs.Outcome.{listed_text, refused_text}
 use Rattle.text.proofs.write_outcome.Goals as goal
 
@@ -17,4 +18,5 @@ pub returns-in-Err : goal.returns-in-Err
 returns-in-Err c =
     let w = c.write_refusal in
     let a = c.args in
-    (search rules, w.ensures.1 ∙ refused_text a.locations.now a.edges.now c.in-Err.is)
+    let node = c.unwrap_or-node.ensures ∙ ap (λ o. unwrap_or o (record { 0 = 0 })) c.node.ensures in
+    (search rules, w.ensures.1 ∙ refused_text a.locations.now a.edges.now c.in-Err.is c.number.ensures node)

@@ -1,9 +1,8 @@
 -- `write_refusal` meets its contract: each piece stands behind those before it.
-use mathlib.Core.Path.{◌≡◌, ap, ◌∙◌}
+use mathlib.Core.Path.{◌≡◌}
 use mathlib.Core.List.{[], ◌∷◌, ◌++◌}
 use lib.ListN.{take}
 use borrow.Author.Rules.{rules}
-use Rattle.model.specs.Codes.{reason_node, reason_number}
 use Rattle.text.specs.Text.{decimal_of, node_part, refused_word}
 use Rattle.text.proofs.write_refusal.Goals as goal
 
@@ -22,11 +21,9 @@ returns c =
     let place = take p.result p.new.text in
     let node = take v.result v.new.text in
     let w_is : word ≡ refused_word = w.ensures.1 in
-    let n_is : number ≡ word ++ decimal_of (reason_number a.refusal.reason) =
-    n.ensures.1 ∙ ap (λ x. word ++ decimal_of x) c.number-number.ensures in
+    let n_is : number ≡ word ++ decimal_of a.number = n.ensures.1 in
     let s_is : space ≡ number ++ 0x20 ∷ [] = s.ensures.1 in
-    let p_is : place ≡ space ++ decimal_of a.refusal.place = p.ensures.1 in
-    let x = a.refusal.reason in
-    let v_is : node ≡ place ++ node_part (reason_number x) (reason_node x) = v.ensures.1 in
+    let p_is : place ≡ space ++ decimal_of a.place = p.ensures.1 in
+    let v_is : node ≡ place ++ node_part a.number a.node.0 = v.ensures.1 in
     let l_is : take l.result l.new.text ≡ node ++ 10 ∷ [] = l.ensures.1 in
     (search rules, rw (l_is, v_is, p_is, s_is, n_is, w_is))
