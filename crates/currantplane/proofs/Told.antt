@@ -1,13 +1,18 @@
 -- The contract of each call from the answer of the function that it calls.
 use Prim.Native.Nat.{ℕ}
-use mathlib.Core.Path.{◌≡◌, ap, sym, ◌∙◌}
+use mathlib.Core.Path.{◌≡◌, ap, ap₂, sym, ◌∙◌}
 use mathlib.Core.List.{List}
 use lib.ListN.{set}
+use Rattle.std.specs.Prelude.{Err}
 use Rattle.model.specs.Answers.{refusal_of}
+use Rattle.model.specs.Codes.{range_refusal_number, range_refusal_place}
+use Rattle.model.specs.Ranges.{Ranging, ends_at, follows, ranged_in, ranged_of, ranged_to, ranging, refused_at}
 use Rattle.model.specs.Runs.{Demand3}
-use Rattle.model.specs.Translate.{Outcome, translate}
+use Rattle.model.specs.Translate.{Outcome, Tables, translate}
+use Rattle.model.specs.declared.codes.RangeRefusal.{RangeRefusal}
 use Rattle.model.proofs.runs.Demand.{demand_three}
 use Rattle.model.proofs.listings.Outcomes.{zero_accepted}
+use Rattle.model.proofs.runs.RangedNumbers.{numbers_said}
 use Rattle.answers.specs.Numbers.{told}
 use Rattle.currantplane.specs.Calls.{IsTranslated}
 
@@ -25,3 +30,15 @@ outcome_told {s} {a} {b} {xs} {zs} {ys} {u} e p q = record {
   edges = ap (λ x. x.tables.edge_bytes) e;
   automaton = λ z. demand_three s a b (zero_accepted s a b (sym (ap (λ x. (refusal_of x.verdict).number) e) ∙ z));
 }
+
+-- a refusal for ranges is one of the definition's
+module _ (t : Tables) (l : ℕ) (rs ns : List ℕ) (r : RangeRefusal) where
+  pub range_refused : Err r ≡ ranged_of (ranging t l rs ns)
+      → ranging t l rs ns ≡ refused_at (range_refusal_number r) (range_refusal_place r)
+  range_refused h = by (ranging t l rs ns) h (ap ranged_in h ∙ numbers_said t l rs ns)
+    where
+      by : (o : Ranging) → Err r ≡ ranged_of o → ranged_in (Err r) ≡ ranged_to o
+          → o ≡ refused_at (range_refusal_number r) (range_refusal_place r)
+      by (follows m c) h e = cc
+      by (ends_at i) h e = cc
+      by (refused_at x p) h e = sym (ap₂ refused_at (ap (λ n. n.refusal) e) (ap (λ n. n.place) e))

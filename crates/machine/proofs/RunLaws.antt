@@ -51,7 +51,7 @@ end_done (Ok _) n P h = h refl
 end_done (Err f) n P h = tt
 
 -- drop has the number 13, and no other op
-let_go : (o : Op) → eqb (op_number o) 13 ≡ sameb the_type o op.LetGo
+pub let_go : (o : Op) → eqb (op_number o) 13 ≡ sameb the_type o op.LetGo
 let_go op.LetGo = refl
 let_go _ = refl
 

@@ -2,7 +2,7 @@
 use mathlib.Core.Path.{ap, ◌∙◌}
 use borrow.Author.Rules.{rules}
 use Rattle.std.specs.Option.{unwrap_or}
-use Rattle.text.proofs.Outcome.{listed_text, refused_text}
+use Rattle.text.proofs.Outcome.{listed_text, numbers_text}
 use Rattle.text.proofs.write_outcome.Goals as goal
 
 pub write_tables-requires : goal.write_tables-requires
@@ -19,4 +19,4 @@ returns-in-Err c =
     let w = c.write_refusal in
     let a = c.args in
     let node = c.unwrap_or-node.ensures ∙ ap (λ o. unwrap_or o (record { 0 = 0 })) c.node.ensures in
-    (search rules, w.ensures.1 ∙ refused_text a.locations.now a.edges.now c.in-Err.is c.number.ensures node)
+    (search rules, w.ensures.1 ∙ numbers_text a.locations.now a.edges.now c.in-Err.is c.number.ensures node)
